@@ -38,8 +38,8 @@ module _ (t : Transcript) (noted : Noted) where
 
   verdict_kept : (asked : Call) (stage : Stage) (made : Step) (a : Answer) → HasVerdict t asked stage made a
       → HasVerdict (with_noted t noted) asked stage made a
-  verdict_kept asked Called step.Replied a has = has
-  verdict_kept asked Called (step.Begun (Err why)) a has = has
+  verdict_kept asked (Called known) step.Replied a has = has
+  verdict_kept asked (Called known) (step.Begun (Err why)) a has = has
   verdict_kept asked (Planning begun) (step.Commit blocks (committing.Committed place)) a has =
       reply_kept place a has
   verdict_kept asked (Planning begun) (step.Ended ending.NoMemory) a has = has

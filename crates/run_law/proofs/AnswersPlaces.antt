@@ -17,7 +17,7 @@ use Rattle.store_promise.specs.Schedule.{IsStepOf, IsStepOfRead, IsStepOfWork, I
 use Rattle.store_promise.specs.Schedule.{told_after}
 use Rattle.store_promise.specs.Transcript.{Transcript}
 use Rattle.store_promise.specs.Verdicts.{HasVerdict, IsOfNone}
-use Rattle.store_promise.proofs.Told.{may_be}
+use Rattle.store_promise.proofs.Told.{commit_is, may_be}
 use Rattle.run_law.specs.Ledger.{ArePlaced, place_waited}
 use Rattle.run_law.specs.Noting.{IsAnswerOf, IsAnswerWith, Noted, listed, told_now, with_noted}
 use Rattle.run_law.proofs.EntriesCommits.{commit_of, seq}
@@ -47,8 +47,8 @@ same_seq one other given is so =
 
 pub answers_at : (t : Transcript) (asked : Call) (stage : Stage) (made : Step) (a : Answer) (place : ℕ)
     → HasVerdict t asked stage made a → a.place ≡ Some (seq place) → AnswersAt stage made place
-answers_at t asked Called step.Replied a place has is = absurd (no_place _ a place has is)
-answers_at t asked Called (step.Begun (Err why)) a place has is = absurd (no_place _ a place has is)
+answers_at t asked (Called known) step.Replied a place has is = absurd (no_place _ a place has is)
+answers_at t asked (Called known) (step.Begun (Err why)) a place has is = absurd (no_place _ a place has is)
 answers_at t asked (Planning begun) (step.Commit blocks (committing.Committed at)) a place has is =
     commits_now begun blocks refl (ap (commit_of blocks) (same_seq at (seq place) a.place has.placed is))
 answers_at t asked (Planning begun) (step.Ended ending.NoMemory) a place has is =
@@ -106,7 +106,8 @@ module _ (o : Setting) (workers : ℕ) (told : Told) (now : Event) (made : Optio
           subst (λ (e : Event). IsStepOf o told e (Some (commit_of blocks place))) work may in
           let planned : IsStepOfWork o told worker (At job (Planning begun)) (Some (commit_of blocks place)) =
           subst (λ (p : Progress). IsStepOfWork o told worker p (Some (commit_of blocks place))) at of_work in
-          record { own = work; blocks = blocks; is = is; place_is = planned.1.1 }
+          let committing = commit_is o told worker begun begun.left blocks (committing.Committed (seq place)) planned in
+          record { own = work; blocks = blocks; is = is; place_is = committing.1.1 }
       by_event (inr read) =
           let of_read : IsStepOfRead (told.workers worker) (Some (commit_of blocks place)) =
           subst (λ (e : Event). IsStepOf o told e (Some (commit_of blocks place))) read may in

@@ -1,16 +1,16 @@
 -- Each step so far did the call that it names, and so does the next.
-use Rattle.std.proofs.Common.{◌≡◌, ◌⊎◌, inl, inr, ◌∙◌, refl, sym, subst, ap, ℕ, zero, suc, ◌+◌, ◌≤◌, arith, Bool}
+use Rattle.std.proofs.Common.{◌≡◌, ◌⊎◌, inl, inr, sym, subst, ap, ℕ, zero, suc, ◌+◌, ◌≤◌, arith, Bool}
 use Rattle.std.proofs.Common.{List, [], ◌∷◌, Option, Some, count_by, length, slice_get, take}
 use Rattle.std.proofs.lemmas.List.Sums.{sum_by-cons}
 use Rattle.std.proofs.lemmas.Option.{slice_get_within}
-use Rattle.disk.specs.Device.{Content, Device, current}
+use Rattle.disk.specs.Device.{Device, current}
 use Rattle.store_promise.specs.declared.events.Step.{Step}
 use Rattle.store_promise.specs.DeviceCalls.{Contents, DoEachStep, DoesStepBy}
 use Rattle.store_promise.specs.FailedCalls.{one_if}
 use Rattle.store_promise.specs.Openings.{IsLater}
 use Rattle.store_promise.specs.Schedule.{Schedule, Told, told_before}
 use Rattle.store_promise.specs.Transcript.{Transcript, calls_device, device_calls}
-use Rattle.run_law.specs.Noting.{Noted, clock_now, told_now, with_noted}
+use Rattle.run_law.specs.Noting.{Noted, told_now, with_noted}
 use Rattle.run_law.proofs.Stops.{clock_is}
 use Rattle.run_law.proofs.ToldGrows.{calls_earlier, either, told_earlier}
 

@@ -49,10 +49,10 @@ data Told (t : Transcript) (asked : Call) (a : Answer) (stage : Stage) (made : S
 told_of : (t : Transcript) (asked : Call) (a : Answer) (stage : Stage) (made : Step)
     → HasVerdict t asked stage made a
     → Told t asked a stage made
-told_of t asked a Called step.Replied has = of_none has.0
-told_of t asked a Called (step.Begun (Err why)) has = of_none has.0
-told_of t asked a Called (step.Begun (Ok number)) has = absurd has
-told_of t asked a Called _ has = absurd has
+told_of t asked a (Called known) step.Replied has = of_none has.0
+told_of t asked a (Called known) (step.Begun (Err why)) has = of_none has.0
+told_of t asked a (Called known) (step.Begun (Ok number)) has = absurd has
+told_of t asked a (Called known) _ has = absurd has
 told_of t asked a (Planning begun) (step.Commit blocks (committing.Committed place)) has =
     at_commit blocks place refl has
 told_of t asked a (Planning begun) (step.Commit blocks committing.Full) has = absurd has
@@ -70,7 +70,7 @@ told_of t asked a (Refused begun why) (step.Ended ending.Refused) has = of_none 
 told_of t asked a (Refused begun why) (step.Ended ending.NoMemory) has = absurd has
 told_of t asked a (Refused begun why) (step.Ended ending.Again) has = absurd has
 told_of t asked a (Refused begun why) _ has = absurd has
-told_of t asked a (Again begun) _ has = absurd has
+told_of t asked a (Again begun wished) _ has = absurd has
 told_of t asked a (Waiting place) (step.Stable seq true) has = settled place seq refl refl has
 told_of t asked a (Waiting place) (step.Stable seq false) has = unsettled place refl has
 told_of t asked a (Waiting place) _ has = absurd has

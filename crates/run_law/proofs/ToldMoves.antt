@@ -1,6 +1,6 @@
 -- How a worker moves with an event.
 use Rattle.std.proofs.Common.{◌≡◌, ◌⊎◌, inl, inr, ℕ, ap, refl, arith, Bool, true, false}
-use Rattle.std.proofs.Common.{if◌then◌else◌, nat_eq, Option, Some, None}
+use Rattle.std.proofs.Common.{if◌then◌else◌, nat_eq, [], Option, Some, None}
 use Rattle.std.proofs.lemmas.Bool.Decides.{nat_tests}
 use Rattle.store_promise.specs.declared.events.Event.{Event}
 use Rattle.store_promise.specs.declared.events.Event.TheVariants as event
@@ -15,7 +15,7 @@ IsOwn worker e = (e ≡ event.Work worker) ⊎ (e ≡ event.Read worker)
 -- it stays as it was, or is handed a call, or goes on by a step of its own
 pub data Moves (told : Told) (e : Event) (m : Option Step) (worker : ℕ) (next : Progress) : Type 0 where
   stays : next ≡ told.workers worker → Moves told e m worker next
-  called : (job : Job) → next ≡ At job Called → Moves told e m worker next
+  called : (job : Job) → next ≡ At job (Called []) → Moves told e m worker next
   goes : (one : Step) → m ≡ Some one → IsOwn worker e
       → next ≡ progressed told.log.broken one (told.workers worker) → Moves told e m worker next
 
@@ -24,7 +24,7 @@ module _ (told : Told) (worker number : ℕ) (one : Step) where
   same_number is = grind (arith, nat_tests)
 
   by_call : (job : Job) (e : Event) (same : Bool)
-      → Moves told e (Some one) worker (if same then At job Called else told.workers worker)
+      → Moves told e (Some one) worker (if same then At job (Called []) else told.workers worker)
   by_call job e true = called job refl
   by_call job e false = stays refl
 

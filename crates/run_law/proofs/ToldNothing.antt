@@ -82,11 +82,11 @@ module _ (told : Told) (worker : ℕ) (made : Option Step) where
       → IsQuiet told (event.Read worker) made
   of_read (At job (Reading begun taken)) is may = was_read job begun taken is may
   of_read Idle is may = without_step told (event.Read worker) made may
-  of_read (At job Called) is may = without_step told (event.Read worker) made may
+  of_read (At job (Called known)) is may = without_step told (event.Read worker) made may
   of_read (At job (Planning begun)) is may = without_step told (event.Read worker) made may
   of_read (At job (Read begun taken ok)) is may = without_step told (event.Read worker) made may
   of_read (At job (Refused begun why)) is may = without_step told (event.Read worker) made may
-  of_read (At job (Again begun)) is may = without_step told (event.Read worker) made may
+  of_read (At job (Again begun wished)) is may = without_step told (event.Read worker) made may
   of_read (At job (Waiting place)) is may = without_step told (event.Read worker) made may
 
 -- ---- the log and the installer

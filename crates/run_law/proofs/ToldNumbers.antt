@@ -2,8 +2,9 @@
 -- procedure.
 use Rattle.std.proofs.Common.{◌≡◌, ◌⊎◌, inl, inr, ℕ, ◌+◌, ◌≤◌, ap, sym, ◌∙◌, refl, subst, arith, Bool, true}
 use Rattle.std.proofs.Common.{false}
-use Rattle.std.proofs.Common.{if◌then◌else◌, slice_get, Option, Some, None, Ok, Err}
+use Rattle.std.proofs.Common.{if◌then◌else◌, slice_get, List, Option, Some, None, Ok, Err}
 use Rattle.model.specs.Calls.{has_rules, is_answered_stable}
+use Rattle.store_promise.specs.declared.aims.Aim.{Aim}
 use Rattle.store_promise.specs.declared.events.Event.{Event}
 use Rattle.store_promise.specs.declared.events.Event.TheVariants as event
 use Rattle.store_promise.specs.declared.events.Step.{Step}
@@ -49,10 +50,10 @@ module _ (o : Setting) (workers : ℕ) (told : Told) (now : Event) (made : Optio
   next_number true number may = may.1
   next_number false number may = cc
 
-  begins_now : (worker number : ℕ) (one : Step) (job : Job) → made ≡ Some one → IsOwn worker now
-      → told.workers worker ≡ At job Called → one ≡ step.Begun (Ok number)
+  begins_now : (worker number : ℕ) (one : Step) (job : Job) (known : List Aim) → made ≡ Some one → IsOwn worker now
+      → told.workers worker ≡ At job (Called known) → one ≡ step.Begun (Ok number)
       → Begins told now made worker number
-  begins_now worker number one job is own at is_begun = by_event own
+  begins_now worker number one job known is own at is_begun = by_event own
     where
       is_step : made ≡ Some (step.Begun (Ok number))
       is_step = is ∙ ap (λ (s : Step). Some s) is_begun
@@ -86,7 +87,8 @@ module _ (o : Setting) (workers : ℕ) (told : Told) (now : Event) (made : Optio
       by_step : (one : Step) → made ≡ Some one → IsOwn worker now → NumberComes (told.workers worker) one number
           → (number_out (told.workers worker) ≡ Some number) ⊎ Begins told now made worker number
       by_step one is own (was_out before) = inl before
-      by_step one is own (begins job at is_begun) = inr (begins_now worker number one job is own at is_begun)
+      by_step one is own (begins job known at is_begun) =
+          inr (begins_now worker number one job known is own at is_begun)
 
       by_move : Moves told now made worker ((told_after told now made).workers worker)
           → (number_out (told.workers worker) ≡ Some number) ⊎ Begins told now made worker number

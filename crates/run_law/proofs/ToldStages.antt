@@ -1,6 +1,6 @@
 -- Only what begins a transaction brings a number out, and only a commit a place that is waited for.
 use Rattle.std.proofs.Common.{◌≡◌, ◌⊎◌, inl, inr, ℕ, ap, sym, ◌∙◌, refl, Bool, true, false, if◌then◌else◌, ◌||◌}
-use Rattle.std.proofs.Common.{Option, Some, None, Ok, Err}
+use Rattle.std.proofs.Common.{List, [], ◌∷◌, Option, Some, None, Ok, Err}
 use Rattle.disk.specs.declared.block.BlockNo.{BlockNo}
 use Rattle.store_promise.specs.declared.events.Committing.{Committing}
 use Rattle.store_promise.specs.declared.events.Committing.TheVariants as committing
@@ -10,8 +10,11 @@ use Rattle.store_promise.specs.declared.events.Wish.{Wish}
 use Rattle.store_promise.specs.declared.events.Wish.TheVariants as wish
 use Rattle.store_promise.specs.Progress.{Again, At, Begun, Called, Idle, Job, Planning, Progress, Read, Reading}
 use Rattle.store_promise.specs.Progress.{Refused, Stage, Taken, Waiting, after_claimed, after_commit}
-use Rattle.store_promise.specs.Progress.{after_planning}
+use Rattle.store_promise.specs.Aims.{is_above}
+use Rattle.store_promise.specs.Progress.{after_planning, aim_of, claimed_by, kept_off, told_by, with_taken}
 use Rattle.store_promise.specs.Progress.{after_waiting, after_wanted, going_on, progressed, stage_after}
+use Rattle.store_promise.specs.declared.aims.Aim.{Aim}
+use Rattle.store_promise.specs.declared.aims.Aim.TheVariants as aim
 use Rattle.run_law.specs.Ledger.{number_out, place_waited, stage_number, stage_place}
 use Rattle.run_law.proofs.EntriesCommits.{commit_of}
 
@@ -25,12 +28,38 @@ next_place (Some stage) = stage_place stage
 
 -- ---- what was wished or claimed
 
+-- one that is kept off waits, or begins again
+off_number : (begun : Begun) (wished : Aim) → stage_number (kept_off begun wished) ≡ Some begun.number
+off_number begun wished = by (is_above wished begun.taken)
+  where
+    by : (above : Bool) → stage_number (if above then Again begun (Some wished) else Planning begun)
+        ≡ Some begun.number
+    by true = refl
+    by false = refl
+
+off_place : (begun : Begun) (wished : Aim) → stage_place (kept_off begun wished) ≡ None
+off_place begun wished = by (is_above wished begun.taken)
+  where
+    by : (above : Bool) → stage_place (if above then Again begun (Some wished) else Planning begun) ≡ None
+    by true = refl
+    by false = refl
+
+told_number : (left : List Aim) (begun : Begun) (taken : Taken) → (told_by left begun taken).number ≡ begun.number
+told_number [] begun taken = refl
+told_number (next ∷ later) begun taken = refl
+
+by_number : (left : List Aim) (begun : Begun) (block : BlockNo)
+    → (claimed_by left begun block).number ≡ begun.number
+by_number [] begun block = refl
+by_number (next ∷ later) begun block = refl
+
 wanted_number : (begun : Begun) (taken : Taken) (answer : Wish)
     → stage_number (after_wanted begun taken answer) ≡ Some begun.number
-wanted_number begun taken wish.Held = refl
+wanted_number begun taken wish.Held =
+    ap (λ (n : ℕ). Some n) (told_number begun.left (with_taken begun (aim_of taken)) taken)
 wanted_number begun taken wish.Fetch = refl
-wanted_number begun taken wish.Busy = refl
-wanted_number begun taken wish.Loading = refl
+wanted_number begun taken wish.Busy = off_number begun (aim_of taken)
+wanted_number begun taken wish.Loading = off_number begun (aim_of taken)
 wanted_number begun taken wish.Outside = refl
 wanted_number begun taken wish.NoMemory = refl
 
@@ -38,17 +67,18 @@ wanted_place : (begun : Begun) (taken : Taken) (answer : Wish)
     → stage_place (after_wanted begun taken answer) ≡ None
 wanted_place begun taken wish.Held = refl
 wanted_place begun taken wish.Fetch = refl
-wanted_place begun taken wish.Busy = refl
-wanted_place begun taken wish.Loading = refl
+wanted_place begun taken wish.Busy = off_place begun (aim_of taken)
+wanted_place begun taken wish.Loading = off_place begun (aim_of taken)
 wanted_place begun taken wish.Outside = refl
 wanted_place begun taken wish.NoMemory = refl
 
 claimed_number : (begun : Begun) (block : BlockNo) (answer : Wish)
     → stage_number (after_claimed begun block answer) ≡ Some begun.number
-claimed_number begun block wish.Held = refl
+claimed_number begun block wish.Held =
+    ap (λ (n : ℕ). Some n) (by_number begun.left (with_taken begun (aim.Claim block)) block)
 claimed_number begun block wish.Fetch = refl
-claimed_number begun block wish.Busy = refl
-claimed_number begun block wish.Loading = refl
+claimed_number begun block wish.Busy = off_number begun (aim.Claim block)
+claimed_number begun block wish.Loading = off_number begun (aim.Claim block)
 claimed_number begun block wish.Outside = refl
 claimed_number begun block wish.NoMemory = refl
 
@@ -56,8 +86,8 @@ claimed_place : (begun : Begun) (block : BlockNo) (answer : Wish)
     → stage_place (after_claimed begun block answer) ≡ None
 claimed_place begun block wish.Held = refl
 claimed_place begun block wish.Fetch = refl
-claimed_place begun block wish.Busy = refl
-claimed_place begun block wish.Loading = refl
+claimed_place begun block wish.Busy = off_place begun (aim.Claim block)
+claimed_place begun block wish.Loading = off_place begun (aim.Claim block)
 claimed_place begun block wish.Outside = refl
 claimed_place begun block wish.NoMemory = refl
 
@@ -91,33 +121,38 @@ module _ (number : ℕ) where
   of_waiting broken place (step.Stable seq settled) = none_waiting (settled || broken) place
   of_waiting broken place _ = refl
 
-  of_called : (made : Step) → next_number (stage_after false false made Called) ≡ Some number
+  of_called : (known : List Aim) (made : Step)
+      → next_number (stage_after false false made (Called known)) ≡ Some number
       → made ≡ step.Begun (Ok number)
-  of_called (step.Begun (Ok other)) is = let same : other ≡ number = cc in
+  of_called known (step.Begun (Ok other)) is = let same : other ≡ number = cc in
       ap (λ (n : ℕ). step.Begun (Ok n)) same
-  of_called (step.Begun (Err why)) is = cc
-  of_called _ is = cc
+  of_called known (step.Begun (Err why)) is = cc
+  of_called known _ is = cc
 
   of_reading : (begun : Begun) (taken : Taken) (made : Step)
       → next_number (stage_after false false made (Reading begun taken)) ≡ Some begun.number
   of_reading begun taken (step.Read block ok) = refl
   of_reading begun taken _ = refl
 
+  abbrev Begins : Stage → Step → Type 0
+  Begins stage made = (known : List Aim) × (stage ≡ Called known) × (made ≡ step.Begun (Ok number))
+
   of_stage : (broken stable : Bool) (made : Step) (stage : Stage)
       → next_number (stage_after broken stable made stage) ≡ Some number
-      → (stage_number stage ≡ Some number) ⊎ ((stage ≡ Called) × (made ≡ step.Begun (Ok number)))
-  of_stage broken stable made Called is = inr (refl, of_called made is)
+      → (stage_number stage ≡ Some number) ⊎ Begins stage made
+  of_stage broken stable made (Called known) is = inr (known, refl, of_called known made is)
   of_stage broken stable made (Planning begun) is = inl (of_planning stable begun made is)
   of_stage broken stable made (Reading begun taken) is = inl (sym (of_reading begun taken made) ∙ is)
   of_stage broken stable made (Read begun taken true) is = inl is
   of_stage broken stable made (Read begun taken false) is = inl is
   of_stage broken stable made (Refused begun why) is = cc
-  of_stage broken stable made (Again begun) is = cc
+  of_stage broken stable made (Again begun wished) is = cc
   of_stage broken stable made (Waiting place) is = let none = of_waiting broken place made in cc
 
 pub data NumberComes (so_far : Progress) (made : Step) (number : ℕ) : Type 0 where
   was_out : number_out so_far ≡ Some number → NumberComes so_far made number
-  begins : (job : Job) → so_far ≡ At job Called → made ≡ step.Begun (Ok number) → NumberComes so_far made number
+  begins : (job : Job) (known : List Aim) → so_far ≡ At job (Called known) → made ≡ step.Begun (Ok number)
+      → NumberComes so_far made number
 
 going_number : (job : Job) (next : Option Stage) → number_out (going_on job next) ≡ next_number next
 going_number job None = refl
@@ -129,10 +164,10 @@ number_comes broken made Idle number is = was_out is
 number_comes broken made (At job stage) number is =
     by_case (of_stage number broken _ made stage (sym (going_number job _) ∙ is))
   where
-    by_case : (stage_number stage ≡ Some number) ⊎ ((stage ≡ Called) × (made ≡ step.Begun (Ok number)))
+    by_case : (stage_number stage ≡ Some number) ⊎ Begins number stage made
         → NumberComes (At job stage) made number
     by_case (inl out) = was_out out
-    by_case (inr new) = begins job (ap (At job) new.0) new.1
+    by_case (inr new) = begins job new.0 (ap (At job) new.1) new.2
 
 -- ---- places
 
@@ -163,10 +198,10 @@ module _ (place : ℕ) where
   by_planning stable begun (step.Ended why) is = cc
   by_planning stable begun _ is = cc
 
-  by_called : (made : Step) → next_place (stage_after false false made Called) ≡ None
-  by_called (step.Begun (Ok number)) = refl
-  by_called (step.Begun (Err why)) = refl
-  by_called _ = refl
+  by_called : (known : List Aim) (made : Step) → next_place (stage_after false false made (Called known)) ≡ None
+  by_called known (step.Begun (Ok number)) = refl
+  by_called known (step.Begun (Err why)) = refl
+  by_called known _ = refl
 
   by_reading : (begun : Begun) (taken : Taken) (made : Step)
       → next_place (stage_after false false made (Reading begun taken)) ≡ None
@@ -186,13 +221,13 @@ module _ (place : ℕ) where
   by_stage : (broken stable : Bool) (made : Step) (stage : Stage)
       → next_place (stage_after broken stable made stage) ≡ Some place
       → (stage_place stage ≡ Some place) ⊎ Commits stage made
-  by_stage broken stable made Called is = let none = by_called made in cc
+  by_stage broken stable made (Called known) is = let none = by_called known made in cc
   by_stage broken stable made (Planning begun) is = inr (by_planning stable begun made is)
   by_stage broken stable made (Reading begun taken) is = let none = by_reading begun taken made in cc
   by_stage broken stable made (Read begun taken true) is = cc
   by_stage broken stable made (Read begun taken false) is = cc
   by_stage broken stable made (Refused begun why) is = cc
-  by_stage broken stable made (Again begun) is = cc
+  by_stage broken stable made (Again begun wished) is = cc
   by_stage broken stable made (Waiting at) is = inl (by_waiting broken at made is)
 
 pub data PlaceComes (so_far : Progress) (made : Step) (place : ℕ) : Type 0 where

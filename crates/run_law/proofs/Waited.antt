@@ -1,7 +1,7 @@
 -- A worker that waits for a place waits for the procedure of its own call.
 use Rattle.std.proofs.Common.{◌≡◌, inl, inr, ℕ, zero, suc, ◌+◌, ◌≤◌, ap, sym, ◌∙◌, refl, subst, arith}
 use Rattle.std.proofs.Common.{Bool, true, false, if◌then◌else◌, ◌||◌, nat_eq, Option, Some, None, Ok, Err}
-use Rattle.std.proofs.Common.{length, slice_get}
+use Rattle.std.proofs.Common.{List, [], length, slice_get}
 use Rattle.std.proofs.lemmas.Bool.{cases_lt}
 use Rattle.std.proofs.lemmas.Bool.Decides.{nat_tests}
 use Rattle.disk.specs.declared.block.BlockNo.{BlockNo}
@@ -18,7 +18,10 @@ use Rattle.store_promise.specs.declared.transcript.Committed.{Committed}
 use Rattle.store_promise.specs.History.{IsHistory, WasCommitted}
 use Rattle.store_promise.specs.Progress.{Again, At, Begun, Called, Idle, Job, Planning, Progress, Read, Reading}
 use Rattle.store_promise.specs.Progress.{Refused, Stage, Taken, Waiting, after_claimed, after_commit}
-use Rattle.store_promise.specs.Progress.{after_planning}
+use Rattle.store_promise.specs.Aims.{is_above}
+use Rattle.store_promise.specs.Progress.{after_planning, aim_of, kept_off}
+use Rattle.store_promise.specs.declared.aims.Aim.{Aim}
+use Rattle.store_promise.specs.declared.aims.Aim.TheVariants as aim
 use Rattle.store_promise.specs.Progress.{after_waiting, after_wanted, going_on, progressed, stage_after}
 use Rattle.store_promise.specs.Schedule.{AreTaken, IsStepOfRead, IsTaken, Schedule, Setting, Told}
 use Rattle.store_promise.specs.Schedule.{progress_before}
@@ -38,12 +41,19 @@ module _ (place : ℕ) where
   abbrev there : Option Stage
   there = Some (Waiting place)
 
+  off : (begun : Begun) (wished : Aim) → Some (kept_off begun wished) ≡ there → ⊥
+  off begun wished is = by (is_above wished begun.taken) is
+    where
+      by : (above : Bool) → Some (if above then Again begun (Some wished) else Planning begun) ≡ there → ⊥
+      by true is = cc
+      by false is = cc
+
   by_wanted : (begun : Begun) (taken : Taken) (answer : Wish)
       → Some (after_wanted begun taken answer) ≡ there → ⊥
   by_wanted begun taken wish.Held is = cc
   by_wanted begun taken wish.Fetch is = cc
-  by_wanted begun taken wish.Busy is = cc
-  by_wanted begun taken wish.Loading is = cc
+  by_wanted begun taken wish.Busy is = off begun (aim_of taken) is
+  by_wanted begun taken wish.Loading is = off begun (aim_of taken) is
   by_wanted begun taken wish.Outside is = cc
   by_wanted begun taken wish.NoMemory is = cc
 
@@ -51,8 +61,8 @@ module _ (place : ℕ) where
       → Some (after_claimed begun block answer) ≡ there → ⊥
   by_claimed begun block wish.Held is = cc
   by_claimed begun block wish.Fetch is = cc
-  by_claimed begun block wish.Busy is = cc
-  by_claimed begun block wish.Loading is = cc
+  by_claimed begun block wish.Busy is = off begun (aim.Claim block) is
+  by_claimed begun block wish.Loading is = off begun (aim.Claim block) is
   by_claimed begun block wish.Outside is = cc
   by_claimed begun block wish.NoMemory is = cc
 
@@ -88,10 +98,11 @@ module _ (place : ℕ) where
   by_waiting broken at (step.Stable seq settled) is = waiting_still (settled || broken) at is
   by_waiting broken at _ is = cc
 
-  by_called : (broken stable : Bool) (made : Step) → stage_after broken stable made Called ≡ there → ⊥
-  by_called broken stable (step.Begun (Ok number)) is = cc
-  by_called broken stable (step.Begun (Err why)) is = cc
-  by_called broken stable _ is = cc
+  by_called : (broken stable : Bool) (known : List Aim) (made : Step)
+      → stage_after broken stable made (Called known) ≡ there → ⊥
+  by_called broken stable known (step.Begun (Ok number)) is = cc
+  by_called broken stable known (step.Begun (Err why)) is = cc
+  by_called broken stable known _ is = cc
 
   by_reading : (broken stable : Bool) (begun : Begun) (taken : Taken) (made : Step)
       → stage_after broken stable made (Reading begun taken) ≡ there → ⊥
@@ -100,13 +111,13 @@ module _ (place : ℕ) where
 
   by_stage : (broken stable : Bool) (made : Step) (stage : Stage) → stage_after broken stable made stage ≡ there
       → Waits stage made place
-  by_stage broken stable made Called is = absurd (by_called broken stable made is)
+  by_stage broken stable made (Called known) is = absurd (by_called broken stable known made is)
   by_stage broken stable made (Planning begun) is = by_planning stable begun made is
   by_stage broken stable made (Reading begun taken) is = absurd (by_reading broken stable begun taken made is)
   by_stage broken stable made (Read begun taken true) is = cc
   by_stage broken stable made (Read begun taken false) is = cc
   by_stage broken stable made (Refused begun why) is = cc
-  by_stage broken stable made (Again begun) is = cc
+  by_stage broken stable made (Again begun wished) is = cc
   by_stage broken stable made (Waiting at) is = still (by_waiting broken at made is)
 
   going : (one job : Job) (next : Option Stage) → going_on one next ≡ At job (Waiting place)
@@ -148,7 +159,7 @@ module _ (place : ℕ) where
     same_number number is = grind (arith, nat_tests)
 
     by_call : (one : Job) (now : Event) (m : Option Step) (same : Bool)
-        → (if same then At one Called else told.workers worker) ≡ At job (Waiting place)
+        → (if same then At one (Called []) else told.workers worker) ≡ At job (Waiting place)
         → Came told now m worker job
     by_call one now m true is = cc
     by_call one now m false is = before is

@@ -11,12 +11,12 @@ use Rattle.run_law.specs.Noting.{told_now}
 
 -- the number of the transaction that is out
 abbrev pub stage_number : Stage → Option ℕ
-stage_number Called = None
+stage_number (Called known) = None
 stage_number (Planning begun) = Some begun.number
 stage_number (Reading begun taken) = Some begun.number
 stage_number (Read begun taken ok) = Some begun.number
 stage_number (Refused begun why) = Some begun.number
-stage_number (Again begun) = Some begun.number
+stage_number (Again begun wished) = Some begun.number
 stage_number (Waiting place) = None
 
 abbrev pub number_out : Progress → Option ℕ
@@ -25,12 +25,12 @@ number_out (At job stage) = stage_number stage
 
 -- the place that a worker waits for
 abbrev pub stage_place : Stage → Option ℕ
-stage_place Called = None
+stage_place (Called known) = None
 stage_place (Planning begun) = None
 stage_place (Reading begun taken) = None
 stage_place (Read begun taken ok) = None
 stage_place (Refused begun why) = None
-stage_place (Again begun) = None
+stage_place (Again begun wished) = None
 stage_place (Waiting place) = Some place
 
 abbrev pub place_waited : Progress → Option ℕ

@@ -279,8 +279,8 @@ module _ (t : Transcript) (a : Answer) (told : Reply) (is : a.verdict ≡ verdic
         → IsStepOfWork o now worker (At job stage) (Some one)
         → is_idle (progressed now.log.broken one (At job stage)) ≡ true
         → (shows (At job stage) ≡ true) ⊎ (now.log.broken ≡ true)
-    by_verdict Called step.Replied has may ends = absurd (not_refused status.NotSupp job.call refl has.1)
-    by_verdict Called (step.Begun (Err why)) has may ends =
+    by_verdict (Called known) step.Replied has may ends = absurd (not_refused status.NotSupp job.call refl has.1)
+    by_verdict (Called known) (step.Begun (Err why)) has may ends =
         inr (by_begun now (has_rules job.call) job.call why may has.1)
     by_verdict (Planning begun) (step.Commit blocks (committing.Committed place)) has may ends =
         absurd (none place.0 has.entry has.is_entry (tells has.entry.reply has.told))

@@ -1,14 +1,13 @@
 -- What the step of an index did, by the clock of its call.
-use Rattle.std.proofs.Common.{◌≡◌, ◌≢◌, ◌∙◌, ap, sym, subst, ℕ, ◌+◌, ◌-◌, ◌<◌, ◌≤◌, arith, Bool, true, false, List}
-use Rattle.std.proofs.Common.{[], ◌∷◌, ◌++◌, if◌then◌else◌, Option, Some, length, length-append}
-use Rattle.std.proofs.Common.{count_by, slice_get, take}
+use Rattle.std.proofs.Common.{◌≡◌, ◌∙◌, ap, subst, ℕ, ◌+◌, ◌-◌, ◌<◌, ◌≤◌, arith, Bool, true, List}
+use Rattle.std.proofs.Common.{[], ◌∷◌, if◌then◌else◌, Option, Some, length, length-append}
+use Rattle.std.proofs.Common.{slice_get}
 use Rattle.std.proofs.lemmas.List.{length-drop}
 use Rattle.disk.specs.Device.{Content, Device, is_on, newest_alone}
-use Rattle.disk.specs.declared.block.BlockNo.{BlockNo}
 use Rattle.disk.specs.declared.block.Side.{Side}
 use Rattle.model.specs.Tree.{Tree}
 use Rattle.wal_law.specs.declared.calls.IoCall.{IoCall}
-use Rattle.wal_law.specs.declared.calls.IoCall.TheVariants.{Barrier, Write}
+use Rattle.wal_law.specs.declared.calls.IoCall.TheVariants.{Barrier}
 use Rattle.store_promise.specs.declared.events.Step.{Step}
 use Rattle.store_promise.specs.declared.events.Step.TheVariants as step
 use Rattle.store_promise.specs.DeviceCalls.{Contents, DoesCall, DoesCallOut, DoesStepBy, HasOneMore}

@@ -1,5 +1,5 @@
 -- A device call that was made is the one that its step tells.
-use Rattle.std.proofs.Common.{◌≡◌, ◌⊎◌, inl, inr, ◌∙◌, ap, sym, subst, ℕ, ◌+◌, Bool, false, arith}
+use Rattle.std.proofs.Common.{◌≡◌, ◌⊎◌, inl, inr, ◌∙◌, ap, sym, subst, ℕ, Bool, false, arith}
 use Rattle.std.proofs.Common.{List, [], ◌∷◌, ◌++◌, Option, Some, Result, Ok, Err, is_ok}
 use Rattle.disk.specs.Device.{Content, Device, current}
 use Rattle.disk.specs.declared.device.Failed.{Failed}

@@ -1,5 +1,9 @@
 pub mod Stopped
 pub mod Told
+pub mod RisingAims
+pub mod AlongEvents
+pub mod KnownAims
+pub mod NoRing
 pub mod Later
 pub mod FailedCalls
 pub mod DeviceCalls

@@ -1,5 +1,5 @@
 -- What a run commits is of its boot, each in a transaction of its own.
-use Rattle.std.proofs.Common.{◌≡◌, ◌∙◌, refl, ap, sym, ℕ, zero, suc, ◌+◌, List, [], ◌∷◌, map, slice_get, Some}
+use Rattle.std.proofs.Common.{◌≡◌, ◌∙◌, refl, ap, sym, ℕ, zero, suc, List, [], ◌∷◌, map, slice_get, Some}
 use Rattle.model.specs.Entry.{Entry}
 use Rattle.nfs_types.specs.declared.ctx.Ctx.{Ctx}
 use Rattle.procedures.specs.Histories.{AreOfBoot, IsLife}

@@ -29,12 +29,12 @@ committing_at blocks place = step.Commit blocks (committing.Committed (record { 
 -- an answer that comes with a commit is given while planning
 is_planning : (t : Transcript) (asked : Call) (stage : Stage) (a : Answer) (blocks place : ℕ)
     → HasVerdict t asked stage (committing_at blocks place) a → (begun : Begun) × (stage ≡ Planning begun)
-is_planning t asked Called a blocks place has = absurd has
+is_planning t asked (Called known) a blocks place has = absurd has
 is_planning t asked (Planning begun) a blocks place has = (begun, refl)
 is_planning t asked (Reading begun addr) a blocks place has = absurd has
 is_planning t asked (Read begun addr ok) a blocks place has = absurd has
 is_planning t asked (Refused begun why) a blocks place has = absurd has
-is_planning t asked (Again begun) a blocks place has = absurd has
+is_planning t asked (Again begun wished) a blocks place has = absurd has
 is_planning t asked (Waiting at) a blocks place has = absurd has
 
 -- and ends a call that isn't answered stable

@@ -7,13 +7,22 @@ use Rattle.std.proofs.Common.{◌⊎◌, inl, inr}
 use Rattle.std.specs.List.{zip}
 use Rattle.std.specs.Option.{option_map}
 use Rattle.std.proofs.lemmas.Bool.Decides.{nat_tests}
+use Rattle.limits.specs.declared.TheConstants.{CHANGED_BLOCKS}
+use Rattle.disk.specs.declared.block.BlockNo.{BlockNo}
+use Rattle.objects.specs.declared.addr.Addr.{Addr}
+use Rattle.objects.specs.declared.mode.Mode.{Mode}
+use Rattle.store_promise.specs.declared.aims.Aim.{Aim}
+use Rattle.store_promise.specs.declared.events.Committing.{Committing}
+use Rattle.store_promise.specs.declared.events.Wish.{Wish}
 use Rattle.store_promise.specs.declared.events.Event.{Event}
 use Rattle.store_promise.specs.declared.events.Event.TheVariants as event
 use Rattle.store_promise.specs.declared.events.Step.{Step}
+use Rattle.store_promise.specs.declared.events.Step.TheVariants as step
 use Rattle.store_promise.specs.Progress.{Begun, Job, Progress, Idle, At, Stage, Called, Planning}
 use Rattle.store_promise.specs.Progress.{going_on, progressed}
 use Rattle.store_promise.specs.Schedule.{Schedule, Setting, Told, at_first, told_after, told_along, told_before}
-use Rattle.store_promise.specs.Schedule.{AreTaken, IsOfOne, IsStepByPlan, IsStepOf, IsStepOfWork, IsTaken}
+use Rattle.store_promise.specs.Schedule.{AreTaken, IsClaimWish, IsCommitting, IsOfOne, IsStepBeside, IsStepOf}
+use Rattle.store_promise.specs.Schedule.{IsStepOfWork, IsStepWithin, IsTaken, IsWish, wish_of}
 use Rattle.store_promise.specs.Schedule.{progress_before, worker_of}
 use Rattle.store_promise.specs.Transcript.{Transcript, made, step_at}
 
@@ -97,7 +106,7 @@ module _ (told : Told) (worker : ℕ) (job : Job) where
   Comes e = HasJob (told.workers worker) job ⊎ (e ≡ handed worker job)
 
   by_call : (number : ℕ) (one : Job) (same : Bool) → nat_eq worker number ≡ same → (stage : Stage)
-      → (if same then At one Called else told.workers worker) ≡ At job stage
+      → (if same then At one (Called []) else told.workers worker) ≡ At job stage
       → Comes (handed number one)
   by_call number one true same stage e =
       let numbers : worker ≡ number = grind (arith, nat_tests) in
@@ -181,7 +190,7 @@ was_handed events steps index worker job stage is =
 
 -- ---- past the last event, or the last step, nothing more is told
 
-no_event : (events : Schedule) (steps : List (Option Step)) (index : ℕ) → slice_get events index ≡ None
+pub no_event : (events : Schedule) (steps : List (Option Step)) (index : ℕ) → slice_get events index ≡ None
     → take (suc index) (zip events steps) ≡ take index (zip events steps)
 no_event [] steps zero is = refl
 no_event [] steps (suc index) is = refl
@@ -191,7 +200,7 @@ no_event (one ∷ events) (step ∷ steps) zero is = cc
 no_event (one ∷ events) (step ∷ steps) (suc index) is =
     ap (λ (pairs : Pairs). (one, step) ∷ pairs) (no_event events steps index is)
 
-no_step : (events : Schedule) (steps : List (Option Step)) (index : ℕ) → slice_get steps index ≡ None
+pub no_step : (events : Schedule) (steps : List (Option Step)) (index : ℕ) → slice_get steps index ≡ None
     → take (suc index) (zip events steps) ≡ take index (zip events steps)
 no_step [] steps zero is = refl
 no_step [] steps (suc index) is = refl
@@ -201,16 +210,37 @@ no_step (one ∷ events) (step ∷ steps) zero is = cc
 no_step (one ∷ events) (step ∷ steps) (suc index) is =
     ap (λ (pairs : Pairs). (one, step) ∷ pairs) (no_step events steps index is)
 
+-- ---- with something left to be taken again, or nothing, each answer has its cause
+
+module _ (o : Setting) (told : Told) (worker : ℕ) (begun : Begun) where
+  pub wish_is : (left : List Aim) (addr : Addr) (mode : Mode) (answer : Wish)
+      → IsStepBeside left o told worker begun (step.Wanted addr mode answer)
+      → IsWish told worker begun (wish_of addr mode) answer
+  wish_is [] addr mode answer is = is.1
+  wish_is (next ∷ later) addr mode answer is = is.1
+
+  pub claim_wish_is : (left : List Aim) (block : BlockNo) (answer : Wish)
+      → IsStepBeside left o told worker begun (step.Claimed block answer)
+      → IsClaimWish told worker begun block answer
+  claim_wish_is [] block answer is = is.1
+  claim_wish_is (next ∷ later) block answer is = is.1
+
+  pub commit_is : (left : List Aim) (blocks : ℕ) (answer : Committing)
+      → IsStepBeside left o told worker begun (step.Commit blocks answer)
+      → (blocks ≤ CHANGED_BLOCKS) × IsCommitting o told.log blocks answer
+  commit_is [] blocks answer is = is
+  commit_is (next ∷ later) blocks answer is = absurd is
+
 -- ---- what is taken is what may be
 
 module _ (o : Setting) (workers : ℕ) (events : Schedule) (steps : List (Option Step))
     (taken : AreTaken o workers events steps) where
-  -- a step of a worker that plans is one of its plan
+  -- a step of a worker with a transaction is one that it may make
   pub planned_step : (index worker : ℕ) (job : Job) (begun : Begun) (one : Step)
       → slice_get events index ≡ Some (event.Work worker) → worker < workers
       → slice_get steps index ≡ Some (Some one)
       → progress_before events steps worker index ≡ At job (Planning begun)
-      → IsStepByPlan o (told_before events steps index) worker begun one
+      → IsStepWithin o (told_before events steps index) worker begun one
   planned_step index worker job begun one is_event less is_step planning =
       subst (λ p. IsStepOfWork o (told_before events steps index) worker p (Some one)) planning
       ((taken.each index (event.Work worker) (Some one) is_event is_step).own less)

@@ -1,9 +1,8 @@
 -- A worker whose call a failure ends was so far before, or its read fails now, or the store is broken.
 use Rattle.std.proofs.Common.{◌≡◌, ◌⊎◌, inl, inr, ℕ, ap, refl, subst, arith, Bool, true, false, not, ◌||◌}
-use Rattle.std.proofs.Common.{if◌then◌else◌, nat_eq, Option, Some, None, Ok, Err}
+use Rattle.std.proofs.Common.{if◌then◌else◌, nat_eq, List, [], ◌∷◌, Option, Some, None, Ok, Err}
 use Rattle.std.proofs.lemmas.Bool.Decides.{nat_tests}
 use Rattle.disk.specs.declared.block.BlockNo.{BlockNo}
-use Rattle.nfs_types.specs.declared.call.Call.{Call}
 use Rattle.objects.specs.declared.addr.Addr.{Addr}
 use Rattle.objects.specs.declared.mode.Mode.{Mode}
 use Rattle.model.specs.Calls.{has_rules, is_answered_stable}
@@ -22,8 +21,12 @@ use Rattle.store_promise.specs.Progress.{Again, At, Begun, Called, Idle, Job, Pl
 use Rattle.store_promise.specs.Progress.{Reading, Refused}
 use Rattle.store_promise.specs.Progress.{Stage, Waiting, after_called, after_commit, after_planning}
 use Rattle.store_promise.specs.Progress.{after_waiting}
-use Rattle.store_promise.specs.Progress.{going_on, is_idle, progressed}
-use Rattle.store_promise.specs.Schedule.{IsBeginning, IsCommitting, IsStepByPlan, IsStepOfCall}
+use Rattle.store_promise.specs.Progress.{going_on, is_idle, kept_off, progressed}
+use Rattle.store_promise.specs.Aims.{is_above}
+use Rattle.store_promise.specs.declared.aims.Aim.{Aim}
+use Rattle.store_promise.specs.declared.aims.Aim.TheVariants as aim
+use Rattle.store_promise.specs.Schedule.{IsBeginning, IsClaimWish, IsCommitting, IsRetaking, IsStepBeside}
+use Rattle.store_promise.specs.Schedule.{IsStepByPlan, IsStepOfCall, IsWish, wish_of}
 use Rattle.store_promise.specs.Schedule.{IsStepOfCalled, IsStepOfRead, IsStepOfWaiting, IsStepOfWork, IsTaken}
 use Rattle.store_promise.specs.Schedule.{Setting}
 use Rattle.store_promise.specs.Schedule.{Told, told_after}
@@ -61,6 +64,17 @@ of_plan o told worker begun (step.Commit blocks answer) is = refl
 of_plan o told worker begun (step.Ended why) is = refl
 of_plan o told worker begun _ is = absurd is
 
+of_next : (told : Told) (worker : ℕ) (begun : Begun) (next : Aim) (one : Step)
+    → IsRetaking told worker begun next one → is_of_log one ≡ false
+of_next told worker begun next (step.Wanted addr mode answer) is = refl
+of_next told worker begun next (step.Claimed block answer) is = refl
+of_next told worker begun next _ is = absurd is
+
+of_within : (o : Setting) (told : Told) (worker : ℕ) (begun : Begun) (left : List Aim) (one : Step)
+    → IsStepBeside left o told worker begun one → is_of_log one ≡ false
+of_within o told worker begun [] one is = of_plan o told worker begun one is
+of_within o told worker begun (next ∷ later) one is = of_next told worker begun next one is
+
 of_waiting : (log : LogTold) (place : ℕ) (one : Step) → IsStepOfWaiting log place one → is_of_log one ≡ false
 of_waiting log place (step.Stable seq settled) is = refl
 of_waiting log place _ is = absurd is
@@ -68,13 +82,13 @@ of_waiting log place _ is = absurd is
 of_work : (o : Setting) (told : Told) (worker : ℕ) (so_far : Progress) (one : Step)
     → IsStepOfWork o told worker so_far (Some one) → is_of_log one ≡ false
 of_work o told worker Idle one is = cc
-of_work o told worker (At job Called) one is = of_called told (has_rules job.call) one is
-of_work o told worker (At job (Planning begun)) one is = of_plan o told worker begun one is
+of_work o told worker (At job (Called known)) one is = of_called told (has_rules job.call) one is
+of_work o told worker (At job (Planning begun)) one is = of_within o told worker begun begun.left one is
 of_work o told worker (At job (Reading begun taken)) one is = cc
 of_work o told worker (At job (Read begun taken true)) one is = ap is_of_log is
 of_work o told worker (At job (Read begun taken false)) one is = ap is_of_log is
 of_work o told worker (At job (Refused begun why)) one is = ap is_of_log is
-of_work o told worker (At job (Again begun)) one is = ap is_of_log is
+of_work o told worker (At job (Again begun wished)) one is = ap is_of_log is
 of_work o told worker (At job (Waiting place)) one is = of_waiting told.log place one is
 
 -- a read that is due, which the worker has a call for
@@ -83,11 +97,11 @@ module _ (broken : Bool) where
   read_goes (At job (Reading begun taken)) (step.Read block ok) is = refl
   read_goes (At job (Reading begun taken)) _ is = absurd is
   read_goes Idle one is = cc
-  read_goes (At job Called) one is = cc
+  read_goes (At job (Called known)) one is = cc
   read_goes (At job (Planning begun)) one is = cc
   read_goes (At job (Read begun taken ok)) one is = cc
   read_goes (At job (Refused begun why)) one is = cc
-  read_goes (At job (Again begun)) one is = cc
+  read_goes (At job (Again begun wished)) one is = cc
   read_goes (At job (Waiting place)) one is = cc
 
   read_fails : (so_far : Progress) (one : Step) → IsStepOfRead so_far (Some one)
@@ -95,11 +109,11 @@ module _ (broken : Bool) where
   read_fails (At job (Reading begun taken)) (step.Read block ok) is so = (so, refl)
   read_fails (At job (Reading begun taken)) _ is so = absurd is
   read_fails Idle one is so = cc
-  read_fails (At job Called) one is so = cc
+  read_fails (At job (Called known)) one is so = cc
   read_fails (At job (Planning begun)) one is so = cc
   read_fails (At job (Read begun taken ok)) one is so = cc
   read_fails (At job (Refused begun why)) one is so = cc
-  read_fails (At job (Again begun)) one is so = cc
+  read_fails (At job (Again begun wished)) one is so = cc
   read_fails (At job (Waiting place)) one is so = cc
 
 -- ---- a step of its work leads to no failure that wasn't there
@@ -108,33 +122,39 @@ module _ (o : Setting) (told : Told) (worker : ℕ) (job : Job) where
   abbrev WasShown : Stage → Type 0
   WasShown stage = (has_failed stage ≡ true) ⊎ (told.log.broken ≡ true)
 
-  by_called : (one : Step) → shows (going_on job (after_called one)) ≡ true → ⊥
-  by_called (step.Begun (Ok number)) so = cc
-  by_called (step.Begun (Err why)) so = cc
-  by_called _ so = cc
+  by_called : (known : List Aim) (one : Step) → shows (going_on job (after_called known one)) ≡ true → ⊥
+  by_called known (step.Begun (Ok number)) so = cc
+  by_called known (step.Begun (Err why)) so = cc
+  by_called known _ so = cc
 
   module _ (begun : Begun) where
-    by_wanted : (addr : Addr) (mode : Mode) (answer : Wish)
-        → IsStepByPlan o told worker begun (step.Wanted addr mode answer)
+    off : (wished : Aim) → shows (At job (kept_off begun wished)) ≡ true → ⊥
+    off wished so = by (is_above wished begun.taken) so
+      where
+        by : (above : Bool) → shows (At job (if above then Again begun (Some wished) else Planning begun)) ≡ true
+            → ⊥
+        by true so = cc
+        by false so = cc
+
+    by_wanted : (addr : Addr) (mode : Mode) (answer : Wish) → IsWish told worker begun (wish_of addr mode) answer
         → shows (going_on job (after_planning (is_answered_stable job.call) begun
         (step.Wanted addr mode answer)))
         ≡ true → ⊥
     by_wanted addr mode wish.Held is so = cc
     by_wanted addr mode wish.Fetch is so = cc
-    by_wanted addr mode wish.Busy is so = cc
-    by_wanted addr mode wish.Loading is so = cc
-    by_wanted addr mode wish.Outside is so = is.1
+    by_wanted addr mode wish.Busy is so = off (aim.Object addr mode) so
+    by_wanted addr mode wish.Loading is so = off (aim.Object addr mode) so
+    by_wanted addr mode wish.Outside is so = is
     by_wanted addr mode wish.NoMemory is so = cc
 
-    by_claimed : (block : BlockNo) (answer : Wish)
-        → IsStepByPlan o told worker begun (step.Claimed block answer)
+    by_claimed : (block : BlockNo) (answer : Wish) → IsClaimWish told worker begun block answer
         → shows (going_on job (after_planning (is_answered_stable job.call) begun (step.Claimed block answer)))
         ≡ true → ⊥
     by_claimed block wish.Held is so = cc
     by_claimed block wish.Fetch is so = cc
-    by_claimed block wish.Busy is so = cc
-    by_claimed block wish.Loading is so = cc
-    by_claimed block wish.Outside is so = is.1
+    by_claimed block wish.Busy is so = off (aim.Claim block) so
+    by_claimed block wish.Loading is so = off (aim.Claim block) so
+    by_claimed block wish.Outside is so = is
     by_claimed block wish.NoMemory is so = cc
 
     committed : (stable : Bool) (place : ℕ)
@@ -154,11 +174,23 @@ module _ (o : Setting) (told : Told) (worker : ℕ) (job : Job) where
     by_plan : (one : Step) → IsStepByPlan o told worker begun one
         → shows (going_on job (after_planning (is_answered_stable job.call) begun one)) ≡ true
         → told.log.broken ≡ true
-    by_plan (step.Wanted addr mode answer) is so = absurd (by_wanted addr mode answer is so)
-    by_plan (step.Claimed block answer) is so = absurd (by_claimed block answer is so)
+    by_plan (step.Wanted addr mode answer) is so = absurd (by_wanted addr mode answer is.1 so)
+    by_plan (step.Claimed block answer) is so = absurd (by_claimed block answer is.1 so)
     by_plan (step.Commit blocks answer) is so = by_commit (is_answered_stable job.call) blocks answer is.1 so
     by_plan (step.Ended why) is so = cc
     by_plan _ is so = absurd is
+
+    by_next : (next : Aim) (one : Step) → IsRetaking told worker begun next one
+        → shows (going_on job (after_planning (is_answered_stable job.call) begun one)) ≡ true → ⊥
+    by_next next (step.Wanted addr mode answer) is so = by_wanted addr mode answer is.1 so
+    by_next next (step.Claimed block answer) is so = by_claimed block answer is.1 so
+    by_next next _ is so = is
+
+    by_within : (left : List Aim) (one : Step) → IsStepBeside left o told worker begun one
+        → shows (going_on job (after_planning (is_answered_stable job.call) begun one)) ≡ true
+        → told.log.broken ≡ true
+    by_within [] one is so = by_plan one is so
+    by_within (next ∷ later) one is so = absurd (by_next next one is so)
 
   waited : (done : Bool) (place : ℕ) → shows
       (going_on job (if done then None else Some (Waiting place))) ≡ true → ⊥
@@ -173,13 +205,13 @@ module _ (o : Setting) (told : Told) (worker : ℕ) (job : Job) where
 
   by_stage : (stage : Stage) (one : Step) → IsStepOfWork o told worker (At job stage) (Some one)
       → shows (progressed told.log.broken one (At job stage)) ≡ true → WasShown stage
-  by_stage Called one is so = absurd (by_called one so)
-  by_stage (Planning begun) one is so = inr (by_plan begun one is so)
+  by_stage (Called known) one is so = absurd (by_called known one so)
+  by_stage (Planning begun) one is so = inr (by_within begun begun.left one is so)
   by_stage (Reading begun taken) one is so = cc
   by_stage (Read begun taken true) one is so = cc
   by_stage (Read begun taken false) one is so = inl refl
   by_stage (Refused begun why) one is so = cc
-  by_stage (Again begun) one is so = cc
+  by_stage (Again begun wished) one is so = cc
   by_stage (Waiting place) one is so = absurd (by_waiting told.log.broken place one so)
 
 work_shows : (o : Setting) (told : Told) (worker : ℕ) (so_far : Progress) (one : Step)
@@ -239,7 +271,7 @@ module _ (o : Setting) (workers : ℕ) (told : Told) where
     same_number number is = grind (arith, nat_tests)
 
     by_call : (job : Job) (e : Event) (m : Option Step) (same : Bool)
-        → shows (if same then At job Called else told.workers worker) ≡ true → Showed told e m worker
+        → shows (if same then At job (Called []) else told.workers worker) ≡ true → Showed told e m worker
     by_call job e m true so = cc
     by_call job e m false so = before so
 

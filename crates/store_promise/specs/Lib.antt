@@ -1,11 +1,13 @@
 pub mod GoodImage
 pub mod Transcript
+pub mod Aims
 pub mod Progress
 pub mod LogTold
 pub mod NextCall
 pub mod Openings
 pub mod FailedCalls
 pub mod Schedule
+pub mod Waiting
 pub mod DeviceCalls
 pub mod History
 pub mod Verdicts

@@ -1,7 +1,7 @@
 -- How far a worker is with its call, told from the steps of its own alone. The stages bear the names that the
 -- phases of a worker have.
 use Rattle.std.specs.Prelude.{ℕ, ◌+◌, Bool, true, false, ◌||◌, ◌&&◌, if◌then◌else◌, nat_eq, nat_lt, List, []}
-use Rattle.std.specs.Prelude.{◌∷◌, ◌++◌, map, Ok, Option, Some, None}
+use Rattle.std.specs.Prelude.{◌∷◌, ◌++◌, drop, map, Ok, Option, Some, None}
 use Rattle.std.specs.List.{list_any}
 use Rattle.disk.specs.declared.block.BlockNo.{BlockNo}
 use Rattle.objects.specs.Mode.{is_exclusive}
@@ -11,6 +11,9 @@ use Rattle.nfs_types.specs.declared.call.Call.{Call}
 use Rattle.nfs_types.specs.declared.ctx.Credential.{Credential}
 use Rattle.nfs_types.specs.declared.ctx.Moment.{Moment}
 use Rattle.model.specs.Calls.{is_answered_stable}
+use Rattle.store_promise.specs.Aims.{inserted, is_above}
+use Rattle.store_promise.specs.declared.aims.Aim.{Aim}
+use Rattle.store_promise.specs.declared.aims.Aim.TheVariants as aim
 use Rattle.store_promise.specs.declared.events.Cause.{Cause}
 use Rattle.store_promise.specs.declared.events.Cause.TheVariants as cause
 use Rattle.store_promise.specs.declared.events.Committing.{Committing}
@@ -35,19 +38,21 @@ pub record Taken : Type 0 where
 abbrev pub addrs_of : List Taken → List Addr
 addrs_of taken = map (λ (one : Taken). one.addr) taken
 
--- A transaction that is out: its number, the objects that it was told, those whose block was read for it, and
--- the blocks that it has claimed, each in the order of the steps.
+-- A transaction that is out: its number, the objects that its plan was told and the blocks that it has claimed,
+-- each in the order of the steps; all that the transaction has taken; and what its call knew when it began, and
+-- isn't taken again yet. The last two rise.
 pub record Begun : Type 0 where
   pub number : ℕ
   pub held : List Taken
-  pub fetched : List Taken
   pub claimed : List BlockNo
+  pub taken : List Aim
+  pub left : List Aim
 
 -- how far a worker is with a call
 pub data Stage : Type 0 where
-  -- it has no transaction
-  Called : Stage
-  -- it has a transaction, in which it reads and claims what its plan asks for
+  -- it has no transaction; it knows what it has taken, and was kept off from, in those before
+  Called : List Aim → Stage
+  -- it has a transaction, in which it takes again what it knew, and then reads and claims what its plan asks for
   Planning : Begun → Stage
   -- a read of this object's block is due
   Reading : Begun → Taken → Stage
@@ -55,8 +60,9 @@ pub data Stage : Type 0 where
   Read : Begun → Taken → Bool → Stage
   -- its transaction is to be ended, and then the call is answered
   Refused : Begun → Cause → Stage
-  -- its transaction is to be ended, and then the call begins again
-  Again : Begun → Stage
+  -- its transaction is to be ended, and then the call begins again: it was kept off from this, which lies below
+  -- what it has taken; or, where there is none, its change was foreign
+  Again : Begun → Option Aim → Stage
   -- its procedure was committed at this place, and isn't answered yet
   Waiting : ℕ → Stage
 
@@ -69,29 +75,59 @@ abbrev pub is_idle : Progress → Bool
 is_idle Idle = true
 is_idle (At job stage) = false
 
-abbrev pub with_held : Begun → Taken → Begun
-with_held begun taken = record begun { held = begun.held ++ taken ∷ [] }
+-- ---- what is taken
 
-abbrev pub with_fetched : Begun → Taken → Begun
-with_fetched begun taken = record begun { fetched = begun.fetched ++ taken ∷ [] }
+abbrev pub aim_of : Taken → Aim
+aim_of taken = aim.Object taken.addr taken.mode
+
+-- it has taken this too, which was the next that was left, if any was
+abbrev pub with_taken : Begun → Aim → Begun
+with_taken begun one = record begun { taken = inserted one begun.taken; left = drop 1 begun.left }
+
+-- its plan is told an object, or has claimed a block, once nothing is left to be taken again
+abbrev pub told_by : List Aim → Begun → Taken → Begun
+told_by [] begun taken = record begun { held = begun.held ++ taken ∷ [] }
+told_by (next ∷ later) begun taken = begun
+
+abbrev pub claimed_by : List Aim → Begun → BlockNo → Begun
+claimed_by [] begun block = record begun { claimed = begun.claimed ++ block ∷ [] }
+claimed_by (next ∷ later) begun block = begun
+
+abbrev pub with_held : Begun → Taken → Begun
+with_held begun taken = told_by begun.left (with_taken begun (aim_of taken)) taken
 
 abbrev pub with_claimed : Begun → BlockNo → Begun
-with_claimed begun block = record begun { claimed = begun.claimed ++ block ∷ [] }
+with_claimed begun block = claimed_by begun.left (with_taken begun (aim.Claim block)) block
+
+-- Who is kept off waits, and asks again, where it has taken nothing above what it wishes. Else it gives all back,
+-- and takes it again from the lowest on: so no two wait for each other.
+abbrev pub kept_off : Begun → Aim → Stage
+kept_off begun wished = if is_above wished begun.taken then Again begun (Some wished) else Planning begun
+
+-- what the call knows then
+abbrev pub with_wished : Option Aim → List Aim → List Aim
+with_wished None aims = aims
+with_wished (Some wished) aims = inserted wished aims
+
+abbrev pub known_then : Begun → Option Aim → List Aim
+known_then begun wished = with_wished wished (begun.taken ++ begun.left)
+
+-- ---- a step
 
 -- what wasn't had yet is asked for again
 abbrev pub after_wanted : Begun → Taken → Wish → Stage
 after_wanted begun taken wish.Held = Planning (with_held begun taken)
-after_wanted begun taken wish.Fetch = Reading begun taken
-after_wanted begun taken wish.Busy = Planning begun
-after_wanted begun taken wish.Loading = Planning begun
+after_wanted begun taken wish.Fetch = Reading (with_taken begun (aim_of taken)) taken
+after_wanted begun taken wish.Busy = kept_off begun (aim_of taken)
+after_wanted begun taken wish.Loading = kept_off begun (aim_of taken)
 after_wanted begun taken wish.Outside = Refused begun cause.Io
 after_wanted begun taken wish.NoMemory = Refused begun cause.NoMemory
 
 abbrev pub after_claimed : Begun → BlockNo → Wish → Stage
 after_claimed begun block wish.Held = Planning (with_claimed begun block)
 after_claimed begun block wish.Fetch = Planning begun
-after_claimed begun block wish.Busy = Planning begun
-after_claimed begun block wish.Loading = Planning begun
+after_claimed begun block wish.Busy = kept_off begun (aim.Claim block)
+after_claimed begun block wish.Loading = kept_off begun (aim.Claim block)
 after_claimed begun block wish.Outside = Refused begun cause.Io
 after_claimed begun block wish.NoMemory = Refused begun cause.NoMemory
 
@@ -99,7 +135,7 @@ after_claimed begun block wish.NoMemory = Refused begun cause.NoMemory
 abbrev pub after_commit : Bool → Begun → Committing → Option Stage
 after_commit stable begun (committing.Committed place) = if stable then Some (Waiting place.0) else None
 after_commit stable begun committing.Full = Some (Planning begun)
-after_commit stable begun committing.Foreign = Some (Again begun)
+after_commit stable begun committing.Foreign = Some (Again begun None)
 after_commit stable begun committing.NoMemory = Some (Refused begun cause.NoMemory)
 after_commit stable begun committing.Broken = Some (Refused begun cause.Io)
 after_commit stable begun committing.Spent = Some (Refused begun cause.Spent)
@@ -112,11 +148,14 @@ after_planning stable begun (step.Commit blocks answer) = after_commit stable be
 after_planning stable begun (step.Ended why) = None
 after_planning stable begun _ = Some (Planning begun)
 
+-- a transaction in which nothing is taken yet, of a call that knew this
+abbrev pub fresh : ℕ → List Aim → Begun
+fresh number known = record { number = number; held = []; claimed = []; taken = []; left = known }
+
 -- a call without a transaction is answered, and so is one for which none was begun
-abbrev pub after_called : Step → Option Stage
-after_called (step.Begun (Ok number)) =
-    Some (Planning (record { number = number; held = []; fetched = []; claimed = [] }))
-after_called _ = None
+abbrev pub after_called : List Aim → Step → Option Stage
+after_called known (step.Begun (Ok number)) = Some (Planning (fresh number known))
+after_called known _ = None
 
 abbrev pub after_reading : Begun → Taken → Step → Option Stage
 after_reading begun taken (step.Read block ok) = Some (Read begun taken ok)
@@ -131,13 +170,13 @@ after_waiting broken place _ = Some (Waiting place)
 -- how far it is after a step of its worker, where the store is broken or isn't, and where its call is answered
 -- once it is stable or isn't
 abbrev pub stage_after : Bool → Bool → Step → Stage → Option Stage
-stage_after broken stable made Called = after_called made
+stage_after broken stable made (Called known) = after_called known made
 stage_after broken stable made (Planning begun) = after_planning stable begun made
 stage_after broken stable made (Reading begun taken) = after_reading begun taken made
-stage_after broken stable made (Read begun taken true) = Some (Planning (with_fetched begun taken))
-stage_after broken stable made (Read begun taken false) = Some (Refused (with_fetched begun taken) cause.Io)
+stage_after broken stable made (Read begun taken true) = Some (Planning begun)
+stage_after broken stable made (Read begun taken false) = Some (Refused begun cause.Io)
 stage_after broken stable made (Refused begun why) = None
-stage_after broken stable made (Again begun) = Some Called
+stage_after broken stable made (Again begun wished) = Some (Called (known_then begun wished))
 stage_after broken stable made (Waiting place) = after_waiting broken place made
 
 abbrev pub going_on : Job → Option Stage → Progress
@@ -168,19 +207,22 @@ abbrev pub keeps_off : Wished → Taken → Bool
 keeps_off wished taken =
     shares wished taken.addr && (is_exclusive taken.mode || is_exclusive wished.mode)
 
--- something that a transaction has taken does; a claim is exclusive
+-- so does what a transaction has taken; a claim is of the whole block, and exclusive
+abbrev pub aim_keeps_off : Wished → Aim → Bool
+aim_keeps_off wished (aim.Object addr mode) = keeps_off wished (record { addr = addr; mode = mode })
+aim_keeps_off wished (aim.Claim block) = nat_eq block.0 wished.block.0
+
+-- something that it has taken does
 abbrev pub takes : Wished → Begun → Bool
-takes wished begun =
-    list_any (keeps_off wished) begun.held || list_any (keeps_off wished) begun.fetched
-    || list_any (λ claim. nat_eq claim.0 wished.block.0) begun.claimed
+takes wished begun = list_any (aim_keeps_off wished) begun.taken
 
 abbrev pub stage_takes : Wished → Stage → Bool
-stage_takes wished Called = false
+stage_takes wished (Called known) = false
 stage_takes wished (Planning begun) = takes wished begun
-stage_takes wished (Reading begun taken) = takes wished (with_fetched begun taken)
-stage_takes wished (Read begun taken ok) = takes wished (with_fetched begun taken)
+stage_takes wished (Reading begun taken) = takes wished begun
+stage_takes wished (Read begun taken ok) = takes wished begun
 stage_takes wished (Refused begun why) = takes wished begun
-stage_takes wished (Again begun) = takes wished begun
+stage_takes wished (Again begun off) = takes wished begun
 stage_takes wished (Waiting place) = false
 
 -- a worker's transaction has
@@ -195,7 +237,9 @@ is_fetching block (At job (Read begun taken ok)) = nat_eq taken.addr.block.0 blo
 is_fetching block _ = false
 
 -- an object of the block was told or fetched, so that the block is in memory until the transaction ends
+abbrev pub is_object_in : BlockNo → Aim → Bool
+is_object_in block (aim.Object addr mode) = nat_eq addr.block.0 block.0
+is_object_in block (aim.Claim claimed) = false
+
 abbrev pub is_loaded : BlockNo → Begun → Bool
-is_loaded block begun =
-    list_any (λ (taken : Taken). nat_eq taken.addr.block.0 block.0) begun.held
-    || list_any (λ (taken : Taken). nat_eq taken.addr.block.0 block.0) begun.fetched
+is_loaded block begun = list_any (is_object_in block) begun.taken

@@ -1,6 +1,6 @@
 -- Which events apply, and what step each may make, told from the events and steps before it alone.
 use Rattle.std.specs.Prelude.{◌≡◌, ◌≢◌, ℕ, ◌+◌, ◌^◌, ◌<◌, ◌≤◌, Bool, true, false, if◌then◌else◌, nat_eq}
-use Rattle.std.specs.Prelude.{nat_le, List, [], ◌∷◌, map, take, Option, Some, None, Ok, Err, length, slice_get}
+use Rattle.std.specs.Prelude.{nat_le, List, [], ◌∷◌, take, Option, Some, None, Ok, Err, length, slice_get}
 use Rattle.std.specs.List.{zip, list_any}
 use Rattle.limits.specs.declared.TheConstants.{BLOCK_BYTES, CHANGED_BLOCKS, LOG_SLOTS}
 use Rattle.disk.specs.Crash.{Image}
@@ -13,11 +13,11 @@ use Rattle.layout.specs.declared.geometry.Geometry.{Geometry}
 use Rattle.model.specs.Calls.{has_rules}
 use Rattle.procs.specs.Asks.{Asks, Claims}
 use Rattle.inode.specs.Snap.{is_claimed, same_addr}
-use Rattle.txn.specs.Object.{ObjectBytes}
-use Rattle.txn.specs.Window.{object_at}
 use Rattle.txn.specs.declared.outcomes.BeginFault.TheVariants as fault
 use Rattle.wal_law.specs.declared.calls.IoCall.{IoCall}
 use Rattle.procs.specs.SoundCalls.{SoundCall}
+use Rattle.store_promise.specs.declared.aims.Aim.{Aim}
+use Rattle.store_promise.specs.declared.aims.Aim.TheVariants as aim
 use Rattle.store_promise.specs.declared.events.Committing.{Committing}
 use Rattle.store_promise.specs.declared.events.Committing.TheVariants as committing
 use Rattle.store_promise.specs.declared.events.Ending.TheVariants as ending
@@ -32,7 +32,7 @@ use Rattle.store_promise.specs.LogTold.{may_log_told, may_install_told, settled_
 use Rattle.store_promise.specs.NextCall.{IsNextOfInstalling, next_log_call}
 use Rattle.store_promise.specs.Progress.{Begun, Progress, Idle, At, Stage, Called, Planning, Reading, Read}
 use Rattle.store_promise.specs.Progress.{Refused, Again, Waiting, progressed, has_taken, is_fetching}
-use Rattle.store_promise.specs.Progress.{Taken, Wished, addrs_of, is_loaded}
+use Rattle.store_promise.specs.Progress.{Taken, Wished, is_loaded}
 
 -- a schedule is any list of events
 abbrev pub Schedule : Type 0
@@ -69,7 +69,7 @@ with_worker workers number progress = λ other. if nat_eq other number then prog
 abbrev pub workers_after : Told → Event → Step → ℕ → Progress
 workers_after told (event.Call worker credential moment call) made =
     with_worker told.workers worker
-    (At (record { credential = credential; moment = moment; call = call }) Called)
+    (At (record { credential = credential; moment = moment; call = call }) (Called []))
 workers_after told (event.Work worker) made =
     with_worker told.workers worker (progressed told.log.broken made (told.workers worker))
 workers_after told (event.Read worker) made =
@@ -188,7 +188,7 @@ IsCommitting o log blocks committing.Full =
 IsCommitting o log blocks committing.NoMemory =
     (log.broken ≡ false) × HasNumbers o log blocks × (log.tail + blocks ≤ LOG_SLOTS)
 
--- A worker with a transaction goes by a plan: it asks for what plans may ask for, or commits a change of no more
+-- A worker goes by a plan: it asks for what plans may ask for, or commits a change of no more
 -- blocks than a transaction may change, or finds no memory.
 abbrev pub IsStepByPlan : Setting → Told → ℕ → Begun → Step → Type 0
 IsStepByPlan o told worker begun (step.Wanted addr mode answer) =
@@ -200,6 +200,22 @@ IsStepByPlan o told worker begun (step.Commit blocks answer) =
 IsStepByPlan o told worker begun (step.Ended ending.NoMemory) = Unit {0}
 IsStepByPlan o told worker begun _ = ⊥
 
+-- what its call knew is taken again first, in its order, and answered as any wish is
+abbrev pub IsRetaking : Told → ℕ → Begun → Aim → Step → Type 0
+IsRetaking told worker begun next (step.Wanted addr mode answer) =
+    (next ≡ aim.Object addr mode) × IsWish told worker begun (wish_of addr mode) answer
+IsRetaking told worker begun next (step.Claimed block answer) =
+    (next ≡ aim.Claim block) × IsClaimWish told worker begun block answer
+IsRetaking told worker begun next _ = ⊥
+
+abbrev pub IsStepBeside : List Aim → Setting → Told → ℕ → Begun → Step → Type 0
+IsStepBeside [] o told worker begun made = IsStepByPlan o told worker begun made
+IsStepBeside (next ∷ later) o told worker begun made = IsRetaking told worker begun next made
+
+-- a step of a worker with a transaction
+abbrev pub IsStepWithin : Setting → Told → ℕ → Begun → Step → Type 0
+IsStepWithin o told worker begun made = IsStepBeside begun.left o told worker begun made
+
 -- the place is found settled where it is
 abbrev pub IsStepOfWaiting : LogTold → ℕ → Step → Type 0
 IsStepOfWaiting log place (step.Stable seq settled) = (seq.0 ≡ place)
@@ -208,13 +224,13 @@ IsStepOfWaiting log place _ = ⊥
 
 -- a worker with a call, of which no read is due, goes on with it
 abbrev pub IsStepWith : Setting → Told → ℕ → Call → Stage → Step → Type 0
-IsStepWith o told worker call Called made = IsStepOfCalled told (has_rules call) made
-IsStepWith o told worker call (Planning begun) made = IsStepByPlan o told worker begun made
+IsStepWith o told worker call (Called known) made = IsStepOfCalled told (has_rules call) made
+IsStepWith o told worker call (Planning begun) made = IsStepWithin o told worker begun made
 IsStepWith o told worker call (Reading begun taken) made = ⊥
 IsStepWith o told worker call (Read begun taken true) made = made ≡ step.Fetched taken.addr.block
 IsStepWith o told worker call (Read begun taken false) made = made ≡ step.FetchFailed taken.addr.block
 IsStepWith o told worker call (Refused begun why) made = made ≡ step.Ended ending.Refused
-IsStepWith o told worker call (Again begun) made = made ≡ step.Ended ending.Again
+IsStepWith o told worker call (Again begun wished) made = made ≡ step.Ended ending.Again
 IsStepWith o told worker call (Waiting place) made = IsStepOfWaiting told.log place made
 
 abbrev pub IsStepOfWork : Setting → Told → ℕ → Progress → Option Step → Type 0

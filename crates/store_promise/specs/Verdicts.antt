@@ -83,8 +83,8 @@ IsUnsettledAt asked place a = (a.place ≡ Some place) × (a.verdict ≡ verdict
 -- settled; IO in its stead, where the store broke before; a refusal of a procedure that wasn't committed; or,
 -- of a call that takes no transaction, that it isn't supported.
 abbrev pub HasVerdict : Transcript → Call → Stage → Step → Answer → Type 0
-HasVerdict t asked Called step.Replied a = IsOfNone (verdict.Reply (unsupported asked)) a
-HasVerdict t asked Called (step.Begun (Err why)) a = IsOfNone (refusal asked (cause_of why)) a
+HasVerdict t asked (Called known) step.Replied a = IsOfNone (verdict.Reply (unsupported asked)) a
+HasVerdict t asked (Called known) (step.Begun (Err why)) a = IsOfNone (refusal asked (cause_of why)) a
 HasVerdict t asked (Planning begun) (step.Commit blocks (committing.Committed place)) a = IsReplyAt t place a
 HasVerdict t asked (Planning begun) (step.Ended ending.NoMemory) a = IsOfNone verdict.NoMemory a
 HasVerdict t asked (Refused begun why) (step.Ended ending.Refused) a = IsOfNone (refusal asked why) a

@@ -2,6 +2,7 @@
 //! the good image, schedules, histories, verdicts and the headline's record.
 #![tactic(auto)]
 
+mod aims;
 mod answers;
 mod events;
 mod fault;
@@ -16,7 +17,9 @@ mod running;
 mod steps_made;
 mod told_log;
 mod transcript;
+mod waiting;
 
+pub use aims::Aim;
 pub use answers::{CallAnswer, Entry, Verdict};
 pub use events::{Cause, Committing, Ending, Event, Step, Wish};
 pub use fault::OpenFault;
@@ -55,12 +58,14 @@ pub use running::{
 pub use steps_made::{
     a_call_changes_no_more_than_it_may, a_call_that_is_out_is_made, a_full_log_is_full,
     a_procedure_changes_only_what_it_took, a_worker_goes_by_its_plan,
-    a_worker_passes_over_no_event, nothing_is_asked_for_twice, one_worker_is_never_busy,
-    the_installer_comes_to_an_end, the_log_passes_over_no_event, the_log_takes_its_next_call,
-    what_was_made_stays,
+    a_worker_passes_over_no_event, no_call_begins_again_for_nothing, nothing_is_asked_for_twice,
+    one_worker_is_never_busy, the_installer_comes_to_an_end, the_log_passes_over_no_event,
+    the_log_takes_its_next_call, what_was_known_is_taken_again_first, what_was_made_stays,
+    who_has_taken_more_above_does_not_wait,
 };
 pub use told_log::{
     the_installer_stands_at_a_home, the_installers_next_call_is_told,
     the_loggers_next_call_is_told, the_room_is_told, what_is_settled_is_told,
 };
 pub use transcript::{Answer, Committed, Run};
+pub use waiting::{aims_rise_with_one_more, waits_make_no_ring, what_is_taken_rises};

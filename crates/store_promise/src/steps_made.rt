@@ -1,5 +1,6 @@
 //! Laws on the steps that events make, which the promise of a run pins.
-ghost use Rattle.std.specs.Prelude.{◌≡◌, ◌≢◌, ◌+◌, ◌<◌, ◌≤◌, ℕ, Bool, List, Option, slice_get, Some, None};
+ghost use Rattle.std.specs.Prelude.{◌≡◌, ◌≢◌, ◌⊎◌, ◌+◌, ◌<◌, ◌≤◌, ◌∷◌, ℕ, Bool, List, Option};
+ghost use Rattle.std.specs.Prelude.{slice_get, Some, None};
 ghost use Rattle.std.specs.Prelude.{true};
 ghost use Rattle.std.specs.Prelude.{false};
 ghost use Rattle.limits.specs.declared.TheConstants.{CHANGED_BLOCKS, LOG_SLOTS, START_BLOCK};
@@ -17,6 +18,9 @@ ghost use Rattle.wal_law.specs.declared.calls.IoCall.{IoCall};
 ghost use Rattle.wal_law.specs.declared.calls.IoCall.TheVariants.{Write};
 ghost use Rattle.store_promise.specs.declared.events.Committing.{Committing};
 ghost use Rattle.store_promise.specs.declared.events.Committing.TheVariants as committing;
+ghost use Rattle.store_promise.specs.declared.aims.Aim.{Aim};
+ghost use Rattle.store_promise.specs.declared.aims.Aim.TheVariants as aim;
+ghost use Rattle.store_promise.specs.declared.events.Ending.TheVariants as ending;
 ghost use Rattle.store_promise.specs.declared.events.Event.{Event};
 ghost use Rattle.store_promise.specs.declared.events.Event.TheVariants as event;
 ghost use Rattle.store_promise.specs.declared.events.Step.{Step};
@@ -27,8 +31,9 @@ ghost use Rattle.store_promise.specs.declared.transcript.Committed.{Committed};
 ghost use Rattle.store_promise.specs.Headline.{KeepsPromise};
 ghost use Rattle.store_promise.specs.LogTold.{idle, may_install_told, may_log_told, out};
 ghost use Rattle.store_promise.specs.NextCall.{next_log_call, taken_home};
-ghost use Rattle.store_promise.specs.Progress.{Begun, Job, At, Planning, Reading, Stage, Taken};
-ghost use Rattle.store_promise.specs.Progress.{takes};
+ghost use Rattle.store_promise.specs.Aims.{is_above};
+ghost use Rattle.store_promise.specs.Progress.{Again, Begun, Called, Job, At, Planning, Reading, Stage};
+ghost use Rattle.store_promise.specs.Progress.{Taken, known_then, takes};
 ghost use Rattle.store_promise.specs.Schedule.{IsTaken, Schedule, Setting, Told, is_held};
 ghost use Rattle.store_promise.specs.Schedule.{progress_before, told_before, wish_of};
 ghost use Rattle.store_promise.specs.Transcript.{Transcript};
@@ -181,4 +186,71 @@ pub fn a_procedure_changes_only_what_it_took()
         → addr.block.0 < later.size → takes (wish_of addr modes.Exclusive) begun ≡ false
         → (kept : KeepsPromise before later tree first workers events t)
         → object_at (kept.setting.blocks (index + 1)) addr ≡ object_at (kept.setting.blocks index) addr }
+{}
+
+/// A worker that wishes anything but the first of what is left to be taken again breaks the promise, and so does
+/// one that commits before.
+pub fn what_was_known_is_taken_again_first()
+    ensures wanted { (before later : Device) (tree : Tree) (first workers index worker : ℕ) (events : Schedule)
+        (t : Transcript) (job : Job) (begun : Begun) (next : Aim) (behind : List Aim) (addr : Addr)
+        (mode : Mode) (answer : Wish)
+        → slice_get events index ≡ Some (event.Work worker) → worker < workers
+        → slice_get t.steps index ≡ Some (Some (step.Wanted addr mode answer))
+        → progress_before events t.steps worker index ≡ At job (Planning begun)
+        → begun.left ≡ next ∷ behind → aim.Object addr mode ≢ next
+        → KeepsPromise before later tree first workers events t → ⊥ }
+    ensures claimed { (before later : Device) (tree : Tree) (first workers index worker : ℕ) (events : Schedule)
+        (t : Transcript) (job : Job) (begun : Begun) (next : Aim) (behind : List Aim) (block : BlockNo)
+        (answer : Wish)
+        → slice_get events index ≡ Some (event.Work worker) → worker < workers
+        → slice_get t.steps index ≡ Some (Some (step.Claimed block answer))
+        → progress_before events t.steps worker index ≡ At job (Planning begun)
+        → begun.left ≡ next ∷ behind → aim.Claim block ≢ next
+        → KeepsPromise before later tree first workers events t → ⊥ }
+    ensures commit { (before later : Device) (tree : Tree) (first workers index worker blocks : ℕ)
+        (events : Schedule) (t : Transcript) (job : Job) (begun : Begun) (next : Aim) (behind : List Aim)
+        (answer : Committing)
+        → slice_get events index ≡ Some (event.Work worker) → worker < workers
+        → slice_get t.steps index ≡ Some (Some (step.Commit blocks answer))
+        → progress_before events t.steps worker index ≡ At job (Planning begun)
+        → begun.left ≡ next ∷ behind
+        → KeepsPromise before later tree first workers events t → ⊥ }
+{}
+
+/// A worker that is told Busy or Loading, and has taken something above what it wishes, doesn't wait: its next
+/// step ends its transaction, and its call begins again with what it knows then. Else the promise is broken.
+pub fn who_has_taken_more_above_does_not_wait()
+    ensures off { (events : Schedule) (steps : List (Option Step)) (index worker : ℕ) (job : Job)
+        (begun : Begun) (addr : Addr) (mode : Mode) (answer : Wish)
+        → slice_get events index ≡ Some (event.Work worker)
+        → slice_get steps index ≡ Some (Some (step.Wanted addr mode answer))
+        → (answer ≡ wish.Busy) ⊎ (answer ≡ wish.Loading)
+        → progress_before events steps worker index ≡ At job (Planning begun)
+        → is_above (aim.Object addr mode) begun.taken ≡ true
+        → progress_before events steps worker (index + 1)
+        ≡ At job (Again begun (Some (aim.Object addr mode))) }
+    ensures ends { (before later : Device) (tree : Tree) (first workers index worker : ℕ) (events : Schedule)
+        (t : Transcript) (job : Job) (begun : Begun) (wished : Option Aim) (made : Step)
+        → slice_get events index ≡ Some (event.Work worker) → worker < workers
+        → slice_get t.steps index ≡ Some (Some made)
+        → progress_before events t.steps worker index ≡ At job (Again begun wished)
+        → made ≢ step.Ended ending.Again
+        → KeepsPromise before later tree first workers events t → ⊥ }
+    ensures known { (events : Schedule) (steps : List (Option Step)) (index worker : ℕ) (job : Job)
+        (begun : Begun) (wished : Option Aim)
+        → slice_get events index ≡ Some (event.Work worker)
+        → slice_get steps index ≡ Some (Some (step.Ended ending.Again))
+        → progress_before events steps worker index ≡ At job (Again begun wished)
+        → progress_before events steps worker (index + 1) ≡ At job (Called (known_then begun wished)) }
+{}
+
+/// A worker that ends its transaction to begin again while it plans, as one may only that was kept off so, breaks
+/// the promise.
+pub fn no_call_begins_again_for_nothing()
+    ensures { (before later : Device) (tree : Tree) (first workers index worker : ℕ) (events : Schedule)
+        (t : Transcript) (job : Job) (begun : Begun)
+        → slice_get events index ≡ Some (event.Work worker) → worker < workers
+        → slice_get t.steps index ≡ Some (Some (step.Ended ending.Again))
+        → progress_before events t.steps worker index ≡ At job (Planning begun)
+        → KeepsPromise before later tree first workers events t → ⊥ }
 {}

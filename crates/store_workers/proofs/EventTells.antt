@@ -16,7 +16,9 @@ use Rattle.store_promise.specs.declared.events.Cause.{Cause}
 use Rattle.store_promise.specs.declared.events.Step.{Step}
 use Rattle.store_promise.specs.declared.events.Step.TheVariants as step
 use Rattle.store_workers.proofs.HowFar.{some_of}
+use Rattle.store_promise.specs.declared.aims.Aim.{Aim}
 use Rattle.store_workers.specs.Asked.{Asking}
+use Rattle.store_workers.specs.Knowing.{Knowing, known_in}
 use Rattle.store_workers.specs.Seen.{seen_in}
 use Rattle.store_workers.specs.Stages.{IsFetchOf, IsJobIn, IsJobOf, IsWorkerAt, RunsIn, StandsAt, at_fetch}
 use Rattle.store_workers.specs.Stages.{at_stage, begun_of, progress_in}
@@ -39,7 +41,7 @@ takes_none : (boot : ℕ) (entries : List Entry) (state : State) (phase : Phase)
     → StandsAt boot entries phase state
     → (phase ≡ Idle → ⊥)
     → IsStepOfCall (progress_in phase state.work.job (begun_of state.begun.tx (seen_in state.work.snap)
-    state.asked.fetched) state.asked) None
+    state.known) state.asked state.known) None
 takes_none boot entries state phase stands busy = by phase stands busy
   where
     at : (found : Option Job) (job : Job) (stage : told.Stage) → found ≡ Some job
@@ -55,9 +57,9 @@ takes_none boot entries state phase stands busy = by phase stands busy
 
     by : (phase : Phase) → StandsAt boot entries phase state → (phase ≡ Idle → ⊥)
         → IsStepOfCall (progress_in phase state.work.job (begun_of state.begun.tx (seen_in state.work.snap)
-        state.asked.fetched) state.asked) None
+        state.known) state.asked state.known) None
     by Idle stands busy = absurd (busy refl)
-    by Called stands busy = has (IsJobOf boot) told.Called stands
+    by Called stands busy = has (IsJobOf boot) (told.Called (known_in state.known)) stands
     by Planning stands busy = runs _ stands
     by Reading stands busy = runs _ stands.0
     by (Read ok) stands busy = runs _ stands.0
@@ -72,7 +74,7 @@ pub call_told : (boot : ℕ) (entries : List Entry) (credential : Credential) (m
     → TellsCall boot entries (record { credential = credential; moment = moment; call = call }) old made new
 call_told boot entries credential moment call old new (Some made) sound at takes = record {
   may = subst (λ p. IsStepOfCall (progress_in p old.work.job (begun_of old.begun.tx (seen_in old.work.snap)
-      old.asked.fetched) old.asked) (Some made)) (sym takes.2) (ap (λ m. Some m) takes.0);
+      old.known) old.asked old.known) (Some made)) (sym takes.2) (ap (λ m. Some m) takes.0);
   progress = ap progress_of takes.3;
   stands = subst (λ s. IsWorkerAt boot entries s) (sym takes.3) (record {
     boot_is = at.boot_is;
@@ -91,10 +93,10 @@ call_told boot entries credential moment call old new None sound at takes = reco
 
 -- nothing is read at another stage
 module _ (found : Option Job) where
-  at_called : IsStepOfRead (at_stage found told.Called) None
-  at_called = by found
+  at_called : (known : List Aim) → IsStepOfRead (at_stage found (told.Called known)) None
+  at_called known = by found
     where
-      by : (o : Option Job) → IsStepOfRead (at_stage o told.Called) None
+      by : (o : Option Job) → IsStepOfRead (at_stage o (told.Called known)) None
       by None = refl
       by (Some job) = refl
 
@@ -122,10 +124,11 @@ module _ (found : Option Job) where
       by None = refl
       by (Some job) = refl
 
-  at_again : (begun : told.Begun) → IsStepOfRead (at_stage found (told.Again begun)) None
-  at_again begun = by found
+  at_again : (begun : told.Begun) (wished : Option Aim)
+      → IsStepOfRead (at_stage found (told.Again begun wished)) None
+  at_again begun wished = by found
     where
-      by : (o : Option Job) → IsStepOfRead (at_stage o (told.Again begun)) None
+      by : (o : Option Job) → IsStepOfRead (at_stage o (told.Again begun wished)) None
       by None = refl
       by (Some job) = refl
 
@@ -136,21 +139,22 @@ module _ (found : Option Job) where
       by None = refl
       by (Some job) = refl
 
-none_due : (phase : Phase) (found : Option Job) (begun : told.Begun) (asked : Asking) → (phase ≡ Reading → ⊥)
-    → IsStepOfRead (progress_in phase found begun asked) None
-none_due Idle found begun asked not = refl
-none_due Called found begun asked not = at_called found
-none_due Planning found begun asked not = at_planning found begun
-none_due Reading found begun asked not = absurd (not refl)
-none_due (Read ok) found begun asked not = at_read found begun ok asked.wish
-none_due (Refused why) found begun asked not = at_refused found begun why
-none_due Again found begun asked not = at_again found begun
-none_due (Waiting place) found begun asked not = at_waiting asked.waiting place.0
+none_due : (phase : Phase) (found : Option Job) (begun : told.Begun) (asked : Asking) (knowing : Knowing)
+    → (phase ≡ Reading → ⊥)
+    → IsStepOfRead (progress_in phase found begun asked knowing) None
+none_due Idle found begun asked knowing not = refl
+none_due Called found begun asked knowing not = at_called found (known_in knowing)
+none_due Planning found begun asked knowing not = at_planning found begun
+none_due Reading found begun asked knowing not = absurd (not refl)
+none_due (Read ok) found begun asked knowing not = at_read found begun ok asked.wish
+none_due (Refused why) found begun asked knowing not = at_refused found begun why
+none_due Again found begun asked knowing not = at_again found begun knowing.off
+none_due (Waiting place) found begun asked knowing not = at_waiting asked.waiting place.0
 
 pub no_read_told : (boot : ℕ) (entries : List Entry) (old : State) → IsWorkerAt boot entries old
     → (old.phase ≡ Reading → ⊥) → TellsRead boot entries old None old
 no_read_told boot entries old at not = record {
-  may = none_due old.phase old.work.job _ old.asked not;
+  may = none_due old.phase old.work.job _ old.asked old.known not;
   progress = λ broken. refl;
   stands = at;
 }
@@ -159,7 +163,7 @@ no_read_told boot entries old at not = record {
 module _ (boot : ℕ) (entries : List Entry) (old : State) (ok : Bool) (io : Fetch) (content : Content)
     (phase_is : old.phase ≡ Reading) (io_is : old.begun.io ≡ Some io) (at : IsWorkerAt boot entries old) where
   abbrev begun_then : told.Begun
-  begun_then = begun_of old.begun.tx (seen_in old.work.snap) old.asked.fetched
+  begun_then = begun_of old.begun.tx (seen_in old.work.snap) old.known
 
   stood : RunsIn boot old × IsFetchOf old
   stood = subst (λ p. StandsAt boot entries p old) phase_is at.stands
@@ -174,8 +178,7 @@ module _ (boot : ℕ) (entries : List Entry) (old : State) (ok : Bool) (io : Fet
   -- how far the worker was, by parts
   abbrev was : Phase → Option Job → Option Addr → Progress
   was phase job wish =
-      progress_in phase job begun_then (record
-      { wish = wish; fetched = old.asked.fetched; waiting = old.asked.waiting })
+      progress_in phase job begun_then (record { wish = wish; waiting = old.asked.waiting }) old.known
 
   was_reading : progress_of old ≡ was Reading (Some job_is.0) (Some wish_is.0)
   was_reading = ap (λ p. was p old.work.job old.asked.wish) phase_is

@@ -1,7 +1,7 @@
 -- How far a worker is after its steps is what these tell.
 use Rattle.std.proofs.Common.{◌≡◌, ◌∙◌, refl, sym, ap, ℕ, Bool, true, false, Option, Some, None, Ok, Err}
-use Rattle.std.proofs.Common.{List, [], ◌∷◌, ◌++◌}
-use Rattle.std.specs.Prelude.{IsSomeAnd, map, option_to_list}
+use Rattle.std.proofs.Common.{List, [], ◌∷◌, if◌then◌else◌}
+use Rattle.std.specs.Prelude.{IsSomeAnd, map}
 use Rattle.std.proofs.lemmas.List.{map-append}
 use Rattle.disk.specs.declared.block.BlockNo.{BlockNo}
 use Rattle.objects.specs.declared.addr.Addr.{Addr}
@@ -24,6 +24,9 @@ use Rattle.txn.specs.declared.outcomes.Commit.{Commit}
 use Rattle.txn.specs.declared.outcomes.Commit.TheVariants as commit
 use Rattle.txn.specs.declared.outcomes.Want.{Want}
 use Rattle.txn.specs.declared.outcomes.Want.TheVariants as want
+use Rattle.store_promise.specs.Aims.{is_above}
+use Rattle.store_promise.specs.declared.aims.Aim.{Aim}
+use Rattle.store_promise.specs.declared.aims.Aim.TheVariants as aim
 use Rattle.store_promise.specs.Progress.{Progress}
 use Rattle.store_promise.specs.Progress as told
 use Rattle.store_promise.specs.declared.answers.Verdict.TheVariants as verdict
@@ -32,8 +35,9 @@ use Rattle.store_promise.specs.declared.events.Ending.TheVariants as ending
 use Rattle.store_promise.specs.declared.events.Cause.TheVariants as cause
 use Rattle.store_promise.specs.declared.events.Step.{Step}
 use Rattle.store_promise.specs.declared.events.Step.TheVariants as step
-use Rattle.store_workers.proofs.WorkCases.{Cases, by_cases}
-use Rattle.store_workers.specs.Asked.{Asking, with_fetched}
+use Rattle.store_workers.proofs.WorkCases.{Cases, IsWished, by_cases}
+use Rattle.store_workers.specs.Asked.{Asking}
+use Rattle.store_workers.specs.Knowing.{Knowing, known_in, with_aim, with_off, without_off}
 use Rattle.store_workers.specs.Seen.{Seen, seen_in}
 use Rattle.store_workers.specs.Stages.{IsWorkerAt, StandsAt, alone}
 use Rattle.store_workers.specs.Stages.{at_fetch, at_stage, begun_of, claimed_in, handed, held_in}
@@ -41,8 +45,9 @@ use Rattle.store_workers.specs.Stages.{progress_in, progress_of}
 use Rattle.store_workers.specs.WorkTells.{progress_after}
 use Rattle.store_workers.specs.WorkerAnswers.{after_commit, asked_wanted, begun_claimed}
 use Rattle.store_workers.specs.WorkerAnswers.{begun_wanted, claim_wish}
-use Rattle.store_workers.specs.WorkerAnswers.{committing_of, phase_claimed, phase_wanted, seen_claimed}
-use Rattle.store_workers.specs.WorkerAnswers.{seen_wanted, told_of}
+use Rattle.store_workers.specs.WorkerAnswers.{committing_of, known_claimed, known_off, known_wanted, object}
+use Rattle.store_workers.specs.WorkerAnswers.{phase_claimed, phase_off, phase_wanted, seen_claimed, seen_held}
+use Rattle.store_workers.specs.WorkerAnswers.{seen_taken, seen_wanted, told_of}
 use Rattle.store_workers.specs.WorkerAnswers.{wish_of, with_answer, with_entry}
 use Rattle.store_workers.specs.WorkerSteps.{GoesOn, HasBegun, HasClaimed, HasCommitted, HasGivenBack}
 use Rattle.store_workers.specs.WorkerSteps.{HasLacked, HasLeft}
@@ -57,148 +62,177 @@ use Rattle.store_workers.specs.declared.workers.parts.Phase.TheVariants.{Refused
 use Rattle.store_workers.specs.declared.workers.parts.State.{State}
 
 -- how far a worker is, by parts of its state
-abbrev progress_as : Phase → Option Job → Option ℕ → Option Seen → Asking → Progress
-progress_as phase job tx seen asked = progress_in phase job (begun_of tx seen asked.fetched) asked
+abbrev progress_as : Phase → Option Job → Option ℕ → Option Seen → Asking → Knowing → Progress
+progress_as phase job tx seen asked knowing = progress_in phase job (begun_of tx seen knowing) asked knowing
 
 -- ---- by parts of the state
 
-nothing_read : (core : CoreState) (job : told.Job) (number : ℕ) (seen : Option Seen)
+nothing_read : (core : CoreState) (job : told.Job) (number : ℕ) (known : List Aim) (seen : Option Seen)
     → IsSomeAnd seen (SawNothing core)
     → told.At job (told.Planning (record {
       number = number;
       held = held_in seen;
-      fetched = [];
       claimed = claimed_in seen;
+      taken = [];
+      left = known;
     }))
-    ≡ told.At job (told.Planning (record { number = number; held = []; fetched = []; claimed = [] }))
-nothing_read core job number None saw = absurd saw
-nothing_read core job number (Some seen) saw =
+    ≡ told.At job (told.Planning (told.fresh number known))
+nothing_read core job number known None saw = absurd saw
+nothing_read core job number known (Some seen) saw =
     ap (λ (objects : List ObjectBytes). told.At job (told.Planning (record {
       number = number;
       held = map (λ (o : ObjectBytes). alone o.addr) objects;
-      fetched = [];
       claimed = seen.claims;
+      taken = [];
+      left = known;
     }))) saw.objects ∙ ap (λ (claims : List BlockNo). told.At job (told.Planning (record {
       number = number;
       held = [];
-      fetched = [];
       claimed = claims;
+      taken = [];
+      left = known;
     }))) saw.claims
 
-module _ (broken : Bool) (job : Job) (tx : ℕ) (seen : Seen) (asked : Asking) where
-  held_then : (addr : Addr) (bytes : List ℕ)
-      → told.Planning (record (begun_of (Some tx) (Some seen) asked.fetched) {
-        held = map (λ (o : ObjectBytes). alone o.addr) (seen.objects ++ record { addr = addr; bytes = bytes } ∷ []);
-      }) ≡ told.Planning (told.with_held (begun_of (Some tx) (Some seen) asked.fetched) (alone addr))
-  held_then addr bytes = ap (λ (held : List told.Taken). told.Planning
-      (record (begun_of (Some tx) (Some seen) asked.fetched) {
-        held = held;
-      })) (map-append (λ (o : ObjectBytes). alone o.addr) seen.objects (record { addr = addr; bytes = bytes } ∷ []))
+module _ (broken : Bool) (job : Job) (tx : ℕ) (seen : Seen) (asked : Asking) (knowing : Knowing) (room : Bool)
+  where
+    abbrev its : told.Begun
+    its = begun_of (Some tx) (Some seen) knowing
 
-  back_is : (back : ℕ) → back ≡ tx → (phase : Phase) (read : Option Seen) (wished : Asking)
-      → progress_as phase (Some job) (Some back) read wished ≡ progress_as phase (Some job)
-      (Some tx) read wished
-  back_is back is phase read wished = ap (λ b. progress_as phase (Some job) (Some b) read wished) is
+    -- what it knows, whatever room there is
+    abbrev knows : Knowing
+    knows = record knowing { room = room }
 
-  pub wanted_told : (old new : CoreState) (addr : Addr) (answer : Want)
-      → IsWanted old tx addr modes.Exclusive answer new
-      → progress_as (phase_wanted answer) (Some job) (begun_wanted answer).tx
-      (seen_wanted addr answer (Some seen))
-      (asked_wanted addr answer asked)
-      ≡ progress_after broken (Some (step.Wanted addr modes.Exclusive (wish_of answer)))
-      (progress_as Planning (Some job) (Some tx) (Some seen) asked)
-  wanted_told old new addr (want.Held back bytes) is =
-      back_is back is.0 Planning (seen_wanted addr (want.Held back bytes) (Some seen)) asked
-      ∙ ap (λ stage. told.At (handed job) stage) (held_then addr bytes.items)
-  wanted_told old new addr (want.Fetch back io) is =
-      back_is back is.0 Reading (Some seen) (record asked { wish = Some addr })
-  wanted_told old new addr (want.Busy back) is = back_is back is.0 Planning (Some seen) asked
-  wanted_told old new addr (want.Loading back) is = back_is back is.0 Planning (Some seen) asked
-  wanted_told old new addr (want.Outside back) is = back_is back is.0 (Refused cause.Io) (Some seen) asked
-  wanted_told old new addr (want.NoMemory back) is =
-      back_is back is.0 (Refused cause.NoMemory) (Some seen) asked
+    held_by : (addr : Addr) (bytes : List ℕ) (left : List Aim)
+        → begun_of (Some tx) (seen_held left addr bytes (Some seen)) (with_aim (object addr) knows)
+        ≡ told.told_by left (told.with_taken its (object addr)) (alone addr)
+    held_by addr bytes [] = ap (λ (held : List told.Taken). record (told.with_taken its (object addr)) { held = held })
+        (map-append (λ (o : ObjectBytes). alone o.addr) seen.objects (record { addr = addr; bytes = bytes } ∷ []))
+    held_by addr bytes (next ∷ later) = refl
 
-  pub claimed_told : (old new : CoreState) (block : BlockNo) (addr : Addr) (answer : Claim)
-      → IsClaimed old tx addr answer new
-      → progress_as (phase_claimed answer) (Some job) (begun_claimed answer).tx
-      (seen_claimed block answer (Some seen)) asked
-      ≡ progress_after broken (Some (step.Claimed block (claim_wish answer)))
-      (progress_as Planning (Some job) (Some tx) (Some seen) asked)
-  claimed_told old new block addr (claim.Held back) is =
-      back_is back is.0 Planning (seen_claimed block (claim.Held back) (Some seen)) asked
-  claimed_told old new block addr (claim.Busy back) is = back_is back is.0 Planning (Some seen) asked
-  claimed_told old new block addr (claim.Loading back) is = back_is back is.0 Planning (Some seen) asked
-  claimed_told old new block addr (claim.Outside back) is =
-      back_is back is.0 (Refused cause.Io) (Some seen) asked
-  claimed_told old new block addr (claim.NoMemory back) is =
-      back_is back is.0 (Refused cause.NoMemory) (Some seen) asked
+    claimed_by : (block : BlockNo) (left : List Aim)
+        → begun_of (Some tx) (seen_taken left block (Some seen)) (with_aim (aim.Claim block) knows)
+        ≡ told.claimed_by left (told.with_taken its (aim.Claim block)) block
+    claimed_by block [] = refl
+    claimed_by block (next ∷ later) = refl
 
-  with_it : (base : State) (phase : Phase) (back : ℕ) → base.work.job ≡ Some job
-      → seen_in base.work.snap ≡ Some seen → base.asked ≡ asked → back ≡ tx
-      → progress_as phase base.work.job (Some back) (seen_in base.work.snap) base.asked
-      ≡ progress_as phase (Some job) (Some tx) (Some seen) asked
-  with_it base phase back job_is seen_is asked_is is =
-      ap (λ j. progress_as phase j (Some back) (seen_in base.work.snap) base.asked) job_is
-      ∙ ap (λ s. progress_as phase (Some job) (Some back) s base.asked) seen_is
-      ∙ ap (λ a. progress_as phase (Some job) (Some back) (Some seen) a) asked_is
-      ∙ back_is back is phase (Some seen) asked
+    -- who is kept off waits, or begins again
+    off : (wished : Aim) → progress_as (phase_off wished knowing) (Some job) (Some tx) (Some seen) asked
+        (known_off wished knows)
+        ≡ told.At (handed job) (told.kept_off its wished)
+    off wished = by (is_above wished knowing.taken)
+      where
+        by : (above : Bool) → progress_as (if above then Again else Planning) (Some job) (Some tx) (Some seen) asked
+            (if above then with_off wished knows else knows)
+            ≡ told.At (handed job) (if above then told.Again its (Some wished) else told.Planning its)
+        by true = refl
+        by false = refl
 
-  pub commit_told : (old new : CoreState) (done : Outcome) (added : ℕ) (planned : _) (answer : Commit Outcome)
-      (base : State) → base.work.job ≡ Some job → seen_in base.work.snap ≡ Some seen → base.asked ≡ asked
-      → IsCommit old tx planned done answer new
-      → progress_of (after_commit job done.reply answer base)
-      ≡ progress_after broken (Some (step.Commit added (committing_of answer)))
-      (progress_as Planning (Some job) (Some tx) (Some seen) asked)
-  commit_told old new done added planned (commit.Committed place) base job_is seen_is asked_is is =
-      by (is_answered_stable job.call)
-    where
-      by : (stable : Bool) → progress_of (with_entry job done.reply (told_of stable job done.reply place base))
-          ≡ told.going_on (handed job) (told.after_commit stable (begun_of (Some tx) (Some seen) asked.fetched)
-          (committing.Committed place))
-      by true = refl
-      by false = refl
-  commit_told old new done added planned (commit.Full back same) base job_is seen_is asked_is is =
-      with_it base Planning back job_is seen_is asked_is is.0.transaction
-  commit_told old new done added planned (commit.Foreign back same) base job_is seen_is asked_is is =
-      with_it base Again back job_is seen_is asked_is is.0.transaction
-  commit_told old new done added planned (commit.NoMemory back same) base job_is seen_is asked_is is =
-      with_it base (Refused cause.NoMemory) back job_is seen_is asked_is is.0.transaction
-  commit_told old new done added planned (commit.Broken back same) base job_is seen_is asked_is is =
-      with_it base (Refused cause.Io) back job_is seen_is asked_is is.0.transaction
-  commit_told old new done added planned (commit.Spent back same) base job_is seen_is asked_is is =
-      with_it base (Refused cause.Spent) back job_is seen_is asked_is is.0.transaction
+    back_is : (back : ℕ) → back ≡ tx → (phase : Phase) (read : Option Seen) (wished : Asking) (then' : Knowing)
+        → progress_as phase (Some job) (Some back) read wished then' ≡ progress_as phase (Some job)
+        (Some tx) read wished then'
+    back_is back is phase read wished then' =
+        ap (λ b. progress_as phase (Some job) (Some b) read wished then') is
 
--- the block that was fetched counts, well or not
-module _ (broken : Bool) (io : Fetch) (job : Job) (tx : Option ℕ) (seen : Option Seen) (asked : Asking) where
+    pub wanted_told : (old new : CoreState) (addr : Addr) (answer : Want)
+        → IsWanted old tx addr modes.Exclusive answer new
+        → progress_as (phase_wanted addr answer knowing) (Some job) (begun_wanted answer).tx
+        (seen_wanted knowing.left addr answer (Some seen))
+        (asked_wanted addr answer asked) (known_wanted addr answer knows)
+        ≡ progress_after broken (Some (step.Wanted addr modes.Exclusive (wish_of answer)))
+        (progress_as Planning (Some job) (Some tx) (Some seen) asked knowing)
+    wanted_told old new addr (want.Held back bytes) is =
+        back_is back is.0 Planning (seen_held knowing.left addr bytes.items (Some seen)) asked
+        (with_aim (object addr) knows)
+        ∙ ap (λ begun. told.At (handed job) (told.Planning begun)) (held_by addr bytes.items knowing.left)
+    wanted_told old new addr (want.Fetch back io) is =
+        back_is back is.0 Reading (Some seen) (record asked { wish = Some addr }) (with_aim (object addr) knows)
+    wanted_told old new addr (want.Busy back) is =
+        back_is back is.0 (phase_off (object addr) knowing) (Some seen) asked (known_off (object addr) knows)
+        ∙ off (object addr)
+    wanted_told old new addr (want.Loading back) is =
+        back_is back is.0 (phase_off (object addr) knowing) (Some seen) asked (known_off (object addr) knows)
+        ∙ off (object addr)
+    wanted_told old new addr (want.Outside back) is =
+        back_is back is.0 (Refused cause.Io) (Some seen) asked knows
+    wanted_told old new addr (want.NoMemory back) is =
+        back_is back is.0 (Refused cause.NoMemory) (Some seen) asked knows
+
+    pub claimed_told : (old new : CoreState) (block : BlockNo) (addr : Addr) (answer : Claim)
+        → IsClaimed old tx addr answer new
+        → progress_as (phase_claimed block answer knowing) (Some job) (begun_claimed answer).tx
+        (seen_claimed knowing.left block answer (Some seen)) asked (known_claimed block answer knows)
+        ≡ progress_after broken (Some (step.Claimed block (claim_wish answer)))
+        (progress_as Planning (Some job) (Some tx) (Some seen) asked knowing)
+    claimed_told old new block addr (claim.Held back) is =
+        back_is back is.0 Planning (seen_taken knowing.left block (Some seen)) asked
+        (with_aim (aim.Claim block) knows)
+        ∙ ap (λ begun. told.At (handed job) (told.Planning begun)) (claimed_by block knowing.left)
+    claimed_told old new block addr (claim.Busy back) is =
+        back_is back is.0 (phase_off (aim.Claim block) knowing) (Some seen) asked (known_off (aim.Claim block) knows)
+        ∙ off (aim.Claim block)
+    claimed_told old new block addr (claim.Loading back) is =
+        back_is back is.0 (phase_off (aim.Claim block) knowing) (Some seen) asked (known_off (aim.Claim block) knows)
+        ∙ off (aim.Claim block)
+    claimed_told old new block addr (claim.Outside back) is =
+        back_is back is.0 (Refused cause.Io) (Some seen) asked knows
+    claimed_told old new block addr (claim.NoMemory back) is =
+        back_is back is.0 (Refused cause.NoMemory) (Some seen) asked knows
+
+    with_it : (base : State) (phase : Phase) (back : ℕ) (then' : Knowing) → base.work.job ≡ Some job
+        → seen_in base.work.snap ≡ Some seen → base.asked ≡ asked → back ≡ tx
+        → progress_as phase base.work.job (Some back) (seen_in base.work.snap) base.asked then'
+        ≡ progress_as phase (Some job) (Some tx) (Some seen) asked then'
+    with_it base phase back then' job_is seen_is asked_is is =
+        ap (λ j. progress_as phase j (Some back) (seen_in base.work.snap) base.asked then') job_is
+        ∙ ap (λ s. progress_as phase (Some job) (Some back) s base.asked then') seen_is
+        ∙ ap (λ a. progress_as phase (Some job) (Some back) (Some seen) a then') asked_is
+        ∙ back_is back is phase (Some seen) asked then'
+
+    pub commit_told : (old new : CoreState) (done : Outcome) (added : ℕ) (planned : _) (answer : Commit Outcome)
+        (base : State) → base.work.job ≡ Some job → seen_in base.work.snap ≡ Some seen → base.asked ≡ asked
+        → base.known ≡ knows → IsCommit old tx planned done answer new
+        → progress_of (after_commit job done.reply answer base)
+        ≡ progress_after broken (Some (step.Commit added (committing_of answer)))
+        (progress_as Planning (Some job) (Some tx) (Some seen) asked knowing)
+    commit_told old new done added planned (commit.Committed place) base job_is seen_is asked_is known_is is =
+        by (is_answered_stable job.call)
+      where
+        by : (stable : Bool) → progress_of (with_entry job done.reply (told_of stable job done.reply place base))
+            ≡ told.going_on (handed job) (told.after_commit stable its (committing.Committed place))
+        by true = refl
+        by false = refl
+    commit_told old new done added planned (commit.Full back same) base job_is seen_is asked_is known_is is =
+        with_it base Planning back base.known job_is seen_is asked_is is.0.transaction
+        ∙ ap (λ k. progress_as Planning (Some job) (Some tx) (Some seen) asked k) known_is
+    commit_told old new done added planned (commit.Foreign back same) base job_is seen_is asked_is known_is is =
+        with_it base Again back (without_off base.known) job_is seen_is asked_is is.0.transaction
+        ∙ ap (λ k. progress_as Again (Some job) (Some tx) (Some seen) asked (without_off k)) known_is
+    commit_told old new done added planned (commit.NoMemory back same) base job_is seen_is asked_is known_is is =
+        with_it base (Refused cause.NoMemory) back base.known job_is seen_is asked_is is.0.transaction
+        ∙ ap (λ k. progress_as (Refused cause.NoMemory) (Some job) (Some tx) (Some seen) asked k) known_is
+    commit_told old new done added planned (commit.Broken back same) base job_is seen_is asked_is known_is is =
+        with_it base (Refused cause.Io) back base.known job_is seen_is asked_is is.0.transaction
+        ∙ ap (λ k. progress_as (Refused cause.Io) (Some job) (Some tx) (Some seen) asked k) known_is
+    commit_told old new done added planned (commit.Spent back same) base job_is seen_is asked_is known_is is =
+        with_it base (Refused cause.Spent) back base.known job_is seen_is asked_is is.0.transaction
+        ∙ ap (λ k. progress_as (Refused cause.Spent) (Some job) (Some tx) (Some seen) asked k) known_is
+
+-- the block that was fetched was taken before, well or not
+module _ (broken : Bool) (io : Fetch) (job : Job) (tx : Option ℕ) (seen : Option Seen) (asked : Asking)
+    (knowing : Knowing) where
   abbrev after_fetch : Bool → Option Addr → Progress
   after_fetch ok wish = progress_after broken (Some (given_step ok io)) (at_stage (Some job)
-      (at_fetch (λ taken. told.Read (begun_of tx seen asked.fetched) taken ok)
-      (begun_of tx seen asked.fetched) wish))
-
-  fetched_then : (addr : Addr) → begun_of tx seen (asked.fetched ++ addr ∷ [])
-      ≡ told.with_fetched (begun_of tx seen asked.fetched) (alone addr)
-  fetched_then addr = ap (λ (fetched : List told.Taken). record (begun_of tx seen []) { fetched = fetched })
-      (map-append alone asked.fetched (addr ∷ []))
+      (at_fetch (λ taken. told.Read (begun_of tx seen knowing) taken ok) (begun_of tx seen knowing) wish))
 
   given_by : (ok : Bool) (addr : Addr)
-      → progress_in (phase_given ok) (Some job) (begun_of tx seen (asked.fetched ++ addr ∷ [])) asked
-      ≡ after_fetch ok (Some addr)
-  given_by true addr = ap (λ b. told.At (handed job) (told.Planning b)) (fetched_then addr)
-  given_by false addr = ap (λ b. told.At (handed job) (told.Refused b cause.Io)) (fetched_then addr)
-
-  other_asked : (ok : Bool) (begun : told.Begun) (one other : Asking)
-      → progress_in (phase_given ok) (Some job) begun one ≡ progress_in (phase_given ok) (Some job) begun other
-  other_asked true begun one other = refl
-  other_asked false begun one other = refl
+      → progress_as (phase_given ok) (Some job) tx seen asked knowing ≡ after_fetch ok (Some addr)
+  given_by true addr = refl
+  given_by false addr = refl
 
   pub given_told : (ok : Bool) (addr : Addr) → asked.wish ≡ Some addr
-      → progress_as (phase_given ok) (Some job) tx seen (with_fetched asked)
-      ≡ progress_after broken (Some (given_step ok io)) (progress_as (Read ok) (Some job) tx seen asked)
-  given_told ok addr is =
-      other_asked ok (begun_of tx seen (with_fetched asked).fetched) (with_fetched asked) asked
-      ∙ ap (λ wish. progress_in (phase_given ok) (Some job)
-      (begun_of tx seen (asked.fetched ++ option_to_list wish)) asked) is
-      ∙ given_by ok addr ∙ sym (ap (after_fetch ok) is)
+      → progress_as (phase_given ok) (Some job) tx seen asked knowing
+      ≡ progress_after broken (Some (given_step ok io)) (progress_as (Read ok) (Some job) tx seen asked knowing)
+  given_told ok addr is = given_by ok addr ∙ sym (ap (after_fetch ok) is)
 
 -- ---- by cases of the step
 
@@ -217,7 +251,7 @@ module _ (boot : ℕ) (entries : List Entry) (old new : Side) where
   -- how far the worker was, in this phase and with this call
   abbrev was_with : Phase → Option Job → Progress
   was_with phase job =
-      progress_as phase job old.worker.begun.tx (seen_in old.worker.work.snap) old.worker.asked
+      progress_as phase job old.worker.begun.tx (seen_in old.worker.work.snap) old.worker.asked old.worker.known
 
   abbrev was : Phase → Progress
   was phase = was_with phase old.worker.work.job
@@ -225,6 +259,10 @@ module _ (boot : ℕ) (entries : List Entry) (old new : Side) where
   abbrev IsToldBy : Phase → Option Step → Type 0
   IsToldBy phase made = old.worker.phase ≡ phase → StandsAt boot entries phase old.worker
       → progress_of new.worker ≡ progress_after old.core.log.broken made (was phase)
+
+  -- what it knows then, before it is told the answer to its wish
+  abbrev knows_then : Knowing
+  knows_then = record old.worker.known { room = new.worker.known.room }
 
   stays : (phase : Phase) → new ≡ old → IsToldBy phase None
   stays phase same phase_is stands =
@@ -240,7 +278,7 @@ module _ (boot : ℕ) (entries : List Entry) (old new : Side) where
       → IsToldBy Called (Some (step.Begun (Ok number)))
   begins job number job_is has phase_is stands =
       ap progress_of has.worker
-      ∙ nothing_read old.core (handed job) number (seen_in new.worker.work.snap) has.seen
+      ∙ nothing_read old.core (handed job) number (known_in old.worker.known) (seen_in new.worker.work.snap) has.seen
       ∙ sym (with_call Called job (step.Begun (Ok number)) job_is)
 
   answers : (phase : Phase) (job : Job) (made : Step) → old.worker.work.job ≡ Some job
@@ -255,41 +293,44 @@ module _ (boot : ℕ) (entries : List Entry) (old new : Side) where
       → old.worker.begun.tx ≡ Some tx → seen_in old.worker.work.snap ≡ Some seen
       → progress_after old.core.log.broken (Some made) (was Planning)
       ≡ progress_after old.core.log.broken (Some made)
-      (progress_as Planning (Some job) (Some tx) (Some seen) old.worker.asked)
+      (progress_as Planning (Some job) (Some tx) (Some seen) old.worker.asked old.worker.known)
   planned made job tx seen job_is tx_is seen_is =
       with_call Planning job made job_is
       ∙ ap (λ t. progress_after old.core.log.broken (Some made)
-      (progress_as Planning (Some job) t (seen_in old.worker.work.snap) old.worker.asked)) tx_is
+      (progress_as Planning (Some job) t (seen_in old.worker.work.snap) old.worker.asked old.worker.known)) tx_is
       ∙ ap (λ s. progress_after old.core.log.broken (Some made)
-      (progress_as Planning (Some job) (Some tx) s old.worker.asked)) seen_is
+      (progress_as Planning (Some job) (Some tx) s old.worker.asked old.worker.known)) seen_is
 
   wants : (tx : ℕ) (addr : Addr) (made : Step) → old.worker.begun.tx ≡ Some tx
-      → IsNext old.worker (plan.Need addr) → (has : HasWanted tx addr old made new)
+      → IsWished old.worker (object addr) (plan.Need addr) → (has : HasWanted tx addr old made new)
       → IsToldBy Planning (Some (step.Wanted addr modes.Exclusive (wish_of has.answer)))
   wants tx addr made tx_is next has phase_is stands =
       ap progress_of has.worker
-      ∙ ap (λ s. progress_as (phase_wanted has.answer) old.worker.work.job (begun_wanted has.answer).tx s
-      (asked_wanted addr has.answer old.worker.asked))
-      (has.seen ∙ ap (seen_wanted addr has.answer) next.snap_is)
-      ∙ ap (λ j. progress_as (phase_wanted has.answer) j (begun_wanted has.answer).tx
-      (seen_wanted addr has.answer (seen_in (Some next.snap)))
-      (asked_wanted addr has.answer old.worker.asked)) next.job_is
-      ∙ wanted_told old.core.log.broken next.job tx _ old.worker.asked old.core new.core addr
-      has.answer has.core
+      ∙ ap (λ s. progress_as (phase_wanted addr has.answer old.worker.known) old.worker.work.job
+      (begun_wanted has.answer).tx s (asked_wanted addr has.answer old.worker.asked)
+      (known_wanted addr has.answer knows_then))
+      (has.seen ∙ ap (seen_wanted old.worker.known.left addr has.answer) next.snap_is)
+      ∙ ap (λ j. progress_as (phase_wanted addr has.answer old.worker.known) j (begun_wanted has.answer).tx
+      (seen_wanted old.worker.known.left addr has.answer (seen_in (Some next.snap)))
+      (asked_wanted addr has.answer old.worker.asked) (known_wanted addr has.answer knows_then)) next.job_is
+      ∙ wanted_told old.core.log.broken next.job tx _ old.worker.asked old.worker.known new.worker.known.room
+      old.core new.core addr has.answer has.core
       ∙ sym (planned (step.Wanted addr modes.Exclusive (wish_of has.answer)) next.job tx _ next.job_is tx_is
       next.snap_is)
 
   claims : (tx : ℕ) (block : BlockNo) (made : Step) → old.worker.begun.tx ≡ Some tx
-      → IsNext old.worker (plan.Claim block) → (has : HasClaimed tx block old made new)
+      → IsWished old.worker (aim.Claim block) (plan.Claim block) → (has : HasClaimed tx block old made new)
       → IsToldBy Planning (Some (step.Claimed block (claim_wish has.answer)))
   claims tx block made tx_is next has phase_is stands =
       ap progress_of has.worker
-      ∙ ap (λ s. progress_as (phase_claimed has.answer) old.worker.work.job (begun_claimed has.answer).tx s
-      old.worker.asked) (has.seen ∙ ap (seen_claimed block has.answer) next.snap_is)
-      ∙ ap (λ j. progress_as (phase_claimed has.answer) j (begun_claimed has.answer).tx
-      (seen_claimed block has.answer (seen_in (Some next.snap))) old.worker.asked) next.job_is
-      ∙ claimed_told old.core.log.broken next.job tx _ old.worker.asked old.core new.core block
-      has.core.0 has.answer has.core.2
+      ∙ ap (λ s. progress_as (phase_claimed block has.answer old.worker.known) old.worker.work.job
+      (begun_claimed has.answer).tx s old.worker.asked (known_claimed block has.answer knows_then))
+      (has.seen ∙ ap (seen_claimed old.worker.known.left block has.answer) next.snap_is)
+      ∙ ap (λ j. progress_as (phase_claimed block has.answer old.worker.known) j (begun_claimed has.answer).tx
+      (seen_claimed old.worker.known.left block has.answer (seen_in (Some next.snap))) old.worker.asked
+      (known_claimed block has.answer knows_then)) next.job_is
+      ∙ claimed_told old.core.log.broken next.job tx _ old.worker.asked old.worker.known new.worker.known.room
+      old.core new.core block has.core.0 has.answer has.core.2
       ∙ sym (planned (step.Claimed block (claim_wish has.answer)) next.job tx _ next.job_is tx_is next.snap_is)
 
   commits : (job : Job) (tx : ℕ) (done : Outcome) (made : Step) → old.worker.begun.tx ≡ Some tx
@@ -299,10 +340,10 @@ module _ (boot : ℕ) (entries : List Entry) (old new : Side) where
       (committing_of has.answer)))
   commits job tx done made tx_is next job_is has phase_is stands =
       ap progress_of has.worker
-      ∙ commit_told old.core.log.broken job tx _ old.worker.asked old.core new.core done
-      (added_blocks old.core.log (blocks_of done.written)) _ has.answer
+      ∙ commit_told old.core.log.broken job tx _ old.worker.asked old.worker.known new.worker.known.room
+      old.core new.core done (added_blocks old.core.log (blocks_of done.written)) _ has.answer
       (record (with_snap new.worker old.worker) { begun = none_begun }) job_is
-      (has.seen ∙ next.snap_is) refl has.core
+      (has.seen ∙ next.snap_is) refl refl has.core
       ∙ sym (planned (step.Commit (added_blocks old.core.log (blocks_of done.written))
       (committing_of has.answer))
       job tx _ job_is tx_is next.snap_is)
@@ -320,15 +361,15 @@ module _ (boot : ℕ) (entries : List Entry) (old new : Side) where
       let (addr, wish_is, same) = some_of old.worker.asked.wish stands.1 in
       ap progress_of has.worker
       ∙ ap (λ j. progress_as (phase_given ok) j old.worker.begun.tx (seen_in old.worker.work.snap)
-      (with_fetched old.worker.asked)) job_is
+      old.worker.asked old.worker.known) job_is
       ∙ given_told old.core.log.broken io job old.worker.begun.tx (seen_in old.worker.work.snap)
-      old.worker.asked ok addr wish_is
+      old.worker.asked old.worker.known ok addr wish_is
       ∙ sym (with_call (Read ok) job (given_step ok io) job_is)
 
   leaves : (tx : ℕ) (made : Step) → HasLeft tx old made new → IsToldBy Again (Some (step.Ended ending.Again))
   leaves tx made has phase_is stands =
       let (job, job_is, rest) = some_of old.worker.work.job stands in
-      ap progress_of has.worker ∙ ap (λ j. at_stage j told.Called) job_is
+      ap progress_of has.worker ∙ ap (λ j. at_stage j (told.Called (known_in old.worker.known))) job_is
       ∙ sym (with_call Again job (step.Ended ending.Again) job_is)
 
   waits : (place : Seq) (made : Step) → (has : Waits place old made new)
@@ -365,8 +406,8 @@ module _ (boot : ℕ) (entries : List Entry) (old new : Side) where
         answers Called job step.Replied job_is (ap progress_of is) refl;
     wanted = wants;
     claimed = claims;
-    committed = commits;
-    lacked = λ tx made tx_is has. lacks tx made has;
+    committed = λ job tx done made tx_is next none. commits job tx done made tx_is next;
+    lacked = λ tx made tx_is none has. lacks tx made has;
     given = λ ok io made io_is has. gives ok io made has;
     refused = λ why job tx made job_is tx_is has phase_is stands.
         answers (Refused why) job (step.Ended ending.Refused) job_is (ap progress_of has.worker) refl;

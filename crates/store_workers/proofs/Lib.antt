@@ -8,4 +8,6 @@ pub mod StaysAlone
 pub mod StepKinds
 pub mod StepTells
 pub mod WorkCases
+pub mod Placing
+pub mod LeavesNothing
 pub mod StillFits

@@ -44,13 +44,13 @@ use Rattle.store_promise.specs.declared.events.Step.TheVariants as step
 use Rattle.layout.proofs.OnGrid.{one_or_apart}
 use Rattle.store_workers.proofs.StepKinds.{Beginning, beginning, ending}
 use Rattle.store_workers.proofs.StepKinds.{begun, refused, replied, lacked, committed}
-use Rattle.store_workers.specs.Alone.{HasOfCall, HasTaken, IsOutAlone, PlansAlone, is_kept_off}
+use Rattle.store_workers.specs.Alone.{HasOfCall, HasTaken, IsOutAlone, LeavesNothing, PlansAlone, is_kept_off}
 use Rattle.store_images.specs.Fetches.{FetchesOnly}
 use Rattle.store_workers.specs.Phases.{has_fetch}
 use Rattle.store_workers.specs.Seen.{Seen, seen_in}
 use Rattle.store_workers.specs.WorkerAnswers.{claim_wish, committing_of, wish_of}
 use Rattle.store_workers.specs.WorkerSteps.{GoesByNext, GoesOn, HasGivenBack, HasLeft, HasRefused}
-use Rattle.store_workers.specs.WorkerSteps.{IsNext, Side}
+use Rattle.store_workers.specs.WorkerSteps.{IsNext, Side, TakesAgain}
 use Rattle.store_workers.specs.WorkerSteps.{planned_of}
 use Rattle.store_workers.specs.declared.workers.parts.Job.{Job}
 use Rattle.store_workers.specs.declared.workers.parts.Phase.{Phase}
@@ -242,22 +242,28 @@ module _ (old new : Side) (tidy : AreTidy old.core) (alone : IsOutAlone old.work
   left_well made None has = absurd has
   left_well made (Some tx) has = ap (λ m. is_kept_off (Some m)) has.made_is
 
+  -- nothing is left to be taken again
+  none_again : {A : Type 0} (made : Step) → old.worker.known.left ≡ [] → TakesAgain old made new → A
+  none_again made none has = let never : has.next ∷ has.later ≡ [] = sym has.left ∙ none in cc
+
   pub never_kept_off : (phase : Phase) (made : Option Step) → is_some old.worker.begun.io ≡ has_fetch phase
-      → PlansAlone phase old.worker old.core → GoesOn phase old made new → is_kept_off made ≡ false
-  never_kept_off Idle made fetch plans has = ap is_kept_off has.0
-  never_kept_off Reading made fetch plans has = ap is_kept_off has.0
-  never_kept_off Called (Some made) fetch plans has = called_well made (beginning old new made has)
-  never_kept_off Planning (Some made) fetch plans has =
+      → PlansAlone phase old.worker old.core → LeavesNothing phase old.worker.known → GoesOn phase old made new
+      → is_kept_off made ≡ false
+  never_kept_off Idle made fetch plans left has = ap is_kept_off has.0
+  never_kept_off Reading made fetch plans left has = ap is_kept_off has.0
+  never_kept_off Called (Some made) fetch plans left has = called_well made (beginning old new made has)
+  never_kept_off Planning (Some made) fetch plans left (inl has) =
       by_plan has.tx made has.next has.tx_is has.next_is plans
       (no_fetch old.worker.begun.io old.core fetch fetches) has.goes
-  never_kept_off (Read ok) (Some made) fetch plans has = given_well ok made old.worker.begun.io has
-  never_kept_off (Refused why) (Some made) fetch plans has =
+  never_kept_off Planning (Some made) fetch plans left (inr has) = none_again made left has
+  never_kept_off (Read ok) (Some made) fetch plans left has = given_well ok made old.worker.begun.io has
+  never_kept_off (Refused why) (Some made) fetch plans left has =
       refused_well why made old.worker.work.job old.worker.begun.tx has
-  never_kept_off Again (Some made) fetch plans has = left_well made old.worker.begun.tx has
-  never_kept_off (Waiting place) (Some made) fetch plans has = ap (λ m. is_kept_off (Some m)) has.made_is
-  never_kept_off Called None fetch plans has = absurd has
-  never_kept_off Planning None fetch plans has = absurd has
-  never_kept_off (Read ok) None fetch plans has = absurd has
-  never_kept_off (Refused why) None fetch plans has = absurd has
-  never_kept_off Again None fetch plans has = absurd has
-  never_kept_off (Waiting place) None fetch plans has = absurd has
+  never_kept_off Again (Some made) fetch plans left has = left_well made old.worker.begun.tx has
+  never_kept_off (Waiting place) (Some made) fetch plans left has = ap (λ m. is_kept_off (Some m)) has.made_is
+  never_kept_off Called None fetch plans left has = absurd has
+  never_kept_off Planning None fetch plans left has = absurd has
+  never_kept_off (Read ok) None fetch plans left has = absurd has
+  never_kept_off (Refused why) None fetch plans left has = absurd has
+  never_kept_off Again None fetch plans left has = absurd has
+  never_kept_off (Waiting place) None fetch plans left has = absurd has

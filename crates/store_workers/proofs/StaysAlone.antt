@@ -1,6 +1,6 @@
 -- A worker that is alone in its store stays alone by each of its steps.
 use Rattle.std.proofs.Common.{◌≡◌, ◌∙◌, refl, sym, ap, subst, true≢false, ℕ, Bool, true, false, not, ◌&&◌, ◌||◌}
-use Rattle.std.proofs.Common.{cond, nat_eq, Option, Some, None, is_some, List, [], ◌∷◌, ◌++◌, All}
+use Rattle.std.proofs.Common.{inl, inr, if◌then◌else◌, cond, nat_eq, Option, Some, None, is_some, List, [], ◌∷◌, ◌++◌, All}
 use Rattle.std.specs.Prelude.{IsSomeAnd, option_to_list}
 use Rattle.std.specs.List.{list_any}
 use Rattle.std.proofs.lemmas.Bool.{eqb-true}
@@ -50,16 +50,22 @@ use Rattle.store_promise.specs.declared.events.Cause.{Cause}
 use Rattle.store_promise.specs.declared.events.Cause.TheVariants as cause
 use Rattle.store_promise.specs.declared.events.Step.{Step}
 use Rattle.store_promise.specs.declared.events.Step.TheVariants as step
-use Rattle.store_workers.proofs.LoneWorker.{has_of, has_so, no_fetch, seen_of}
+use Rattle.store_workers.proofs.LeavesNothing.{leaves_nothing}
+use Rattle.store_workers.proofs.LoneWorker.{has_of, has_so, never_kept_off, no_fetch, seen_of}
 use Rattle.store_workers.proofs.StillFits.{still_alone}
 use Rattle.store_workers.proofs.StepKinds.{Beginning, IsTold, beginning, ending}
 use Rattle.store_workers.proofs.StepKinds.{begun, refused, replied, lacked, committed}
-use Rattle.store_workers.specs.Alone.{HasOfCall, HasTaken, IsOutAlone, PlansAlone, StaysAlone, is_full}
+use Rattle.store_workers.specs.Alone.{HasOfCall, HasTaken, IsOutAlone, LeavesNothing, PlansAlone, StaysAlone}
+use Rattle.store_workers.specs.Alone.{is_full}
+use Rattle.store_promise.specs.Aims.{is_above}
+use Rattle.store_promise.specs.declared.aims.Aim.{Aim}
+use Rattle.store_promise.specs.declared.aims.Aim.TheVariants as aim
 use Rattle.store_images.specs.Fetches.{FetchesOnly, is_fetch_of}
 use Rattle.store_workers.specs.Phases.{has_fetch, has_transaction}
 use Rattle.store_workers.specs.Seen.{Seen, seen_in, with_claim, with_object}
 use Rattle.store_workers.specs.WorkerAnswers.{after_commit, begun_claimed, begun_wanted, committing_of}
-use Rattle.store_workers.specs.WorkerAnswers.{phase_claimed, phase_wanted, seen_claimed, seen_wanted, told_of}
+use Rattle.store_workers.specs.WorkerAnswers.{object, phase_claimed, phase_off, phase_wanted, seen_claimed}
+use Rattle.store_workers.specs.WorkerAnswers.{seen_held, seen_taken, seen_wanted, told_of}
 use Rattle.store_workers.specs.WorkerAnswers.{with_answer, with_entry}
 use Rattle.store_workers.specs.WorkerSteps.{GoesByNext, GoesOn, HasAborted, HasBegun, HasGivenBack, HasLacked}
 use Rattle.store_workers.specs.WorkerSteps.{HasClaimed, HasLeft, HasRefused}
@@ -337,8 +343,17 @@ module _ (old new : Side) (tidy : AreTidy old.core) (alone : IsOutAlone old.work
 
     module _ (job : Job) (snap : Snap) (job_is : old.worker.work.job ≡ Some job)
         (snap_is : seen_in old.worker.work.snap ≡ seen_in (Some snap))
-        (has : HasOfCall tx old.core (seen_of snap))
+        (has : HasOfCall tx old.core (seen_of snap)) (left : old.worker.known.left ≡ [])
       where
+        -- who is kept off has what it had
+        off_plans : (wished : Aim) → HasTaken new.worker new.core
+            → PlansAlone (phase_off wished old.worker.known) new.worker new.core
+        off_plans wished taken = by (is_above wished old.worker.known.taken)
+          where
+            by : (above : Bool) → PlansAlone (if above then Again else Planning) new.worker new.core
+            by true = tt
+            by false = taken
+
         wanted_so : (addr : Addr) (made : Step) → IsPlanFor snap (plan.Need addr)
             → HasWanted tx addr old made new
             → StaysLeft (Some made) new.worker new.core
@@ -366,8 +381,10 @@ module _ (old new : Side) (tidy : AreTidy old.core) (alone : IsOutAlone old.work
             still core = subst (λ (c : CoreState). FetchesOnly None c) (sym core) none
 
             by : (answer : Want) → IsWanted old.core tx addr modes.Exclusive answer new.core
-                → new.worker.phase ≡ phase_wanted answer → new.worker.begun ≡ begun_wanted answer
-                → seen_in new.worker.work.snap ≡ seen_wanted addr answer (seen_in old.worker.work.snap)
+                → new.worker.phase ≡ phase_wanted addr answer old.worker.known
+                → new.worker.begun ≡ begun_wanted answer
+                → seen_in new.worker.work.snap
+                ≡ seen_wanted old.worker.known.left addr answer (seen_in old.worker.work.snap)
                 → StaysLeft (Some made) new.worker new.core
             by (want.Held back bytes) is phase got seen =
                 let new_tx : new.worker.begun.tx ≡ Some tx =
@@ -375,7 +392,8 @@ module _ (old new : Side) (tidy : AreTidy old.core) (alone : IsOutAlone old.work
                 alone_by (Some made) new.worker new.core Planning None phase (ap (λ (b : Begun). b.io) got)
                 (λ block. is.2.leaves.fetches block ∙ none block)
                 (λ room. has_so new.worker new.core job tx _ new_job new_tx
-                (seen ∙ ap (with_object addr bytes.items) snap_is)
+                (seen ∙ ap (λ l. seen_held l addr bytes.items (seen_in old.worker.work.snap)) left
+                ∙ ap (with_object addr bytes.items) snap_is)
                 (read_one old.core new.core tx snap addr has is_plan (reads new_tx) bytes.items is.2))
             by (want.Fetch back io) is phase got seen =
                 let new_tx : new.worker.begun.tx ≡ Some tx =
@@ -387,18 +405,18 @@ module _ (old new : Side) (tidy : AreTidy old.core) (alone : IsOutAlone old.work
                 (λ room. has_so new.worker new.core job tx (seen_of snap) new_job new_tx (seen ∙ snap_is)
                 (fetch_one old.core new.core tx snap addr has is_plan (reads new_tx) io is.2))
             by (want.Busy back) is phase got seen =
-                alone_by (Some made) new.worker new.core Planning None phase
-                (ap (λ (b : Begun). b.io) got) (still is.2)
-                (λ room. same_core is.2 (ap (λ (b : Begun). b.tx) got ∙ ap (λ t. Some t) is.0) seen)
+                alone_by (Some made) new.worker new.core (phase_off (object addr) old.worker.known) None phase
+                (ap (λ (b : Begun). b.io) got) (still is.2) (λ room. off_plans (object addr)
+                (same_core is.2 (ap (λ (b : Begun). b.tx) got ∙ ap (λ t. Some t) is.0) seen))
             by (want.Loading back) is phase got seen =
-                alone_by (Some made) new.worker new.core Planning None phase
-                (ap (λ (b : Begun). b.io) got) (still is.2)
-                (λ room. same_core is.2 (ap (λ (b : Begun). b.tx) got ∙ ap (λ t. Some t) is.0) seen)
+                alone_by (Some made) new.worker new.core (phase_off (object addr) old.worker.known) None phase
+                (ap (λ (b : Begun). b.io) got) (still is.2) (λ room. off_plans (object addr)
+                (same_core is.2 (ap (λ (b : Begun). b.tx) got ∙ ap (λ t. Some t) is.0) seen))
             by (want.Outside back) is phase got seen =
-                alone_by (Some made) new.worker new.core (phase_wanted (want.Outside back)) None phase
+                alone_by (Some made) new.worker new.core (phase_wanted addr (want.Outside back) old.worker.known) None phase
                 (ap (λ (b : Begun). b.io) got) (still is.2) (λ room. tt)
             by (want.NoMemory back) is phase got seen =
-                alone_by (Some made) new.worker new.core (phase_wanted (want.NoMemory back)) None phase
+                alone_by (Some made) new.worker new.core (phase_wanted addr (want.NoMemory back) old.worker.known) None phase
                 (ap (λ (b : Begun). b.io) got) (still is.2) (λ room. tt)
 
         claimed_so : (block : BlockNo) (made : Step) → IsPlanFor snap (plan.Claim block)
@@ -420,8 +438,10 @@ module _ (old new : Side) (tidy : AreTidy old.core) (alone : IsOutAlone old.work
             still core = subst (λ (c : CoreState). FetchesOnly None c) (sym core) none
 
             by : (answer : Claim) → IsClaimed old.core tx claims.core.0 answer new.core
-                → new.worker.phase ≡ phase_claimed answer → new.worker.begun ≡ begun_claimed answer
-                → seen_in new.worker.work.snap ≡ seen_claimed block answer (seen_in old.worker.work.snap)
+                → new.worker.phase ≡ phase_claimed block answer old.worker.known
+                → new.worker.begun ≡ begun_claimed answer
+                → seen_in new.worker.work.snap
+                ≡ seen_claimed old.worker.known.left block answer (seen_in old.worker.work.snap)
                 → StaysLeft (Some made) new.worker new.core
             by (claim.Held back) is phase got seen =
                 let new_tx : new.worker.begun.tx ≡ Some tx =
@@ -429,22 +449,23 @@ module _ (old new : Side) (tidy : AreTidy old.core) (alone : IsOutAlone old.work
                 alone_by (Some made) new.worker new.core Planning None phase (ap (λ (b : Begun). b.io) got)
                 (λ block. is.2.leaves.fetches block ∙ none block)
                 (λ room. has_so new.worker new.core job tx _ new_job new_tx
-                (seen ∙ ap (with_claim block) snap_is)
+                (seen ∙ ap (λ l. seen_taken l block (seen_in old.worker.work.snap)) left
+                ∙ ap (with_claim block) snap_is)
                 (claim_one old.core new.core tx snap block claims.core.0 has is_plan
                 (keeps tx (λ _. new_tx)) claims.core.1 is.2))
             by (claim.Busy back) is phase got seen =
-                alone_by (Some made) new.worker new.core Planning None phase
-                (ap (λ (b : Begun). b.io) got) (still is.2)
-                (λ room. same_core is.2 (ap (λ (b : Begun). b.tx) got ∙ ap (λ t. Some t) is.0) seen)
+                alone_by (Some made) new.worker new.core (phase_off (aim.Claim block) old.worker.known) None phase
+                (ap (λ (b : Begun). b.io) got) (still is.2) (λ room. off_plans (aim.Claim block)
+                (same_core is.2 (ap (λ (b : Begun). b.tx) got ∙ ap (λ t. Some t) is.0) seen))
             by (claim.Loading back) is phase got seen =
-                alone_by (Some made) new.worker new.core Planning None phase
-                (ap (λ (b : Begun). b.io) got) (still is.2)
-                (λ room. same_core is.2 (ap (λ (b : Begun). b.tx) got ∙ ap (λ t. Some t) is.0) seen)
+                alone_by (Some made) new.worker new.core (phase_off (aim.Claim block) old.worker.known) None phase
+                (ap (λ (b : Begun). b.io) got) (still is.2) (λ room. off_plans (aim.Claim block)
+                (same_core is.2 (ap (λ (b : Begun). b.tx) got ∙ ap (λ t. Some t) is.0) seen))
             by (claim.Outside back) is phase got seen =
-                alone_by (Some made) new.worker new.core (phase_claimed (claim.Outside back)) None phase
+                alone_by (Some made) new.worker new.core (phase_claimed block (claim.Outside back) old.worker.known) None phase
                 (ap (λ (b : Begun). b.io) got) (still is.2) (λ room. tt)
             by (claim.NoMemory back) is phase got seen =
-                alone_by (Some made) new.worker new.core (phase_claimed (claim.NoMemory back)) None phase
+                alone_by (Some made) new.worker new.core (phase_claimed block (claim.NoMemory back) old.worker.known) None phase
                 (ap (λ (b : Begun). b.io) got) (still is.2) (λ room. tt)
 
     -- what came of a commit
@@ -494,9 +515,10 @@ module _ (old new : Side) (tidy : AreTidy old.core) (alone : IsOutAlone old.work
     lacked_so made has = aborted_so (Some made) Idle (λ worker core. tt)
         (ap (λ (s : State). s.phase) has.worker) (ap (λ (s : State). s.begun.io) has.worker) has.core
 
-    planned_so : (made : Step) (next : Plan) → IsNext old.worker next → HasTaken old.worker old.core
+    planned_so : (made : Step) (next : Plan) → old.worker.known.left ≡ [] → IsNext old.worker next
+        → HasTaken old.worker old.core
         → GoesByNext next tx old made new → StaysLeft (Some made) new.worker new.core
-    planned_so made next is taken goes = of_next next is.plan goes
+    planned_so made next left is taken goes = of_next next is.plan goes
       where
         has : HasOfCall tx old.core (seen_of is.snap)
         has = has_of old.worker old.core is.job tx (seen_of is.snap) is.job_is tx_is is.snap_is taken
@@ -504,9 +526,9 @@ module _ (old new : Side) (tidy : AreTidy old.core) (alone : IsOutAlone old.work
         of_next : (next : Plan) → IsPlanFor is.snap next → GoesByNext next tx old made new
             → StaysLeft (Some made) new.worker new.core
         of_next (plan.Need addr) is_plan goes =
-            wanted_so is.job is.snap is.job_is is.snap_is has addr made is_plan goes
+            wanted_so is.job is.snap is.job_is is.snap_is has left addr made is_plan goes
         of_next (plan.Claim block) is_plan goes =
-            claimed_so is.job is.snap is.job_is is.snap_is has block made is_plan goes
+            claimed_so is.job is.snap is.job_is is.snap_is has left block made is_plan goes
         of_next (plan.Done done) is_plan goes = elim (ending old new tx done made goes) [
           | lacked has_lacked ↦ lacked_so made has_lacked
           | committed job job_is has ↦
@@ -617,36 +639,42 @@ module _ (old new : Side) (tidy : AreTidy old.core) (alone : IsOutAlone old.work
 
   stays_left : (phase : Phase) (made : Option Step) → old.worker.phase ≡ phase
       → is_some old.worker.begun.tx ≡ has_transaction phase → is_some old.worker.begun.io ≡ has_fetch phase
-      → PlansAlone phase old.worker old.core → GoesOn phase old made new → StaysLeft made new.worker new.core
-  stays_left Idle made at out fetch plans has = rests_so made Idle at plans has.1
-  stays_left Reading made at out fetch plans has = rests_so made Reading at plans has.1
-  stays_left Called (Some made) at out fetch plans has =
+      → PlansAlone phase old.worker old.core → LeavesNothing phase old.worker.known → GoesOn phase old made new
+      → StaysLeft made new.worker new.core
+  stays_left Idle made at out fetch plans left has = rests_so made Idle at plans has.1
+  stays_left Reading made at out fetch plans left has = rests_so made Reading at plans has.1
+  stays_left Called (Some made) at out fetch plans left has =
       called_so made (no_tx old.worker.begun.tx out) (no_fetch old.worker.begun.io old.core fetch fetches)
       (beginning old new made has)
-  stays_left Planning (Some made) at out fetch plans has =
-      planned_so has.tx has.tx_is (no_fetch old.worker.begun.io old.core fetch fetches) made has.next
+  stays_left Planning (Some made) at out fetch plans left (inl has) =
+      planned_so has.tx has.tx_is (no_fetch old.worker.begun.io old.core fetch fetches) made has.next left
       has.next_is plans has.goes
-  stays_left (Read ok) (Some made) at out fetch plans has = read_so ok made old.worker.begun.io refl plans has
-  stays_left (Refused why) (Some made) at out fetch plans has =
+  stays_left Planning (Some made) at out fetch plans left (inr has) =
+      let never : has.next ∷ has.later ≡ [] = sym has.left ∙ left in cc
+  stays_left (Read ok) (Some made) at out fetch plans left has = read_so ok made old.worker.begun.io refl plans has
+  stays_left (Refused why) (Some made) at out fetch plans left has =
       refused_so why made (no_fetch old.worker.begun.io old.core fetch fetches) old.worker.work.job
       old.worker.begun.tx refl has
-  stays_left Again (Some made) at out fetch plans has =
+  stays_left Again (Some made) at out fetch plans left has =
       left_so made (no_fetch old.worker.begun.io old.core fetch fetches) old.worker.begun.tx refl has
-  stays_left (Waiting place) (Some made) at out fetch plans has = waited_so place made at has
-  stays_left Called None at out fetch plans has = absurd has
-  stays_left Planning None at out fetch plans has = absurd has
-  stays_left (Read ok) None at out fetch plans has = absurd has
-  stays_left (Refused why) None at out fetch plans has = absurd has
-  stays_left Again None at out fetch plans has = absurd has
-  stays_left (Waiting place) None at out fetch plans has = absurd has
+  stays_left (Waiting place) (Some made) at out fetch plans left has = waited_so place made at has
+  stays_left Called None at out fetch plans left has = absurd has
+  stays_left Planning None at out fetch plans left has = absurd has
+  stays_left (Read ok) None at out fetch plans left has = absurd has
+  stays_left (Refused why) None at out fetch plans left has = absurd has
+  stays_left Again None at out fetch plans left has = absurd has
+  stays_left (Waiting place) None at out fetch plans left has = absurd has
 
   pub stays_alone : (phase : Phase) (made : Option Step) → old.worker.phase ≡ phase
       → is_some old.worker.begun.tx ≡ has_transaction phase → is_some old.worker.begun.io ≡ has_fetch phase
-      → PlansAlone phase old.worker old.core → GoesOn phase old made new → StaysAlone made new.worker new.core
-  stays_alone phase made at out fetch plans goes =
-      let left : StaysLeft made new.worker new.core = stays_left phase made at out fetch plans goes in
+      → PlansAlone phase old.worker old.core → LeavesNothing phase old.worker.known → GoesOn phase old made new
+      → StaysAlone made new.worker new.core
+  stays_alone phase made at out fetch plans nothing goes =
+      let left : StaysLeft made new.worker new.core = stays_left phase made at out fetch plans nothing goes in
       record {
         out = still_alone old new phase out alone made goes;
         fetches = left.fetches;
+        left = leaves_nothing old new phase made at nothing
+            (never_kept_off old new tidy alone fetches phase made fetch plans nothing goes) goes;
         plans = left.plans;
       }

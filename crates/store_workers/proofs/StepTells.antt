@@ -1,7 +1,7 @@
 -- What lies ready after a worker's step is what the promise wants, and once it is told the worker stands
 -- between the events again.
 use Rattle.std.proofs.Common.{arith, ◌≡◌, ◌∙◌, refl, sym, ap, ap₂, subst, true≢false, ℕ, ◌+◌, zero, suc, Bool}
-use Rattle.std.proofs.Common.{true, false, not}
+use Rattle.std.proofs.Common.{true, false, not, if◌then◌else◌}
 use Rattle.std.proofs.Common.{◌&&◌, Option, Some, None, Ok, Err, IfSome, is_some, List, [], ◌∷◌, ◌++◌, length}
 use Rattle.std.proofs.Common.{slice_get}
 use Rattle.std.specs.Prelude.{IsSomeAnd, unwrap_or}
@@ -27,6 +27,9 @@ use Rattle.txn.specs.declared.outcomes.Commit.{Commit}
 use Rattle.txn.specs.declared.outcomes.Commit.TheVariants as commit
 use Rattle.txn.specs.declared.outcomes.Want.{Want}
 use Rattle.txn.specs.declared.outcomes.Want.TheVariants as want
+use Rattle.store_promise.specs.Aims.{is_above}
+use Rattle.store_promise.specs.declared.aims.Aim.{Aim}
+use Rattle.store_promise.specs.declared.aims.Aim.TheVariants as aim
 use Rattle.store_promise.specs.Progress.{Progress, Stage, is_idle}
 use Rattle.store_promise.specs.Progress as told
 use Rattle.store_promise.specs.Transcript.{Transcript}
@@ -43,8 +46,9 @@ use Rattle.store_promise.specs.declared.events.Step.{Step}
 use Rattle.store_promise.specs.declared.events.Step.TheVariants as step
 use Rattle.store_promise.specs.declared.transcript.Answer.{Answer}
 use Rattle.store_workers.proofs.HowFar.{goes_so_far, some_of, without_broken_reply, without_reply}
-use Rattle.store_workers.proofs.WorkCases.{Cases, by_cases}
-use Rattle.store_workers.specs.Asked.{Asking, with_fetched}
+use Rattle.store_workers.proofs.WorkCases.{Cases, IsWished, by_cases}
+use Rattle.store_workers.specs.Asked.{Asking}
+use Rattle.store_workers.specs.Knowing.{Knowing, known_in, without_off}
 use Rattle.store_workers.specs.Seen.{seen_in}
 use Rattle.store_workers.specs.Stages.{IsJobIn, IsJobOf, IsWorkerAt, RunsIn, StandsAt, at_stage}
 use Rattle.store_workers.specs.Stages.{begun_of, entry_at, handed, progress_in, progress_of}
@@ -54,7 +58,8 @@ use Rattle.store_workers.specs.WorkTells.{TellsEntry, TellsStep}
 use Rattle.store_workers.specs.WorkTells.{entries_ready, with_ready}
 use Rattle.store_workers.specs.WorkerAnswers.{after_commit, asked_wanted, begun_claimed}
 use Rattle.store_workers.specs.WorkerAnswers.{begun_wanted, claim_wish}
-use Rattle.store_workers.specs.WorkerAnswers.{committing_of, phase_claimed, phase_wanted, told_of}
+use Rattle.store_workers.specs.WorkerAnswers.{committing_of, known_claimed, known_wanted, object, phase_claimed}
+use Rattle.store_workers.specs.WorkerAnswers.{phase_off, phase_wanted, told_of}
 use Rattle.store_workers.specs.WorkerAnswers.{wish_of, with_answer}
 use Rattle.store_workers.specs.WorkerAnswers.{with_entry, with_tx}
 use Rattle.store_workers.specs.WorkerSteps.{GoesOn, HasBegun, HasClaimed, HasCommitted, HasGivenBack}
@@ -112,17 +117,22 @@ has_job Again = true
 has_job (Waiting place) = false
 
 not_idle : (phase : Phase) (job : Job) (found : Option Job) (begun : told.Begun) (asked : Asking)
-    → found ≡ Some job
-    → has_job phase ≡ true → is_idle (progress_in phase found begun asked) ≡ false
-not_idle Idle job found begun asked is busy = absurd (true≢false (sym busy))
-not_idle (Waiting place) job found begun asked is busy = absurd (true≢false (sym busy))
-not_idle Called job found begun asked is busy = ap (λ j. is_idle (progress_in Called j begun asked)) is
-not_idle Planning job found begun asked is busy = ap (λ j. is_idle (progress_in Planning j begun asked)) is
-not_idle Reading job found begun asked is busy = ap (λ j. is_idle (progress_in Reading j begun asked)) is
-not_idle (Read ok) job found begun asked is busy = ap (λ j. is_idle (progress_in (Read ok) j begun asked)) is
-not_idle (Refused why) job found begun asked is busy =
-    ap (λ j. is_idle (progress_in (Refused why) j begun asked)) is
-not_idle Again job found begun asked is busy = ap (λ j. is_idle (progress_in Again j begun asked)) is
+    (knowing : Knowing) → found ≡ Some job
+    → has_job phase ≡ true → is_idle (progress_in phase found begun asked knowing) ≡ false
+not_idle Idle job found begun asked knowing is busy = absurd (true≢false (sym busy))
+not_idle (Waiting place) job found begun asked knowing is busy = absurd (true≢false (sym busy))
+not_idle Called job found begun asked knowing is busy =
+    ap (λ j. is_idle (progress_in Called j begun asked knowing)) is
+not_idle Planning job found begun asked knowing is busy =
+    ap (λ j. is_idle (progress_in Planning j begun asked knowing)) is
+not_idle Reading job found begun asked knowing is busy =
+    ap (λ j. is_idle (progress_in Reading j begun asked knowing)) is
+not_idle (Read ok) job found begun asked knowing is busy =
+    ap (λ j. is_idle (progress_in (Read ok) j begun asked knowing)) is
+not_idle (Refused why) job found begun asked knowing is busy =
+    ap (λ j. is_idle (progress_in (Refused why) j begun asked knowing)) is
+not_idle Again job found begun asked knowing is busy =
+    ap (λ j. is_idle (progress_in Again j begun asked knowing)) is
 
 -- ---- by cases of the step
 
@@ -132,11 +142,11 @@ at_some P found x is so = subst (λ o. IsSomeAnd o P) is so
 module _ (boot number : ℕ) (entries : List Entry) (old new : Side) (at : IsWorkerAt boot entries old.worker)
     (places : old.core.log.places ≡ length entries) where
   abbrev old_begun : told.Begun
-  old_begun = begun_of old.worker.begun.tx (seen_in old.worker.work.snap) old.worker.asked.fetched
+  old_begun = begun_of old.worker.begun.tx (seen_in old.worker.work.snap) old.worker.known
 
   -- how far the worker was, in this phase
   abbrev was : Phase → Progress
-  was phase = progress_in phase old.worker.work.job old_begun old.worker.asked
+  was phase = progress_in phase old.worker.work.job old_begun old.worker.asked old.worker.known
 
   -- what a step leaves that makes this of the worker
   record Leaves (phase : Phase) (made : Option Step) (state : State) : Type 0 where
@@ -154,8 +164,8 @@ module _ (boot number : ℕ) (entries : List Entry) (old new : Side) (at : IsWor
   so phase made state is leaves = subst (λ s. Leaves phase made s) (sym is) leaves
 
   with_job : (phase : Phase) (job : Job) → old.worker.work.job ≡ Some job
-      → was phase ≡ progress_in phase (Some job) old_begun old.worker.asked
-  with_job phase job is = ap (λ j. progress_in phase j old_begun old.worker.asked) is
+      → was phase ≡ progress_in phase (Some job) old_begun old.worker.asked old.worker.known
+  with_job phase job is = ap (λ j. progress_in phase j old_begun old.worker.asked old.worker.known) is
 
   -- no answer lies ready
   none_told : (phase : Phase) (made : Option Step) (state : State) → state.work.answer ≡ None
@@ -195,11 +205,12 @@ module _ (boot number : ℕ) (entries : List Entry) (old new : Side) (at : IsWor
   unbegun : (made : Step) (job : Job) (heard : Verdict) → old.worker.work.job ≡ Some job
       → TellsEntry boot (length entries) (was Called) (Some made) old.worker.work.entry
       → ((t : Transcript) (answer : Answer) → (answer.place ≡ None) × (answer.verdict ≡ heard)
-      → HasVerdict t job.call told.Called made answer)
+      → HasVerdict t job.call (told.Called (known_in old.worker.known)) made answer)
       → new.worker ≡ with_answer heard None old.worker → Leaves Called (Some made) new.worker
   unbegun made job heard job_is entry gives is =
       so Called (Some made) (with_answer heard None old.worker) is
-      (answers Called made old.worker heard None job told.Called (with_job Called job job_is) at.boot_is
+      (answers Called made old.worker heard None job (told.Called (known_in old.worker.known))
+      (with_job Called job job_is) at.boot_is
       (λ t answer has v p. gives t answer (p, v)) entry)
 
   -- its transaction comes back
@@ -218,7 +229,7 @@ module _ (boot number : ℕ) (entries : List Entry) (old new : Side) (at : IsWor
     entry = entry;
     answer = none_told phase (Some made) state answer
         (ap (λ b. not (is_idle (was phase)) && b)
-        (not_idle state.phase job state.work.job _ state.asked job_is busy)
+        (not_idle state.phase job state.work.job _ state.asked state.known job_is busy)
         ∙ and_false (not (is_idle (was phase))));
     stands = record { boot_is = same_boot; entry = refl; answer = refl; stands = stands };
   }
@@ -241,25 +252,44 @@ module _ (boot number : ℕ) (entries : List Entry) (old new : Side) (at : IsWor
 
   abbrev once_wanted : Addr → Want → State
   once_wanted addr answer = record (with_snap new.worker old.worker) {
-    phase = phase_wanted answer;
+    phase = phase_wanted addr answer old.worker.known;
     begun = begun_wanted answer;
     asked = asked_wanted addr answer old.worker.asked;
+    known = known_wanted addr answer (with_snap new.worker old.worker).known;
   }
 
-  abbrev once_claimed : Claim → State
-  once_claimed answer = record (with_snap new.worker old.worker) {
-    phase = phase_claimed answer;
+  abbrev once_claimed : BlockNo → Claim → State
+  once_claimed block answer = record (with_snap new.worker old.worker) {
+    phase = phase_claimed block answer old.worker.known;
     begun = begun_claimed answer;
+    known = known_claimed block answer (with_snap new.worker old.worker).known;
   }
+
+  -- who is kept off has its call still
+  off_job : (wished : Aim) → has_job (phase_off wished old.worker.known) ≡ true
+  off_job wished = by (is_above wished old.worker.known.taken)
+    where
+      by : (above : Bool) → has_job (if above then Again else Planning) ≡ true
+      by true = refl
+      by false = refl
+
+  off_stands : (wished : Aim) (state : State) → RunsIn boot state
+      → StandsAt boot (with_ready number entries state) (phase_off wished old.worker.known) (telling.told state)
+  off_stands wished state runs = by (is_above wished old.worker.known.taken)
+    where
+      by : (above : Bool) → StandsAt boot (with_ready number entries state) (if above then Again else Planning)
+          (telling.told state)
+      by true = runs
+      by false = runs
 
   wants : (tx : ℕ) (addr : Addr) (made : Step) → old.worker.begun.tx ≡ Some tx
-      → IsNext old.worker (plan.Need addr) → (has : HasWanted tx addr old made new)
+      → IsWished old.worker (object addr) (plan.Need addr) → (has : HasWanted tx addr old made new)
       → LeavesIt Planning (Some (step.Wanted addr modes.Exclusive (wish_of has.answer)))
   wants tx addr made tx_is next has phase_is stands = so Planning _ _ has.worker (by has.answer has.core)
     where
-      left : (answer : Want) → has_job (phase_wanted answer) ≡ true
-          → StandsAt boot (with_ready number entries (once_wanted addr answer)) (phase_wanted answer)
-          (telling.told (once_wanted addr answer))
+      left : (answer : Want) → has_job (phase_wanted addr answer old.worker.known) ≡ true
+          → StandsAt boot (with_ready number entries (once_wanted addr answer))
+          (phase_wanted addr answer old.worker.known) (telling.told (once_wanted addr answer))
           → Leaves Planning (Some (step.Wanted addr modes.Exclusive (wish_of answer))) (once_wanted addr answer)
       left answer busy stands_then =
           goes_on Planning (step.Wanted addr modes.Exclusive (wish_of answer)) (once_wanted addr answer)
@@ -270,30 +300,34 @@ module _ (boot number : ℕ) (entries : List Entry) (old new : Side) (at : IsWor
           → Leaves Planning (Some (step.Wanted addr modes.Exclusive (wish_of answer))) (once_wanted addr answer)
       by (want.Held back bytes) is = left (want.Held back bytes) refl (runs tx back tx_is is.0 stands)
       by (want.Fetch back io) is = left (want.Fetch back io) refl (runs tx back tx_is is.0 stands, is.2.block)
-      by (want.Busy back) is = left (want.Busy back) refl (runs tx back tx_is is.0 stands)
-      by (want.Loading back) is = left (want.Loading back) refl (runs tx back tx_is is.0 stands)
+      by (want.Busy back) is = left (want.Busy back) (off_job (object addr))
+          (off_stands (object addr) (once_wanted addr (want.Busy back)) (runs tx back tx_is is.0 stands))
+      by (want.Loading back) is = left (want.Loading back) (off_job (object addr))
+          (off_stands (object addr) (once_wanted addr (want.Loading back)) (runs tx back tx_is is.0 stands))
       by (want.Outside back) is = left (want.Outside back) refl (runs tx back tx_is is.0 stands)
       by (want.NoMemory back) is = left (want.NoMemory back) refl (runs tx back tx_is is.0 stands)
 
   claims : (tx : ℕ) (block : BlockNo) (made : Step) → old.worker.begun.tx ≡ Some tx
-      → IsNext old.worker (plan.Claim block) → (has : HasClaimed tx block old made new)
+      → IsWished old.worker (aim.Claim block) (plan.Claim block) → (has : HasClaimed tx block old made new)
       → LeavesIt Planning (Some (step.Claimed block (claim_wish has.answer)))
   claims tx block made tx_is next has phase_is stands = so Planning _ _ has.worker (by has.answer has.core.2)
     where
-      left : (answer : Claim) → has_job (phase_claimed answer) ≡ true
-          → StandsAt boot (with_ready number entries (once_claimed answer)) (phase_claimed answer)
-          (telling.told (once_claimed answer))
-          → Leaves Planning (Some (step.Claimed block (claim_wish answer))) (once_claimed answer)
+      left : (answer : Claim) → has_job (phase_claimed block answer old.worker.known) ≡ true
+          → StandsAt boot (with_ready number entries (once_claimed block answer))
+          (phase_claimed block answer old.worker.known) (telling.told (once_claimed block answer))
+          → Leaves Planning (Some (step.Claimed block (claim_wish answer))) (once_claimed block answer)
       left answer busy stands_then =
-          goes_on Planning (step.Claimed block (claim_wish answer)) (once_claimed answer) next.job
+          goes_on Planning (step.Claimed block (claim_wish answer)) (once_claimed block answer) next.job
           next.job_is busy
           at.boot_is at.answer at.entry stands_then
 
       by : (answer : Claim) → IsClaimed old.core tx has.core.0 answer new.core
-          → Leaves Planning (Some (step.Claimed block (claim_wish answer))) (once_claimed answer)
+          → Leaves Planning (Some (step.Claimed block (claim_wish answer))) (once_claimed block answer)
       by (claim.Held back) is = left (claim.Held back) refl (runs tx back tx_is is.0 stands)
-      by (claim.Busy back) is = left (claim.Busy back) refl (runs tx back tx_is is.0 stands)
-      by (claim.Loading back) is = left (claim.Loading back) refl (runs tx back tx_is is.0 stands)
+      by (claim.Busy back) is = left (claim.Busy back) (off_job (aim.Claim block))
+          (off_stands (aim.Claim block) (once_claimed block (claim.Busy back)) (runs tx back tx_is is.0 stands))
+      by (claim.Loading back) is = left (claim.Loading back) (off_job (aim.Claim block))
+          (off_stands (aim.Claim block) (once_claimed block (claim.Loading back)) (runs tx back tx_is is.0 stands))
       by (claim.Outside back) is = left (claim.Outside back) refl (runs tx back tx_is is.0 stands)
       by (claim.NoMemory back) is = left (claim.NoMemory back) refl (runs tx back tx_is is.0 stands)
 
@@ -401,7 +435,9 @@ module _ (boot number : ℕ) (entries : List Entry) (old new : Side) (at : IsWor
     commits_by (commit.Full back same) is =
         back_in back (step.Commit added committing.Full) Planning is.0.transaction refl at.entry (λ r. r)
     commits_by (commit.Foreign back same) is =
-        back_in back (step.Commit added committing.Foreign) Again is.0.transaction refl at.entry (λ r. r)
+        goes_on Planning (step.Commit added committing.Foreign)
+        (record (with_tx back Again planned) { known = without_off planned.known }) job job_is refl at.boot_is
+        at.answer at.entry (runs tx back tx_is is.0.transaction stands)
     commits_by (commit.NoMemory back same) is =
         back_in back (step.Commit added committing.NoMemory) (Refused cause.NoMemory)
         is.0.transaction refl at.entry
@@ -429,7 +465,6 @@ module _ (boot number : ℕ) (entries : List Entry) (old new : Side) (at : IsWor
   once_given ok = record old.worker {
     phase = phase_given ok;
     begun = record old.worker.begun { io = None };
-    asked = with_fetched old.worker.asked;
   }
 
   gives : (ok : Bool) (io : Fetch) (made : Step) → HasGivenBack ok io old made new
@@ -577,8 +612,8 @@ module _ (boot number : ℕ) (entries : List Entry) (old new : Side) (at : IsWor
         unbegun step.Replied job (verdict.Reply (unsupported job.call)) job_is at.entry (λ t answer of. of) is;
     wanted = wants;
     claimed = claims;
-    committed = commits;
-    lacked = λ tx made tx_is has. lacks tx made has;
+    committed = λ job tx done made tx_is next none. commits job tx done made tx_is next;
+    lacked = λ tx made tx_is none has. lacks tx made has;
     given = λ ok io made io_is has. gives ok io made has;
     refused = λ why job tx made job_is tx_is has. refuses why job tx made job_is has;
     left = λ tx made tx_is has. leaves tx made has;

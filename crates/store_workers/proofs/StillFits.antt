@@ -147,10 +147,10 @@ turns old new = record {
       (ap (λ (s : State). s.begun) has.worker);
   claimed = λ tx block made tx_is next has. claims old new Planning tx has.core.0 has.answer tx_is has.core.2
       (ap (λ (s : State). s.begun) has.worker);
-  committed = λ job tx done made tx_is next job_is has. commits old new Planning job tx done
+  committed = λ job tx done made tx_is next none job_is has. commits old new Planning job tx done
       (record (with_snap new.worker old.worker) { begun = none_begun }) has.answer tx_is refl has.core
       has.worker;
-  lacked = λ tx made tx_is has. aborts old new Planning tx tx_is has.core
+  lacked = λ tx made tx_is none has. aborts old new Planning tx tx_is has.core
       (ap (λ (s : State). s.begun) has.worker);
   given = λ ok io made io_is has. gives (ap (λ (s : State). s.begun) has.worker)
       (ap (λ (c : CoreState). c.out) has.only);

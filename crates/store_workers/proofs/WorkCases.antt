@@ -1,5 +1,6 @@
 -- A worker's step, by cases.
-use Rattle.std.proofs.Common.{◌≡◌, refl, sym, subst, ℕ, Bool, true, false, Option, Some, None, Ok, Err}
+use Rattle.std.proofs.Common.{◌≡◌, ◌∙◌, refl, sym, ap, subst, ℕ, ◌⊎◌, inl, inr, Bool, true, false, ◌&&◌}
+use Rattle.std.proofs.Common.{Option, Some, None, Ok, Err, List, [], ◌∷◌, is_some, true≢false}
 use Rattle.std.specs.Prelude.{IsSomeAnd}
 use Rattle.disk.specs.declared.block.BlockNo.{BlockNo}
 use Rattle.objects.specs.declared.addr.Addr.{Addr}
@@ -10,25 +11,40 @@ use Rattle.wal_law.specs.declared.outcomes.Seq.{Seq}
 use Rattle.procs.specs.Outcome.{Outcome}
 use Rattle.procs.specs.declared.next.Plan.{Plan}
 use Rattle.procs.specs.declared.next.Plan.TheVariants as plan
+use Rattle.inode.specs.declared.snap.Snap.{Snap}
 use Rattle.txn.specs.Fetch.{Fetch}
 use Rattle.txn.specs.Group.{blocks_of}
 use Rattle.txn.specs.declared.outcomes.BeginFault.{BeginFault}
+use Rattle.store_promise.specs.declared.aims.Aim.{Aim}
+use Rattle.store_promise.specs.declared.aims.Aim.TheVariants as aim
 use Rattle.store_promise.specs.Verdicts.{cause_of, refusal}
 use Rattle.store_promise.specs.declared.answers.Verdict.TheVariants as verdict
 use Rattle.store_promise.specs.declared.events.Cause.{Cause}
 use Rattle.store_promise.specs.declared.events.Ending.TheVariants as ending
 use Rattle.store_promise.specs.declared.events.Step.{Step}
 use Rattle.store_promise.specs.declared.events.Step.TheVariants as step
-use Rattle.store_workers.specs.WorkerAnswers.{claim_wish, committing_of, wish_of, with_answer}
-use Rattle.store_workers.specs.WorkerSteps.{BeginsBy, EndsBy, GoesByNext, GoesOn, HasBegun, HasClaimed}
+use Rattle.store_workers.specs.Phases.{is_planned, is_served}
+use Rattle.store_workers.specs.Seen.{seen_in}
+use Rattle.store_workers.specs.WorkerAnswers.{claim_wish, committing_of, object, wish_of, with_answer}
+use Rattle.store_workers.specs.WorkerSteps.{BeginsBy, EndsBy, GoesByAim, GoesByNext, GoesOn, HasBegun, HasClaimed}
 use Rattle.store_workers.specs.WorkerSteps.{HasCommitted, HasGivenBack, HasLacked, HasLeft}
 use Rattle.store_workers.specs.WorkerSteps.{HasRefused, HasWanted}
 use Rattle.store_workers.specs.WorkerSteps.{IsNext, IsNoBeginning, Side, Waits, given_step}
 use Rattle.store_workers.specs.declared.workers.parts.Job.{Job}
+use Rattle.store_workers.specs.declared.workers.parts.State.{State}
 use Rattle.store_workers.specs.declared.workers.parts.Phase.{Phase}
 use Rattle.store_workers.specs.declared.workers.parts.Phase.TheVariants.{Idle, Called, Planning}
 use Rattle.store_workers.specs.declared.workers.parts.Phase.TheVariants.{Reading, Read}
 use Rattle.store_workers.specs.declared.workers.parts.Phase.TheVariants.{Refused, Again, Waiting}
+
+-- What is wished next: by the plan, where nothing is left to be taken again, or the first of what is.
+pub record IsWished (worker : State) (one : Aim) (next : Plan) : Type 0 where
+  pub job : Job
+  pub job_is : worker.work.job ≡ Some job
+  pub snap : Snap
+  pub snap_is : seen_in worker.work.snap ≡ seen_in (Some snap)
+  pub why : ((worker.known.left ≡ []) × IsNext worker next)
+      ⊎ ((later : List Aim) × (worker.known.left ≡ one ∷ later))
 
 -- what is to be shown of each step, where the phase is the one before it
 pub record Cases (old new : Side) (P : Phase → Option Step → Type 0) : Type 0 where
@@ -44,17 +60,18 @@ pub record Cases (old new : Side) (P : Phase → Option Step → Type 0) : Type 
       → new.worker ≡ with_answer (verdict.Reply (unsupported job.call)) None old.worker
       → P Called (Some step.Replied)
   pub wanted : (tx : ℕ) (addr : Addr) (made : Step) → old.worker.begun.tx ≡ Some tx
-      → IsNext old.worker (plan.Need addr) → (has : HasWanted tx addr old made new)
+      → IsWished old.worker (object addr) (plan.Need addr) → (has : HasWanted tx addr old made new)
       → P Planning (Some (step.Wanted addr modes.Exclusive (wish_of has.answer)))
   pub claimed : (tx : ℕ) (block : BlockNo) (made : Step) → old.worker.begun.tx ≡ Some tx
-      → IsNext old.worker (plan.Claim block) → (has : HasClaimed tx block old made new)
+      → IsWished old.worker (aim.Claim block) (plan.Claim block) → (has : HasClaimed tx block old made new)
       → P Planning (Some (step.Claimed block (claim_wish has.answer)))
   pub committed : (job : Job) (tx : ℕ) (done : Outcome) (made : Step) → old.worker.begun.tx ≡ Some tx
-      → IsNext old.worker (plan.Done done) → old.worker.work.job ≡ Some job
+      → IsNext old.worker (plan.Done done) → old.worker.known.left ≡ [] → old.worker.work.job ≡ Some job
       → (has : HasCommitted job tx done old made new)
       → P Planning (Some (step.Commit (added_blocks old.core.log (blocks_of done.written))
       (committing_of has.answer)))
-  pub lacked : (tx : ℕ) (made : Step) → old.worker.begun.tx ≡ Some tx → HasLacked tx old made new
+  pub lacked : (tx : ℕ) (made : Step) → old.worker.begun.tx ≡ Some tx → old.worker.known.left ≡ []
+      → HasLacked tx old made new
       → P Planning (Some (step.Ended ending.NoMemory))
   pub given : (ok : Bool) (io : Fetch) (made : Step) → old.worker.begun.io ≡ Some io
       → HasGivenBack ok io old made new → P (Read ok) (Some (given_step ok io))
@@ -100,16 +117,16 @@ module _ (old new : Side) (P : Phase → Option Step → Type 0) (cases : Cases 
   called None made is has = absurd has
   called (Some job) made is has = begins job (has_rules job.call) made is refl has
 
-  module _ (tx : ℕ) (tx_is : old.worker.begun.tx ≡ Some tx) where
+  module _ (tx : ℕ) (tx_is : old.worker.begun.tx ≡ Some tx) (none : old.worker.known.left ≡ []) where
     lacks : (made : Step) → HasLacked tx old made new → P Planning (Some made)
-    lacks made has = so Planning made (step.Ended ending.NoMemory) has.made_is (cases.lacked tx made tx_is has)
+    lacks made has = so Planning made (step.Ended ending.NoMemory) has.made_is (cases.lacked tx made tx_is none has)
 
     module _ (done : Outcome) (next : IsNext old.worker (plan.Done done)) where
       commits : (found : Option Job) (made : Step) → old.worker.work.job ≡ found
           → IsSomeAnd found (λ job. HasCommitted job tx done old made new) → P Planning (Some made)
       commits None made is has = absurd has
       commits (Some job) made is has =
-          so Planning made _ has.made_is (cases.committed job tx done made tx_is next is has)
+          so Planning made _ has.made_is (cases.committed job tx done made tx_is next none is has)
 
       ends : (made : Step) → EndsBy tx done old made new → P Planning (Some made)
       ends (step.Ended why) has = lacks (step.Ended why) has
@@ -130,13 +147,56 @@ module _ (old new : Side) (P : Phase → Option Step → Type 0) (cases : Cases 
       ends (step.InstIo a) has = commits old.worker.work.job _ refl has
       ends (step.InstDone a) has = commits old.worker.work.job _ refl has
 
+    by_plan : (one : Aim) (next : Plan) → IsNext old.worker next → IsWished old.worker one next
+    by_plan one next is = record {
+      job = is.job;
+      job_is = is.job_is;
+      snap = is.snap;
+      snap_is = is.snap_is;
+      why = inl (none, is);
+    }
+
     goes : (next : Plan) (made : Step) → IsNext old.worker next → GoesByNext next tx old made new
         → P Planning (Some made)
-    goes (plan.Need addr) made is has = so Planning made _ has.made_is (cases.wanted tx addr made tx_is is has)
+    goes (plan.Need addr) made is has = so Planning made _ has.made_is
+        (cases.wanted tx addr made tx_is (by_plan (object addr) (plan.Need addr) is) has)
     goes (plan.Claim block) made is has = so Planning made _ has.made_is
-        (cases.claimed tx block made tx_is is has)
+        (cases.claimed tx block made tx_is (by_plan (aim.Claim block) (plan.Claim block) is) has)
     goes (plan.Done done) made is has = ends done is made has
     goes plan.NoMemory made is has = lacks made has
+
+  -- what is taken again, with a call and what was read for it
+  module _ (tx : ℕ) (tx_is : old.worker.begun.tx ≡ Some tx) (planned : is_planned old.worker.work ≡ true)
+      (one : Aim) (later : List Aim) (left : old.worker.known.left ≡ one ∷ later) where
+    again : (next : Plan) → IsWished old.worker one next
+    again next = by old.worker.work.job refl old.worker.work.snap refl planned
+      where
+        by : (job : Option Job) → old.worker.work.job ≡ job → (snap : Option Snap) → old.worker.work.snap ≡ snap
+            → (is_served job && is_some snap) ≡ true → IsWished old.worker one next
+        by None job_is snap snap_is planned = absurd (true≢false (sym planned))
+        by (Some job) job_is None snap_is planned = absurd (none_planned (has_rules job.call) planned)
+          where
+            none_planned : (b : Bool) → (b && false) ≡ true → ⊥
+            none_planned true is = true≢false (sym is)
+            none_planned false is = true≢false (sym is)
+        by (Some job) job_is (Some snap) snap_is planned = record {
+          job = job;
+          job_is = job_is;
+          snap = snap;
+          snap_is = ap seen_in snap_is;
+          why = inr (later, left);
+        }
+
+  takes : (tx : ℕ) → old.worker.begun.tx ≡ Some tx → is_planned old.worker.work ≡ true → (one : Aim)
+      → (later : List Aim) → old.worker.known.left ≡ one ∷ later → (made : Step)
+      → GoesByAim one tx old made new → P Planning (Some made)
+  takes tx tx_is planned (aim.Object addr mode) later left made has =
+      so Planning made _ has.1.made_is (cases.wanted tx addr made tx_is
+      (again tx tx_is planned (object addr) later (left ∙ ap (λ m. aim.Object addr m ∷ later) has.0) (plan.Need addr))
+      has.1)
+  takes tx tx_is planned (aim.Claim block) later left made has =
+      so Planning made _ has.made_is (cases.claimed tx block made tx_is
+      (again tx tx_is planned (aim.Claim block) later left (plan.Claim block)) has)
 
   gives : (ok : Bool) (found : Option Fetch) (made : Step) → old.worker.begun.io ≡ found
       → IsSomeAnd found (λ io. HasGivenBack ok io old made new) → P (Read ok) (Some made)
@@ -161,7 +221,9 @@ module _ (old new : Side) (P : Phase → Option Step → Type 0) (cases : Cases 
   by_cases Idle made has = subst (λ m. P Idle m) (sym has.0) (cases.idle has.1)
   by_cases Reading made has = subst (λ m. P Reading m) (sym has.0) (cases.reading has.1)
   by_cases Called (Some made) has = called old.worker.work.job made refl has
-  by_cases Planning (Some made) has = goes has.tx has.tx_is has.next made has.next_is has.goes
+  by_cases Planning (Some made) (inl has) = goes has.tx has.tx_is has.none has.next made has.next_is has.goes
+  by_cases Planning (Some made) (inr has) =
+      takes has.tx has.tx_is has.planned has.next has.later has.left made has.goes
   by_cases (Read ok) (Some made) has = gives ok old.worker.begun.io made refl has
   by_cases (Refused why) (Some made) has =
       refuses why old.worker.work.job old.worker.begun.tx made refl refl has

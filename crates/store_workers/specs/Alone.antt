@@ -1,5 +1,5 @@
 -- A worker that is alone in its store: whatever is taken of the core and whatever is being read is its own.
-use Rattle.std.specs.Prelude.{◌≡◌, ℕ, Bool, true, false, Option, Some, All, IsSomeAnd, option_to_list}
+use Rattle.std.specs.Prelude.{◌≡◌, ℕ, Bool, true, false, [], Option, Some, All, IsSomeAnd, option_to_list}
 use Rattle.objects.specs.declared.addr.Addr.{Addr}
 use Rattle.objects.specs.declared.mode.Mode.TheVariants as modes
 use Rattle.procs.specs.Asks.{Asks, WereAskedOnce, WereClaimedOnce}
@@ -13,6 +13,7 @@ use Rattle.store_promise.specs.declared.events.Step.{Step}
 use Rattle.store_promise.specs.declared.events.Step.TheVariants as step
 use Rattle.store_promise.specs.declared.events.Wish.TheVariants as wish
 use Rattle.store_images.specs.Fetches.{FetchesOnly}
+use Rattle.store_workers.specs.Knowing.{Knowing, nothing_known}
 use Rattle.store_workers.specs.Seen.{Seen, seen_in}
 use Rattle.store_workers.specs.declared.workers.parts.Phase.{Phase}
 use Rattle.store_workers.specs.declared.workers.parts.Phase.TheVariants.{Idle, Called, Planning}
@@ -52,6 +53,18 @@ PlansAlone (Read ok) worker core = HasTaken worker core
 PlansAlone (Refused why) worker core = Unit {0}
 PlansAlone (Waiting place) worker core = Unit {0}
 
+-- Nothing is left to be taken again: so it is once it plans, and then no call begins again, but one that is made
+-- to, and that knows nothing.
+abbrev pub LeavesNothing : Phase → Knowing → Type 0
+LeavesNothing Idle knowing = Unit {0}
+LeavesNothing Called knowing = knowing ≡ nothing_known
+LeavesNothing Again knowing = knowing ≡ nothing_known
+LeavesNothing Planning knowing = knowing.left ≡ []
+LeavesNothing Reading knowing = knowing.left ≡ []
+LeavesNothing (Read ok) knowing = knowing.left ≡ []
+LeavesNothing (Refused why) knowing = Unit {0}
+LeavesNothing (Waiting place) knowing = Unit {0}
+
 -- no transaction is out but its own
 abbrev pub IsOutAlone : State → CoreState → Type 0
 IsOutAlone worker core = core.out ≡ option_to_list worker.begun.tx
@@ -60,6 +73,7 @@ IsOutAlone worker core = core.out ≡ option_to_list worker.begun.tx
 pub record IsAlone (worker : State) (core : CoreState) : Type 0 where
   pub out : IsOutAlone worker core
   pub fetches : FetchesOnly worker.begun.io core
+  pub left : LeavesNothing worker.phase worker.known
   pub plans : PlansAlone worker.phase worker core
 
 -- ---- its steps
@@ -83,4 +97,5 @@ is_full _ = false
 pub record StaysAlone (made : Option Step) (worker : State) (core : CoreState) : Type 0 where
   pub out : IsOutAlone worker core
   pub fetches : FetchesOnly worker.begun.io core
+  pub left : LeavesNothing worker.phase worker.known
   pub plans : is_full made ≡ false → PlansAlone worker.phase worker core

@@ -1,5 +1,6 @@
 pub mod Alone
 pub mod Asked
+pub mod Knowing
 pub mod Ended
 pub mod Noting
 pub mod Phases

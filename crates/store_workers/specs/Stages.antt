@@ -15,6 +15,7 @@ use Rattle.store_promise.specs.Progress.{Progress, Stage, Taken}
 use Rattle.store_promise.specs.Progress as told
 use Rattle.procs.specs.SoundCalls.{SoundCall}
 use Rattle.store_workers.specs.Asked.{Asking}
+use Rattle.store_workers.specs.Knowing.{Knowing, known_in}
 use Rattle.store_workers.specs.Seen.{Seen, seen_in}
 use Rattle.store_workers.specs.declared.workers.parts.Job.{Job}
 use Rattle.store_workers.specs.declared.workers.parts.Phase.{Phase}
@@ -36,13 +37,14 @@ abbrev pub claimed_in : Option Seen → List BlockNo
 claimed_in None = []
 claimed_in (Some seen) = seen.claims
 
--- a transaction, with what was read and claimed in it, and the objects whose blocks were fetched for it
-abbrev pub begun_of : Option ℕ → Option Seen → List Addr → told.Begun
-begun_of tx seen fetched = record {
+-- a transaction, with what was read and claimed in it, what it has taken, and what is left to be taken again
+abbrev pub begun_of : Option ℕ → Option Seen → Knowing → told.Begun
+begun_of tx seen knowing = record {
   number = unwrap_or tx 0;
   held = held_in seen;
-  fetched = map alone fetched;
   claimed = claimed_in seen;
+  taken = knowing.taken;
+  left = knowing.left;
 }
 
 -- what the worker was handed
@@ -59,22 +61,22 @@ abbrev pub at_fetch : (Taken → Stage) → told.Begun → Option Addr → Stage
 at_fetch stage begun None = told.Planning begun
 at_fetch stage begun (Some addr) = stage (alone addr)
 
-abbrev pub progress_in : Phase → Option Job → told.Begun → Asking → Progress
-progress_in Idle job begun asked = told.Idle
-progress_in Called job begun asked = at_stage job told.Called
-progress_in Planning job begun asked = at_stage job (told.Planning begun)
-progress_in Reading job begun asked =
+abbrev pub progress_in : Phase → Option Job → told.Begun → Asking → Knowing → Progress
+progress_in Idle job begun asked knowing = told.Idle
+progress_in Called job begun asked knowing = at_stage job (told.Called (known_in knowing))
+progress_in Planning job begun asked knowing = at_stage job (told.Planning begun)
+progress_in Reading job begun asked knowing =
     at_stage job (at_fetch (λ taken. told.Reading begun taken) begun asked.wish)
-progress_in (Read ok) job begun asked =
+progress_in (Read ok) job begun asked knowing =
     at_stage job (at_fetch (λ taken. told.Read begun taken ok) begun asked.wish)
-progress_in (Refused why) job begun asked = at_stage job (told.Refused begun why)
-progress_in Again job begun asked = at_stage job (told.Again begun)
-progress_in (Waiting place) job begun asked = at_stage asked.waiting (told.Waiting place.0)
+progress_in (Refused why) job begun asked knowing = at_stage job (told.Refused begun why)
+progress_in Again job begun asked knowing = at_stage job (told.Again begun knowing.off)
+progress_in (Waiting place) job begun asked knowing = at_stage asked.waiting (told.Waiting place.0)
 
 -- how far it is, as its steps tell it
 abbrev pub progress_of : State → Progress
 progress_of state = progress_in state.phase state.work.job
-    (begun_of state.begun.tx (seen_in state.work.snap) state.asked.fetched) state.asked
+    (begun_of state.begun.tx (seen_in state.work.snap) state.known) state.asked state.known
 
 -- ---- between the events
 

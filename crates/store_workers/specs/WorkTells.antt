@@ -94,7 +94,7 @@ pub record TellsStep (boot number : ℕ) (entries : List Entry) (old : Side) (ma
 -- how far the worker is once it took a call, or where it took none
 abbrev pub once_handed : Job → Option Step → Progress → Progress
 once_handed job None progress = progress
-once_handed job (Some made) progress = At job Called
+once_handed job (Some made) progress = At job (Called [])
 
 -- what the event tells of a worker that may take a call
 pub record TellsCall (boot : ℕ) (entries : List Entry) (job : Job) (old : State)

@@ -1,5 +1,5 @@
 -- What a worker has, and the core that it fits.
-use Rattle.std.specs.Prelude.{◌≡◌, ℕ, ◌<◌, true, Some, None, is_some, IfSome, [], length}
+use Rattle.std.specs.Prelude.{◌≡◌, ℕ, ◌<◌, true, Some, None, is_some, IfSome, length}
 use Rattle.nfs_types.specs.declared.call.Call.{Call}
 use Rattle.nfs_types.specs.declared.ctx.Credential.{Credential}
 use Rattle.nfs_types.specs.declared.ctx.Ctx.{Ctx}
@@ -11,6 +11,7 @@ use Rattle.procs.specs.declared.next.Plan.TheVariants as plan
 use Rattle.txn.specs.Core.{CoreState, IsOut}
 use Rattle.txn.specs.declared.outcomes.Want.{Want}
 use Rattle.txn.specs.declared.outcomes.Want.TheVariants as want
+use Rattle.store_workers.specs.Knowing.{nothing_known}
 use Rattle.store_workers.specs.Phases.{has_fetch, has_transaction, is_planned, is_ready}
 use Rattle.store_workers.specs.declared.workers.parts.Phase.TheVariants.{Idle, Called}
 use Rattle.store_workers.specs.declared.workers.parts.State.{State}
@@ -48,9 +49,10 @@ pub record IsHeld (state : State) : Type 0 where
   pub no_fetch : state.begun.io ≡ None
   pub planned : is_planned state.work ≡ true
 
--- it has room for what is read or claimed next
-abbrev pub HasRoom : State → Type 0
-HasRoom state = IfSome state.work.snap (λ snap. seen.HasRoom snap)
+-- it has room for what is read or claimed next, and to note it
+pub record HasRoom (state : State) : Type 0 where
+  pub snap : IfSome state.work.snap (λ snap. seen.HasRoom snap)
+  pub known : state.known.room ≡ true
 
 -- there is room for what the plan asks for
 abbrev pub HasRoomFor : Plan → State → Type 0
@@ -78,6 +80,7 @@ abbrev pub with_call : Ctx → Call → State → State
 with_call ctx call state = record state {
   work = record state.work { job = Some (record { ctx = ctx; call = call }) };
   phase = Called;
+  known = nothing_known;
 }
 
 -- a worker that has done nothing yet
@@ -87,5 +90,6 @@ at_rest boot = record {
   phase = Idle;
   work = record { job = None; snap = None; reply = None; broken_reply = None; entry = None; answer = None };
   begun = record { tx = None; io = None };
-  asked = record { wish = None; fetched = []; waiting = None };
+  asked = record { wish = None; waiting = None };
+  known = nothing_known;
 }

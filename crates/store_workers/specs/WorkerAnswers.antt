@@ -1,6 +1,7 @@
 -- What a worker makes of what the core answered it.
-use Rattle.std.specs.Prelude.{ℕ, Bool, true, false, Option, Some, None}
+use Rattle.std.specs.Prelude.{ℕ, Bool, true, false, if◌then◌else◌, Option, Some, None, List, [], ◌∷◌}
 use Rattle.objects.specs.declared.addr.Addr.{Addr}
+use Rattle.objects.specs.declared.mode.Mode.TheVariants as modes
 use Rattle.disk.specs.declared.block.BlockNo.{BlockNo}
 use Rattle.nfs_types.specs.declared.reply.Reply.{Reply}
 use Rattle.nfs_types.specs.declared.status.Status.TheVariants as status
@@ -13,6 +14,9 @@ use Rattle.txn.specs.declared.outcomes.Commit.{Commit}
 use Rattle.txn.specs.declared.outcomes.Commit.TheVariants as commit
 use Rattle.txn.specs.declared.outcomes.Want.{Want}
 use Rattle.txn.specs.declared.outcomes.Want.TheVariants as want
+use Rattle.store_promise.specs.Aims.{is_above}
+use Rattle.store_promise.specs.declared.aims.Aim.{Aim}
+use Rattle.store_promise.specs.declared.aims.Aim.TheVariants as aim
 use Rattle.store_promise.specs.declared.answers.Verdict.{Verdict}
 use Rattle.store_promise.specs.declared.answers.Verdict.TheVariants as verdict
 use Rattle.store_promise.specs.declared.events.Cause.TheVariants as cause
@@ -21,6 +25,7 @@ use Rattle.store_promise.specs.declared.events.Committing.TheVariants as committ
 use Rattle.store_promise.specs.declared.events.Wish.{Wish}
 use Rattle.store_promise.specs.declared.events.Wish.TheVariants as wish
 use Rattle.store_workers.specs.Asked.{Asking}
+use Rattle.store_workers.specs.Knowing.{Knowing, with_aim, with_off, without_off}
 use Rattle.store_workers.specs.declared.workers.parts.Begun.{Begun}
 use Rattle.store_workers.specs.declared.workers.parts.Job.{Job}
 use Rattle.store_workers.specs.declared.workers.parts.Phase.{Phase}
@@ -40,13 +45,33 @@ wish_of (want.Loading back) = wish.Loading
 wish_of (want.Outside back) = wish.Outside
 wish_of (want.NoMemory back) = wish.NoMemory
 
-abbrev pub phase_wanted : Want → Phase
-phase_wanted (want.Held back bytes) = Planning
-phase_wanted (want.Busy back) = Planning
-phase_wanted (want.Fetch back io) = Reading
-phase_wanted (want.Loading back) = Planning
-phase_wanted (want.Outside back) = Refused cause.Io
-phase_wanted (want.NoMemory back) = Refused cause.NoMemory
+-- an object that a plan asks for: it takes each alone
+abbrev pub object : Addr → Aim
+object addr = aim.Object addr modes.Exclusive
+
+-- who is kept off waits, where it has taken nothing above what it wishes, and else begins again
+abbrev pub phase_off : Aim → Knowing → Phase
+phase_off wished knowing = if is_above wished knowing.taken then Again else Planning
+
+abbrev pub known_off : Aim → Knowing → Knowing
+known_off wished knowing = if is_above wished knowing.taken then with_off wished knowing else knowing
+
+abbrev pub phase_wanted : Addr → Want → Knowing → Phase
+phase_wanted addr (want.Held back bytes) knowing = Planning
+phase_wanted addr (want.Busy back) knowing = phase_off (object addr) knowing
+phase_wanted addr (want.Fetch back io) knowing = Reading
+phase_wanted addr (want.Loading back) knowing = phase_off (object addr) knowing
+phase_wanted addr (want.Outside back) knowing = Refused cause.Io
+phase_wanted addr (want.NoMemory back) knowing = Refused cause.NoMemory
+
+-- what is taken then
+abbrev pub known_wanted : Addr → Want → Knowing → Knowing
+known_wanted addr (want.Held back bytes) knowing = with_aim (object addr) knowing
+known_wanted addr (want.Busy back) knowing = known_off (object addr) knowing
+known_wanted addr (want.Fetch back io) knowing = with_aim (object addr) knowing
+known_wanted addr (want.Loading back) knowing = known_off (object addr) knowing
+known_wanted addr (want.Outside back) knowing = knowing
+known_wanted addr (want.NoMemory back) knowing = knowing
 
 -- the transaction comes back, with a fetch where the block has to be read
 abbrev pub begun_wanted : Want → Begun
@@ -57,14 +82,18 @@ begun_wanted (want.Loading back) = record { tx = Some back; io = None }
 begun_wanted (want.Outside back) = record { tx = Some back; io = None }
 begun_wanted (want.NoMemory back) = record { tx = Some back; io = None }
 
--- what was read then
-abbrev pub seen_wanted : Addr → Want → Option Seen → Option Seen
-seen_wanted addr (want.Held back bytes) seen = with_object addr bytes.items seen
-seen_wanted addr (want.Busy back) seen = seen
-seen_wanted addr (want.Fetch back io) seen = seen
-seen_wanted addr (want.Loading back) seen = seen
-seen_wanted addr (want.Outside back) seen = seen
-seen_wanted addr (want.NoMemory back) seen = seen
+-- what was read then: what is taken again isn't looked at
+abbrev pub seen_held : List Aim → Addr → List ℕ → Option Seen → Option Seen
+seen_held [] addr bytes seen = with_object addr bytes seen
+seen_held (next ∷ later) addr bytes seen = seen
+
+abbrev pub seen_wanted : List Aim → Addr → Want → Option Seen → Option Seen
+seen_wanted left addr (want.Held back bytes) seen = seen_held left addr bytes.items seen
+seen_wanted left addr (want.Busy back) seen = seen
+seen_wanted left addr (want.Fetch back io) seen = seen
+seen_wanted left addr (want.Loading back) seen = seen
+seen_wanted left addr (want.Outside back) seen = seen
+seen_wanted left addr (want.NoMemory back) seen = seen
 
 -- its block is to be fetched then
 abbrev pub asked_wanted : Addr → Want → Asking → Asking
@@ -84,12 +113,19 @@ claim_wish (claim.Loading back) = wish.Loading
 claim_wish (claim.Outside back) = wish.Outside
 claim_wish (claim.NoMemory back) = wish.NoMemory
 
-abbrev pub phase_claimed : Claim → Phase
-phase_claimed (claim.Held back) = Planning
-phase_claimed (claim.Busy back) = Planning
-phase_claimed (claim.Loading back) = Planning
-phase_claimed (claim.Outside back) = Refused cause.Io
-phase_claimed (claim.NoMemory back) = Refused cause.NoMemory
+abbrev pub phase_claimed : BlockNo → Claim → Knowing → Phase
+phase_claimed block (claim.Held back) knowing = Planning
+phase_claimed block (claim.Busy back) knowing = phase_off (aim.Claim block) knowing
+phase_claimed block (claim.Loading back) knowing = phase_off (aim.Claim block) knowing
+phase_claimed block (claim.Outside back) knowing = Refused cause.Io
+phase_claimed block (claim.NoMemory back) knowing = Refused cause.NoMemory
+
+abbrev pub known_claimed : BlockNo → Claim → Knowing → Knowing
+known_claimed block (claim.Held back) knowing = with_aim (aim.Claim block) knowing
+known_claimed block (claim.Busy back) knowing = known_off (aim.Claim block) knowing
+known_claimed block (claim.Loading back) knowing = known_off (aim.Claim block) knowing
+known_claimed block (claim.Outside back) knowing = knowing
+known_claimed block (claim.NoMemory back) knowing = knowing
 
 abbrev pub begun_claimed : Claim → Begun
 begun_claimed (claim.Held back) = record { tx = Some back; io = None }
@@ -98,12 +134,16 @@ begun_claimed (claim.Loading back) = record { tx = Some back; io = None }
 begun_claimed (claim.Outside back) = record { tx = Some back; io = None }
 begun_claimed (claim.NoMemory back) = record { tx = Some back; io = None }
 
-abbrev pub seen_claimed : BlockNo → Claim → Option Seen → Option Seen
-seen_claimed block (claim.Held back) seen = with_claim block seen
-seen_claimed block (claim.Busy back) seen = seen
-seen_claimed block (claim.Loading back) seen = seen
-seen_claimed block (claim.Outside back) seen = seen
-seen_claimed block (claim.NoMemory back) seen = seen
+abbrev pub seen_taken : List Aim → BlockNo → Option Seen → Option Seen
+seen_taken [] block seen = with_claim block seen
+seen_taken (next ∷ later) block seen = seen
+
+abbrev pub seen_claimed : List Aim → BlockNo → Claim → Option Seen → Option Seen
+seen_claimed left block (claim.Held back) seen = seen_taken left block seen
+seen_claimed left block (claim.Busy back) seen = seen
+seen_claimed left block (claim.Loading back) seen = seen
+seen_claimed left block (claim.Outside back) seen = seen
+seen_claimed left block (claim.NoMemory back) seen = seen
 
 -- ---- answers to calls
 
@@ -159,7 +199,8 @@ with_tx tx phase state = record state { phase = phase; begun = record { tx = Som
 abbrev pub after_commit : {C : Type 0} → Job → Reply → Commit C → State → State
 after_commit job reply (commit.Committed place) state = committed job reply place state
 after_commit job reply (commit.Full back change) state = with_tx back Planning state
-after_commit job reply (commit.Foreign back change) state = with_tx back Again state
+after_commit job reply (commit.Foreign back change) state =
+    record (with_tx back Again state) { known = without_off state.known }
 after_commit job reply (commit.NoMemory back change) state = with_tx back (Refused cause.NoMemory) state
 after_commit job reply (commit.Broken back change) state = with_tx back (Refused cause.Io) state
 after_commit job reply (commit.Spent back change) state = with_tx back (Refused cause.Spent) state

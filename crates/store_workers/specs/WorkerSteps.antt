@@ -1,7 +1,7 @@
 -- The step by which a worker goes on, by its phase: which step, and what it leaves of the worker and of the
 -- core.
-use Rattle.std.specs.Prelude.{◌≡◌, ◌↔◌, ℕ, ◌+◌, ◌^◌, ◌<◌, ◌≤◌, Bool, true, false, if◌then◌else◌, IsTrue}
-use Rattle.std.specs.Prelude.{Option, Some, None, Ok, Err, List, [], IsSomeAnd}
+use Rattle.std.specs.Prelude.{◌≡◌, ◌⊎◌, ◌↔◌, ℕ, ◌+◌, ◌^◌, ◌<◌, ◌≤◌, Bool, true, false, if◌then◌else◌, IsTrue}
+use Rattle.std.specs.Prelude.{Option, Some, None, Ok, Err, List, [], ◌∷◌, IsSomeAnd}
 use Rattle.disk.specs.Crash.{Image}
 use Rattle.disk.specs.declared.block.BlockNo.{BlockNo}
 use Rattle.objects.specs.declared.addr.Addr.{Addr}
@@ -35,10 +35,13 @@ use Rattle.store_promise.specs.declared.events.Cause.TheVariants as cause
 use Rattle.store_promise.specs.declared.events.Ending.TheVariants as ending
 use Rattle.store_promise.specs.declared.events.Step.{Step}
 use Rattle.store_promise.specs.declared.events.Step.TheVariants as step
-use Rattle.store_workers.specs.Asked.{with_fetched}
+use Rattle.store_promise.specs.declared.aims.Aim.{Aim}
+use Rattle.store_promise.specs.declared.aims.Aim.TheVariants as aim
+use Rattle.store_workers.specs.Knowing.{given_back}
+use Rattle.store_workers.specs.Phases.{is_planned}
 use Rattle.store_workers.specs.Seen.{Seen, seen_in}
 use Rattle.store_workers.specs.WorkerAnswers.{after_commit, asked_wanted, begun_claimed, begun_wanted}
-use Rattle.store_workers.specs.WorkerAnswers.{claim_wish, committing_of}
+use Rattle.store_workers.specs.WorkerAnswers.{claim_wish, committing_of, known_claimed, known_wanted}
 use Rattle.store_workers.specs.WorkerAnswers.{phase_claimed, phase_wanted, seen_claimed, seen_wanted, wish_of}
 use Rattle.store_workers.specs.WorkerAnswers.{with_answer}
 use Rattle.store_workers.specs.declared.workers.parts.Begun.{Begun}
@@ -61,9 +64,12 @@ side worker core = record { worker = worker; core = core }
 abbrev pub none_begun : Begun
 none_begun = record { tx = None; io = None }
 
--- the worker once what it read has other room
+-- the worker once what it read, and what it knows, has other room
 abbrev pub with_snap : State → State → State
-with_snap new old = record old { work = record old.work { snap = new.work.snap } }
+with_snap new old = record old {
+  work = record old.work { snap = new.work.snap };
+  known = record old.known { room = new.known.room };
+}
 
 -- ---- a transaction is begun
 
@@ -95,7 +101,7 @@ pub record HasBegun (job : Job) (old : Side) (number : ℕ) (new : Side) : Type 
     phase = Planning;
     begun = record { tx = Some number; io = None };
     work = record old.worker.work { job = Some (numbered number job); snap = new.worker.work.snap };
-    asked = record old.worker.asked { fetched = [] };
+    known = given_back old.worker.known;
   }
   pub seen : IsSomeAnd (seen_in new.worker.work.snap) (SawNothing old.core)
 
@@ -119,11 +125,13 @@ pub record HasWanted (tx : ℕ) (addr : Addr) (old : Side) (made : Step) (new : 
   pub made_is : made ≡ step.Wanted addr modes.Exclusive (wish_of answer)
   pub core : IsWanted old.core tx addr modes.Exclusive answer new.core
   pub worker : new.worker ≡ record (with_snap new.worker old.worker) {
-    phase = phase_wanted answer;
+    phase = phase_wanted addr answer old.worker.known;
     begun = begun_wanted answer;
     asked = asked_wanted addr answer old.worker.asked;
+    known = known_wanted addr answer (with_snap new.worker old.worker).known;
   }
-  pub seen : seen_in new.worker.work.snap ≡ seen_wanted addr answer (seen_in old.worker.work.snap)
+  pub seen : seen_in new.worker.work.snap
+      ≡ seen_wanted old.worker.known.left addr answer (seen_in old.worker.work.snap)
 
 -- a wish to claim a block is answered
 pub record HasClaimed (tx : ℕ) (block : BlockNo) (old : Side) (made : Step) (new : Side) : Type 0 where
@@ -131,10 +139,12 @@ pub record HasClaimed (tx : ℕ) (block : BlockNo) (old : Side) (made : Step) (n
   pub made_is : made ≡ step.Claimed block (claim_wish answer)
   pub core : (addr : Addr) × IsWhole block addr × IsClaimed old.core tx addr answer new.core
   pub worker : new.worker ≡ record (with_snap new.worker old.worker) {
-    phase = phase_claimed answer;
+    phase = phase_claimed block answer old.worker.known;
     begun = begun_claimed answer;
+    known = known_claimed block answer (with_snap new.worker old.worker).known;
   }
-  pub seen : seen_in new.worker.work.snap ≡ seen_claimed block answer (seen_in old.worker.work.snap)
+  pub seen : seen_in new.worker.work.snap
+      ≡ seen_claimed old.worker.known.left block answer (seen_in old.worker.work.snap)
 
 -- what a finished plan is to the core
 abbrev pub planned_of : Outcome → Planned
@@ -190,13 +200,31 @@ pub record IsNext (worker : State) (next : Plan) : Type 0 where
   pub plan : IsPlanFor snap next
   pub is_step : IsStepPlan snap.geometry job.ctx job.call next
 
--- The step is that of a plan.
+-- The step is that of a plan: nothing is left to be taken again.
 pub record GoesByPlan (old : Side) (made : Step) (new : Side) : Type 0 where
   pub tx : ℕ
   pub tx_is : old.worker.begun.tx ≡ Some tx
+  pub none : old.worker.known.left ≡ []
   pub next : Plan
   pub next_is : IsNext old.worker next
   pub goes : GoesByNext next tx old made new
+
+-- ---- what was known is taken again
+
+-- the aim is wished, alone
+abbrev pub GoesByAim : Aim → ℕ → Side → Step → Side → Type 0
+GoesByAim (aim.Object addr mode) tx old made new = (mode ≡ modes.Exclusive) × HasWanted tx addr old made new
+GoesByAim (aim.Claim block) tx old made new = HasClaimed tx block old made new
+
+-- The first of what is left is wished again, whatever the plan asks for.
+pub record TakesAgain (old : Side) (made : Step) (new : Side) : Type 0 where
+  pub tx : ℕ
+  pub tx_is : old.worker.begun.tx ≡ Some tx
+  pub planned : is_planned old.worker.work ≡ true
+  pub next : Aim
+  pub later : List Aim
+  pub left : old.worker.known.left ≡ next ∷ later
+  pub goes : GoesByAim next tx old made new
 
 -- ---- a fetch is given back
 
@@ -226,7 +254,6 @@ pub record HasGivenBack (ok : Bool) (io : Fetch) (old : Side) (made : Step) (new
   pub worker : new.worker ≡ record old.worker {
     phase = phase_given ok;
     begun = record old.worker.begun { io = None };
-    asked = with_fetched old.worker.asked;
   }
 
 abbrev pub GivesBack : Bool → Side → Step → Side → Type 0
@@ -285,7 +312,7 @@ abbrev pub GoesOn : Phase → Side → Option Step → Side → Type 0
 GoesOn Idle old made new = (made ≡ None) × (new ≡ old)
 GoesOn Reading old made new = (made ≡ None) × (new ≡ old)
 GoesOn Called old (Some made) new = Begins old made new
-GoesOn Planning old (Some made) new = GoesByPlan old made new
+GoesOn Planning old (Some made) new = GoesByPlan old made new ⊎ TakesAgain old made new
 GoesOn (Read ok) old (Some made) new = GivesBack ok old made new
 GoesOn (Refused why) old (Some made) new = Refuses why old made new
 GoesOn Again old (Some made) new = BeginsAgain old made new

@@ -2,6 +2,7 @@
 
 mod asked;
 mod committing;
+mod known;
 mod parts;
 mod planning;
 mod sourced;
@@ -13,6 +14,7 @@ ghost use Rattle.store_workers.specs.Phases.{has_fetch, has_transaction, is_read
 
 use asked::Asked;
 use disk::{BlockNo, CrashDisk};
+use known::Known;
 use nfs_types::{Call, Credential, Ctx, Moment};
 use parts::{Begun, Job, Phase, State, Work};
 use procs::Done;
@@ -43,13 +45,14 @@ impl Worker {
     ghost use Rattle.store_workers.specs.Ended.{GivesAllBack};
     ghost use Rattle.store_images.specs.Fetches.{FetchesOnly};
     ghost use Rattle.layout.specs.Geometry.{IsLawful};
+    ghost use Rattle.store_workers.specs.Knowing.{nothing_known};
     ghost use Rattle.store_workers.specs.Phases.{block_due};
     ghost use Rattle.store_workers.specs.Worker.{Fits, at_rest, ctx_of, with_call};
     ghost use Rattle.store_workers.specs.WorkerReads.{HasReadBlock};
     ghost use Rattle.store_workers.specs.WorkerSteps.{GoesOn, KeepsHomeOf, KeepsReadsOf, side};
 
     /// An idle worker of a store with this boot number. It has begun nothing.
-    pub fn new(boot: u64) -> Worker
+    pub fn new(alloc: Global, boot: u64) -> Worker
         ensures fits { (core : CoreState) → IsLawful core.log.blocks core.inodes → Fits result core }
         ensures state { result.state ≡ at_rest boot }
     {
@@ -67,6 +70,7 @@ impl Worker {
                 },
                 begun: Begun { tx: None, io: None },
                 asked: Asked::new(),
+                known: Known::new(alloc),
             },
         }
     }
@@ -145,14 +149,15 @@ impl Worker {
         self.state.step(alloc, core)
     }
 
-    /// Has a call that plans begin again with the next step.
+    /// Has a call that plans begin again with the next step, as one that knows nothing.
     pub fn begin_again(&mut self)
         ensures fits { (core : CoreState) → Fits self.old core → Fits self.new core }
         ensures planning { self.old.state.phase ≡ Planning
-            → self.new.state ≡ record self.old.state { phase = Again } }
+            → self.new.state ≡ record self.old.state { phase = Again; known = nothing_known } }
         ensures rest { (self.old.state.phase ≡ Planning → ⊥) → self.new ≡ self.old }
     {
         if self.state.phase == Phase::Planning {
+            self.state.known.forget();
             self.state.phase = Phase::Again;
         }
     }
@@ -194,8 +199,10 @@ impl Worker {
             work,
             begun,
             asked: _,
+            known,
         } = state;
         drop(work);
+        drop(known);
         begun.end(core);
     }
 }

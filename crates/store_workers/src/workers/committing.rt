@@ -61,6 +61,7 @@ impl State {
                 Committing::Full
             }
             Commit::Foreign(tx, _) => {
+                self.known.not_off();
                 self.go_on(tx, Phase::Again);
                 Committing::Foreign
             }

@@ -5,6 +5,7 @@ ghost use Rattle.store_workers.specs.Ended.{GivesFetchBack, GivesTransactionBack
 ghost use Rattle.store_images.specs.Fetches.{FetchesOnly, KeepsFetches};
 
 use super::asked::Asked;
+use super::known::Known;
 use nfs_types::{Call, Ctx, Reply};
 use procs::{Done, Snap};
 use store_promise::{CallAnswer, Cause, Entry};
@@ -23,7 +24,7 @@ pub(crate) enum Phase {
     Idle,
     // It has a call, and no transaction.
     Called,
-    // It has a transaction, and what it has read in it.
+    // It has a transaction, in which it takes again what it knew, and then reads what its plan asks for.
     Planning,
     // A read is due.
     Reading,
@@ -45,6 +46,7 @@ pub(crate) struct State {
     pub(crate) work: Work,
     pub(crate) begun: Begun,
     pub(crate) asked: Asked,
+    pub(crate) known: Known,
 }
 
 // What a worker has of its call and of what came of it.

@@ -1,6 +1,7 @@
-//! The steps of a worker that go by its plan: it reads and claims what the plan asks for, and commits what it
-//! ends in.
-ghost use Rattle.std.specs.Prelude.{◌≡◌, ℕ, None, Some, true, length};
+//! The steps of a worker with a transaction: it takes again what it knew; then it reads and claims what its plan
+//! asks for, and commits what it ends in.
+ghost use Rattle.std.specs.Prelude.{◌≡◌, ◌⊎◌, ℕ, None, Some, [], true, length};
+ghost use Rattle.store_promise.specs.declared.aims.Aim.TheVariants as aim;
 
 use super::parts::{Phase, State};
 use crate::options::put;
@@ -8,27 +9,67 @@ use disk::BlockNo;
 use objects::{Addr, Mode};
 use procs::{Done, Plan, plan};
 use std::alloc::Global;
-use store_promise::{Cause, Ending, Step, Verdict, Wish};
+use store_promise::{Aim, Cause, Ending, Step, Verdict, Wish};
 use txn::{Claim, Core, Tx, Want};
 
 impl State {
     ghost use Rattle.store_workers.specs.declared.workers.parts.Phase.TheVariants.{Planning};
     ghost use Rattle.store_images.specs.Counts.{SameFrame};
     ghost use Rattle.store_workers.specs.Phases.{is_planned};
-    ghost use Rattle.store_workers.specs.Seen.{seen_in, with_claim, with_object};
+    ghost use Rattle.store_workers.specs.Knowing.{IsAlone, IsNextOf, first_of};
+    ghost use Rattle.store_workers.specs.Seen.{seen_in};
     ghost use Rattle.store_workers.specs.Worker.{IsSound, HasBytes, HasRoom, HasRoomFor, IsHeld};
     ghost use Rattle.store_workers.specs.WorkerAnswers.{asked_wanted, begun_claimed, begun_wanted};
-    ghost use Rattle.store_workers.specs.WorkerAnswers.{claim_wish, phase_claimed};
-    ghost use Rattle.store_workers.specs.WorkerAnswers.{phase_wanted, seen_claimed, seen_wanted, wish_of};
-    ghost use Rattle.store_workers.specs.WorkerSteps.{GoesByPlan, HasClaimed, HasLacked, HasWanted};
+    ghost use Rattle.store_workers.specs.WorkerAnswers.{claim_wish, known_claimed, known_off, known_wanted};
+    ghost use Rattle.store_workers.specs.WorkerAnswers.{object, phase_claimed, phase_off, phase_wanted};
+    ghost use Rattle.store_workers.specs.WorkerAnswers.{seen_claimed, seen_held, seen_taken, seen_wanted};
+    ghost use Rattle.store_workers.specs.WorkerAnswers.{wish_of};
+    ghost use Rattle.store_workers.specs.WorkerSteps.{GoesByPlan, HasClaimed, HasLacked, HasWanted, TakesAgain};
     ghost use Rattle.store_workers.specs.WorkerSteps.{IsNext, KeepsReadsOf};
     ghost use Rattle.store_workers.specs.WorkerSteps.{side, with_snap};
     ghost use Rattle.txn.specs.CoreWindow.{KeepsHome, KeepsReads};
 
-    // Makes the step that the plan asks for. Where the plan finds no memory the transaction is ended.
-    pub(super) fn go_by_plan(&mut self, alloc: Global, core: &mut Core<Done>) -> Step
+    // Takes again the first of what is left, or goes by the plan.
+    pub(super) fn go_within(&mut self, alloc: Global, core: &mut Core<Done>) -> Step
         requires sound { IsSound self.old }
         requires phase { self.old.phase ≡ Planning }
+        ensures sound { IsSound self.new }
+        ensures frame { SameFrame core.old core.new }
+        ensures step { GoesByPlan (side self.old core.old) result (side self.new core.new)
+            ⊎ TakesAgain (side self.old core.old) result (side self.new core.new) }
+        ensures home { KeepsHome core.old core.new }
+        ensures stays { KeepsReadsOf (side self.old core.old) (side self.new core.new) }
+    {
+        match self.known.next() {
+            Some(next) => self.take_again(alloc, core, next),
+            None => self.go_by_plan(alloc, core),
+        }
+    }
+
+    // Wishes what it knew again.
+    fn take_again(&mut self, alloc: Global, core: &mut Core<Done>, next: Aim) -> Step
+        requires sound { IsSound self.old }
+        requires phase { self.old.phase ≡ Planning }
+        requires next { first_of self.old.known.left ≡ Some next }
+        requires alone { IsAlone next }
+        ensures sound { IsSound self.new }
+        ensures frame { SameFrame core.old core.new }
+        ensures step { TakesAgain (side self.old core.old) result (side self.new core.new) }
+        ensures home { KeepsHome core.old core.new }
+        ensures stays { KeepsReadsOf (side self.old core.old) (side self.new core.new) }
+    {
+        let tx = self.begun.take_tx();
+        match next {
+            Aim::Object(addr, _) => self.want(alloc, core, tx, addr),
+            Aim::Claim(block) => self.claim(core, tx, block),
+        }
+    }
+
+    // Makes the step that the plan asks for. Where the plan finds no memory the transaction is ended.
+    fn go_by_plan(&mut self, alloc: Global, core: &mut Core<Done>) -> Step
+        requires sound { IsSound self.old }
+        requires phase { self.old.phase ≡ Planning }
+        requires none { self.old.known.left ≡ [] }
         ensures sound { IsSound self.new }
         ensures frame { SameFrame core.old core.new }
         ensures step { GoesByPlan (side self.old core.old) result (side self.new core.new) }
@@ -56,7 +97,7 @@ impl State {
         let (Some(job), Some(snap)) = (self.work.job.as_ref(), self.work.snap.as_mut()) else {
             unreachable!();
         };
-        if snap.make_room().is_err() {
+        if snap.make_room().is_err() || self.known.make_room().is_err() {
             return Plan::NoMemory;
         }
         plan(alloc, &job.ctx, &job.call, snap)
@@ -79,7 +120,8 @@ impl State {
     // Reads an object in the transaction.
     fn want(&mut self, alloc: Global, core: &mut Core<Done>, tx: Tx, addr: Addr) -> Step
         requires held { IsHeld self.old }
-        requires room { HasRoom self.old }
+        requires next { IsNextOf (object addr) self.old.known.left }
+        requires room { self.old.known.left ≡ [] → HasRoom self.old }
         ensures sound { IsSound self.new }
         ensures frame { SameFrame core.old core.new }
         ensures step { HasWanted tx addr (side self.old core.old) result (side self.new core.new) }
@@ -96,35 +138,41 @@ impl State {
     fn wanted(&mut self, addr: Addr, answer: Want) -> Wish
         requires planned { is_planned self.old.work ≡ true }
         requires none { (self.old.begun.tx ≡ None) × (self.old.begun.io ≡ None) }
-        requires room { HasRoom self.old }
+        requires next { IsNextOf (object addr) self.old.known.left }
+        requires room { self.old.known.left ≡ [] → HasRoom self.old }
         requires len { HasBytes addr.len answer }
         ensures wish { result ≡ wish_of answer }
         ensures rest { self.new ≡ record (with_snap self.new self.old) {
-          phase = phase_wanted answer;
+          phase = phase_wanted addr answer self.old.known;
           begun = begun_wanted answer;
           asked = asked_wanted addr answer self.old.asked;
+          known = known_wanted addr answer (with_snap self.new self.old).known;
         } }
-        ensures seen { seen_in self.new.work.snap ≡ seen_wanted addr answer (seen_in self.old.work.snap) }
+        ensures seen { seen_in self.new.work.snap
+            ≡ seen_wanted self.old.known.left addr answer (seen_in self.old.work.snap) }
         ensures planned { is_planned self.new.work ≡ true }
     {
+        let aim = Aim::Object(addr, Mode::Exclusive);
         match answer {
             Want::Held(tx, bytes) => {
                 self.keep(addr, bytes);
+                self.known.take(aim);
                 self.go_on(tx, Phase::Planning);
                 Wish::Held
             }
             Want::Fetch(tx, io) => {
                 put(&mut self.begun.io, io);
                 self.asked.wish_for(addr);
+                self.known.take(aim);
                 self.go_on(tx, Phase::Reading);
                 Wish::Fetch
             }
             Want::Busy(tx) => {
-                self.go_on(tx, Phase::Planning);
+                self.keep_off(tx, aim);
                 Wish::Busy
             }
             Want::Loading(tx) => {
-                self.go_on(tx, Phase::Planning);
+                self.keep_off(tx, aim);
                 Wish::Loading
             }
             Want::Outside(tx) => {
@@ -138,15 +186,40 @@ impl State {
         }
     }
 
-    // Keeps what was read.
+    // A worker that is kept off waits, where it has taken nothing above what it wishes, and else begins again.
+    fn keep_off(&mut self, tx: Tx, wished: Aim)
+        requires none { self.old.begun.tx ≡ None }
+        requires alone { IsAlone wished }
+        requires next { IsNextOf wished self.old.known.left }
+        requires room { self.old.known.left ≡ [] → self.old.known.room ≡ true }
+        ensures { self.new ≡ record self.old {
+          phase = phase_off wished self.old.known;
+          begun = record self.old.begun { tx = Some tx };
+          known = known_off wished self.old.known;
+        } }
+    {
+        if self.known.has_above(wished) {
+            self.known.keep_off(wished);
+            self.go_on(tx, Phase::Again);
+        } else {
+            self.go_on(tx, Phase::Planning);
+        }
+    }
+
+    // Keeps what was read. What is taken again isn't looked at.
     fn keep(&mut self, addr: Addr, bytes: Vec<u8>)
         requires planned { is_planned self.old.work ≡ true }
-        requires room { HasRoom self.old }
+        requires room { self.old.known.left ≡ [] → HasRoom self.old }
         requires len { length bytes.items ≡ addr.len }
         ensures rest { self.new ≡ with_snap self.new self.old }
-        ensures seen { seen_in self.new.work.snap ≡ with_object addr bytes.items (seen_in self.old.work.snap) }
+        ensures known { self.new.known ≡ self.old.known }
+        ensures seen { seen_in self.new.work.snap
+            ≡ seen_held self.old.known.left addr bytes.items (seen_in self.old.work.snap) }
         ensures planned { is_planned self.new.work ≡ true }
     {
+        if self.known.next().is_some() {
+            return;
+        }
         match self.work.snap.as_mut() {
             Some(snap) => snap.add(addr, bytes),
             None => unreachable!(),
@@ -156,7 +229,8 @@ impl State {
     // Claims a block that is written whole.
     fn claim(&mut self, core: &mut Core<Done>, tx: Tx, block: BlockNo) -> Step
         requires held { IsHeld self.old }
-        requires room { HasRoom self.old }
+        requires next { IsNextOf (aim.Claim block) self.old.known.left }
+        requires room { self.old.known.left ≡ [] → HasRoom self.old }
         ensures sound { IsSound self.new }
         ensures frame { SameFrame core.old core.new }
         ensures step { HasClaimed tx block (side self.old core.old) result (side self.new core.new) }
@@ -173,27 +247,32 @@ impl State {
     fn claimed(&mut self, block: BlockNo, answer: Claim) -> Wish
         requires planned { is_planned self.old.work ≡ true }
         requires none { (self.old.begun.tx ≡ None) × (self.old.begun.io ≡ None) }
-        requires room { HasRoom self.old }
+        requires next { IsNextOf (aim.Claim block) self.old.known.left }
+        requires room { self.old.known.left ≡ [] → HasRoom self.old }
         ensures wish { result ≡ claim_wish answer }
         ensures rest { self.new ≡ record (with_snap self.new self.old) {
-          phase = phase_claimed answer;
+          phase = phase_claimed block answer self.old.known;
           begun = begun_claimed answer;
+          known = known_claimed block answer (with_snap self.new self.old).known;
         } }
-        ensures seen { seen_in self.new.work.snap ≡ seen_claimed block answer (seen_in self.old.work.snap) }
+        ensures seen { seen_in self.new.work.snap
+            ≡ seen_claimed self.old.known.left block answer (seen_in self.old.work.snap) }
         ensures planned { is_planned self.new.work ≡ true }
     {
+        let aim = Aim::Claim(block);
         match answer {
             Claim::Held(tx) => {
                 self.note_claim(block);
+                self.known.take(aim);
                 self.go_on(tx, Phase::Planning);
                 Wish::Held
             }
             Claim::Busy(tx) => {
-                self.go_on(tx, Phase::Planning);
+                self.keep_off(tx, aim);
                 Wish::Busy
             }
             Claim::Loading(tx) => {
-                self.go_on(tx, Phase::Planning);
+                self.keep_off(tx, aim);
                 Wish::Loading
             }
             Claim::Outside(tx) => {
@@ -207,14 +286,19 @@ impl State {
         }
     }
 
-    // Notes that a block was claimed.
+    // Notes that a block was claimed, where it isn't taken again.
     fn note_claim(&mut self, block: BlockNo)
         requires planned { is_planned self.old.work ≡ true }
-        requires room { HasRoom self.old }
+        requires room { self.old.known.left ≡ [] → HasRoom self.old }
         ensures rest { self.new ≡ with_snap self.new self.old }
-        ensures seen { seen_in self.new.work.snap ≡ with_claim block (seen_in self.old.work.snap) }
+        ensures known { self.new.known ≡ self.old.known }
+        ensures seen { seen_in self.new.work.snap
+            ≡ seen_taken self.old.known.left block (seen_in self.old.work.snap) }
         ensures planned { is_planned self.new.work ≡ true }
     {
+        if self.known.next().is_some() {
+            return;
+        }
         match self.work.snap.as_mut() {
             Some(snap) => snap.claimed(block),
             None => unreachable!(),

@@ -37,7 +37,7 @@ impl State {
         match self.phase {
             Phase::Idle | Phase::Reading => None,
             Phase::Called => Some(self.begin(alloc, core)),
-            Phase::Planning => Some(self.go_by_plan(alloc, core)),
+            Phase::Planning => Some(self.go_within(alloc, core)),
             Phase::Read(ok) => Some(self.give_back(core, ok)),
             Phase::Refused(why) => Some(self.refuse(core, why)),
             Phase::Again => Some(self.begin_again(core)),
@@ -50,6 +50,7 @@ impl State {
         ensures { self.new ≡ with_call ctx call self.old }
     {
         drop(self.work.job.replace(Job { ctx, call }));
+        self.known.forget();
         self.phase = Phase::Called;
     }
 
@@ -100,7 +101,7 @@ impl State {
                     inodes,
                 };
                 self.work.snap = Some(Snap::new(alloc, geometry));
-                self.asked.begin();
+                self.known.give_back();
                 self.go_on(tx, Phase::Planning);
                 Step::Begun(Ok(number))
             }
@@ -124,7 +125,6 @@ impl State {
     {
         let io = self.begun.take_fetch();
         let block = io.block();
-        self.asked.was_fetched();
         if ok {
             core.fetched(io);
             self.phase = Phase::Planning;

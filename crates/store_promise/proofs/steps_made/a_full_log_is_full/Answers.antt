@@ -1,5 +1,7 @@
 use Rattle.std.proofs.Common.{arith}
-use Rattle.store_promise.proofs.Told.{planned_step}
+use Rattle.store_promise.specs.declared.events.Committing.TheVariants as committing
+use Rattle.store_promise.specs.Schedule.{told_before}
+use Rattle.store_promise.proofs.Told.{commit_is, planned_step}
 use Rattle.store_promise.proofs.steps_made.a_full_log_is_full.Goals as goal
 
 pub returns : goal.returns
@@ -9,4 +11,5 @@ returns c =
     let step = planned_step kept.setting workers events t.steps kept.taken index worker job begun
     _ is_event less
     is_step planning in
-    let full = step.1.2 in omega (arith, room, full)
+    let full = (commit_is kept.setting (told_before events t.steps index) worker begun begun.left blocks
+    committing.Full step).1.2 in omega (arith, room, full)

@@ -8,12 +8,12 @@ use Rattle.store_promise.proofs.steps_made.a_worker_passes_over_no_event.Goals a
 works : (o : Setting) (told : Told) (worker : ℕ) (job : Job) (stage : Stage)
     → ((begun : Begun) (taken : Taken) → stage ≢ Reading begun taken)
     → IsStepOfWork o told worker (At job stage) None → ⊥
-works o told worker job Called other none = none
+works o told worker job (Called known) other none = none
 works o told worker job (Planning begun) other none = none
 works o told worker job (Reading begun addr) other none = other begun addr refl
 works o told worker job (Read begun addr ok) other none = none
 works o told worker job (Refused begun why) other none = none
-works o told worker job (Again begun) other none = none
+works o told worker job (Again begun wished) other none = none
 works o told worker job (Waiting place) other none = none
 
 pub returns-clause-work : goal.returns-clause-work

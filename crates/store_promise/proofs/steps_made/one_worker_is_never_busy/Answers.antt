@@ -3,8 +3,9 @@ use Rattle.std.proofs.Common.{◌≡◌, ℕ, ◌<◌, ◌≤◌, inl, inr, arit
 use Rattle.std.proofs.lemmas.Bool.{cases_lt}
 use Rattle.disk.specs.declared.block.BlockNo.{BlockNo}
 use Rattle.store_promise.specs.Progress.{Progress, Idle, Wished, has_taken, is_fetching}
-use Rattle.store_promise.specs.Schedule.{wish_of}
-use Rattle.store_promise.proofs.Told.{planned_step, idle_beyond, only_of_some}
+use Rattle.store_promise.specs.declared.events.Wish.TheVariants as wish
+use Rattle.store_promise.specs.Schedule.{told_before, wish_of}
+use Rattle.store_promise.proofs.Told.{planned_step, idle_beyond, only_of_some, wish_is}
 use Rattle.store_promise.proofs.steps_made.one_worker_is_never_busy.Goals as goal
 
 takes_nothing : (wished : Wished) (progress : Progress) → progress ≡ Idle → has_taken wished progress ≡ true → ⊥
@@ -29,9 +30,11 @@ returns-clause-busy c = λ before later tree first index worker events t job beg
     is_step in
     let step = planned_step kept.setting 1 events t.steps kept.taken index worker job begun _ is_event less
     is_step planning in
+    let cause = wish_is kept.setting (told_before events t.steps index) worker begun begun.left addr mode wish.Busy
+    step in
     takes_nothing (wish_of addr mode) _
-    (idle_beyond kept.setting 1 events t.steps kept.taken step.1.other
-    (beyond worker step.1.other less step.1.differs) index) step.1.so
+    (idle_beyond kept.setting 1 events t.steps kept.taken cause.other
+    (beyond worker cause.other less cause.differs) index) cause.so
 
 pub returns-clause-loading : goal.returns-clause-loading
 returns-clause-loading c = λ before later tree first index worker events t job begun addr mode is_event is_step
@@ -40,6 +43,8 @@ returns-clause-loading c = λ before later tree first index worker events t job 
     is_step in
     let step = planned_step kept.setting 1 events t.steps kept.taken index worker job begun _ is_event less
     is_step planning in
+    let cause = wish_is kept.setting (told_before events t.steps index) worker begun begun.left addr mode
+    wish.Loading step in
     fetches_nothing addr.block _
-    (idle_beyond kept.setting 1 events t.steps kept.taken step.1.other
-    (beyond worker step.1.other less step.1.differs) index) step.1.so
+    (idle_beyond kept.setting 1 events t.steps kept.taken cause.other
+    (beyond worker cause.other less cause.differs) index) cause.so

@@ -1,7 +1,8 @@
 -- No step goes by the files.
-use Rattle.std.proofs.Common.{◌≡◌, ℕ, true, false, Option, Some, None, sym, subst}
+use Rattle.std.proofs.Common.{ℕ, true, false, List, [], ◌∷◌, Option, Some, None}
 use Rattle.disk.specs.Crash.{Image}
 use Rattle.nfs_types.specs.declared.call.Call.{Call}
+use Rattle.store_promise.specs.declared.aims.Aim.{Aim}
 use Rattle.store_promise.specs.declared.events.Committing.{Committing}
 use Rattle.store_promise.specs.declared.events.Committing.TheVariants as committing
 use Rattle.store_promise.specs.declared.events.Ending.TheVariants as ending
@@ -13,7 +14,7 @@ use Rattle.store_promise.specs.LogTold.{CallTold, idle, out, was_made}
 use Rattle.store_promise.specs.Progress.{Again, At, Begun, Called, Idle, Planning, Progress, Read, Reading}
 use Rattle.store_promise.specs.Progress.{Refused}
 use Rattle.store_promise.specs.Progress.{Stage, Waiting}
-use Rattle.store_promise.specs.Schedule.{HasNumbers, IsCommitting, IsStepByPlan, IsStepOf}
+use Rattle.store_promise.specs.Schedule.{HasNumbers, IsCommitting, IsStepBeside, IsStepByPlan, IsStepOf}
 use Rattle.store_promise.specs.Schedule.{IsStepOfInstaller, IsStepOfLog, IsStepOfWork}
 use Rattle.store_promise.specs.Schedule.{IsStepWith, Setting, Told}
 use Rattle.store_promise.proofs.steps_made.what_was_made_stays.Goals as goal
@@ -62,34 +63,40 @@ module _ (o : Setting) (told : Told) (later : ℕ → Image) where
   by_plan worker begun (step.InstIo ok) is = is
   by_plan worker begun (step.InstDone ok) is = is
 
+  within : (worker : ℕ) (begun : Begun) (left : List Aim) (made : Step)
+      → IsStepBeside left o told worker begun made
+      → IsStepBeside left with_later told worker begun made
+  within worker begun [] made is = by_plan worker begun made is
+  within worker begun (next ∷ later) made is = is
+
   with_call : (worker : ℕ) (call : Call) (stage : Stage) (made : Step)
       → IsStepWith o told worker call stage made
       → IsStepWith with_later told worker call stage made
-  with_call worker call Called made is = is
-  with_call worker call (Planning begun) made is = by_plan worker begun made is
+  with_call worker call (Called known) made is = is
+  with_call worker call (Planning begun) made is = within worker begun begun.left made is
   with_call worker call (Reading begun addr) made is = is
   with_call worker call (Read begun addr true) made is = is
   with_call worker call (Read begun addr false) made is = is
   with_call worker call (Refused begun why) made is = is
-  with_call worker call (Again begun) made is = is
+  with_call worker call (Again begun wished) made is = is
   with_call worker call (Waiting place) made is = is
 
   of_work : (worker : ℕ) (so_far : Progress) (made : Option Step) → IsStepOfWork o told worker so_far made
       → IsStepOfWork with_later told worker so_far made
   of_work worker Idle made is = is
   of_work worker (At job (Reading begun addr)) made is = is
-  of_work worker (At job Called) (Some made) is = is
+  of_work worker (At job (Called known)) (Some made) is = is
   of_work worker (At job (Planning begun)) (Some made) is = with_call worker job.call (Planning begun) made is
   of_work worker (At job (Read begun addr ok)) (Some made) is =
       with_call worker job.call (Read begun addr ok) made is
   of_work worker (At job (Refused begun why)) (Some made) is = is
-  of_work worker (At job (Again begun)) (Some made) is = is
+  of_work worker (At job (Again begun wished)) (Some made) is = is
   of_work worker (At job (Waiting place)) (Some made) is = is
-  of_work worker (At job Called) None is = is
+  of_work worker (At job (Called known)) None is = is
   of_work worker (At job (Planning begun)) None is = is
   of_work worker (At job (Read begun addr ok)) None is = is
   of_work worker (At job (Refused begun why)) None is = is
-  of_work worker (At job (Again begun)) None is = is
+  of_work worker (At job (Again begun wished)) None is = is
   of_work worker (At job (Waiting place)) None is = is
 
   of_log : (call : CallTold) (made : Option Step) → IsStepOfLog o told.log call made

@@ -6,6 +6,7 @@ pub returns-in-Done-clause-step : goal.returns-in-Done-clause-step
 returns-in-Done-clause-step c = record {
   tx = c.take_tx-tx.result;
   tx_is = search rules;
+  none = search rules;
   next = plan.Done c.in-Done.done;
   next_is = c.in-Done.ensures.next;
   goes = search rules;

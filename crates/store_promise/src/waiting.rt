@@ -1,0 +1,33 @@
+//! Laws on what transactions have taken: it rises along a run, and those who wait make no ring.
+ghost use Rattle.std.specs.Prelude.{◌≡◌, ◌⊎◌, ℕ, List, Option, Contains};
+ghost use Rattle.store_promise.specs.declared.events.Step.{Step};
+ghost use Rattle.store_promise.specs.declared.aims.Aim.{Aim};
+ghost use Rattle.store_promise.specs.Aims.{Rises, inserted, rank_of};
+ghost use Rattle.store_promise.specs.Schedule.{AreTaken, Schedule, Setting, progress_before, told_before};
+ghost use Rattle.store_promise.specs.Waiting.{AllWait, HasTakenWell, Waiter};
+
+/// Aims that rise do so with one more; then they are those that there were, and it. No two have one rank.
+pub fn aims_rise_with_one_more()
+    ensures rise { (one : Aim) (aims : List Aim) → Rises aims → Rises (inserted one aims) }
+    ensures there { (one : Aim) (aims : List Aim) → Contains (inserted one aims) one }
+    ensures kept { (one other : Aim) (aims : List Aim) → Contains aims other
+        → Contains (inserted one aims) other }
+    ensures no_more { (one other : Aim) (aims : List Aim) → Contains (inserted one aims) other
+        → (one ≡ other) ⊎ Contains aims other }
+    ensures ranks { (one other : Aim) → rank_of one ≡ rank_of other → one ≡ other }
+{}
+
+/// Along a run what a transaction has taken, and behind it what is left of what its call knew, are aims of the
+/// image that rise: so it is taken again from the lowest on.
+pub fn what_is_taken_rises()
+    ensures { (o : Setting) (workers index worker : ℕ) (events : Schedule) (steps : List (Option Step))
+        → AreTaken o workers events steps
+        → HasTakenWell o.geometry (progress_before events steps worker index) }
+{}
+
+/// No worker of a run waits for one that waits for it, nor do more of them in a ring.
+pub fn waits_make_no_ring()
+    ensures { (o : Setting) (workers index : ℕ) (events : Schedule) (steps : List (Option Step))
+        (one : Waiter) (later : List Waiter) → AreTaken o workers events steps
+        → AllWait o.geometry (told_before events steps index) one later one → ⊥ }
+{}

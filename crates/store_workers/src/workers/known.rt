@@ -1,0 +1,178 @@
+//! What a worker's call knows: what it has taken, and was kept off from.
+ghost use Rattle.std.specs.Prelude.{◌≡◌, ◌<◌, All, nat_le, position, vec_len, vec_capacity};
+ghost use Rattle.store_promise.specs.Aims.{Rises, inserted, is_above, rank_of};
+ghost use Rattle.store_workers.specs.Knowing.{IsAlone};
+
+use std::alloc::{AllocError, Global};
+use std::marker::Model;
+use store_promise::Aim;
+
+// What a call knows, from the lowest on; how much of it its transaction has taken; what it was kept off from;
+// and whether room was made for one more.
+#[derive(Drop)]
+pub(crate) struct Known {
+    aims: Vec<Aim>,
+    taken: usize,
+    off: Option<Aim>,
+    room: bool,
+}
+
+impl Model for Known {
+    ghost use Rattle.std.specs.Prelude.{take, drop};
+    ghost use Rattle.store_workers.specs.Knowing.{Knowing};
+
+    ghost Value = { Knowing };
+
+    ghost view = { λ k. record {
+      taken = take k.taken k.aims.items;
+      left = drop k.taken k.aims.items;
+      off = k.off;
+      room = k.room;
+    } };
+
+    ghost use Rattle.std.specs.Prelude.{◌≡◌, ◌≤◌, ◌<◌, true, All, IfSome, is_some, vec_len, vec_capacity};
+    ghost use Rattle.store_promise.specs.Aims.{Rises};
+    ghost use Rattle.store_workers.specs.Knowing.{IsAlone};
+
+    ghost invariant = { λ k. (k.taken ≤ vec_len k.aims) × Rises k.aims.items × All IsAlone k.aims.items
+        × IfSome k.off IsAlone × (is_some k.off ≡ true → k.room ≡ true)
+        × (k.room ≡ true → vec_len k.aims < vec_capacity k.aims) };
+}
+
+impl Known {
+    ghost use Rattle.std.specs.Prelude.{Some, None, [], true, false, IfSome, OnOk, OnErr};
+    ghost use Rattle.store_promise.specs.Aims.{is_above};
+    ghost use Rattle.store_workers.specs.Knowing.{IsAlone, IsNextOf, first_of, given_back, nothing_known, with_aim, with_off, without_off};
+
+    // Nothing yet.
+    pub(crate) fn new(alloc: Global) -> Known
+        ensures { result ≡ nothing_known }
+    {
+        Known {
+            aims: Vec::new(alloc),
+            taken: 0,
+            off: None,
+            room: false,
+        }
+    }
+
+    // A call is taken, which knows nothing.
+    pub(crate) fn forget(&mut self)
+        ensures { self.new ≡ nothing_known }
+    {
+        self.room = false;
+        self.off = None;
+        self.taken = 0;
+        self.aims.clear();
+    }
+
+    // Makes room for one more.
+    pub(crate) fn make_room(&mut self) -> Result<(), AllocError>
+        ensures room { OnOk result (self.new ≡ record self.old { room = true }) }
+        ensures same { OnErr result (self.new ≡ self.old) }
+    {
+        self.aims.reserve(1)?;
+        self.room = true;
+        Ok(())
+    }
+
+    // What is to be taken again next. Each is asked for by a transaction alone.
+    pub(crate) fn next(&self) -> Option<Aim>
+        ensures next { result ≡ first_of self.now.left }
+        ensures alone { IfSome result IsAlone }
+    {
+        self.aims.get(self.taken).copied()
+    }
+
+    // Notes that the transaction has taken this, the next of what is left, if anything is.
+    pub(crate) fn take(&mut self, one: Aim)
+        requires next { IsNextOf one self.old.left }
+        requires room { self.old.left ≡ [] → self.old.room ≡ true }
+        requires alone { IsAlone one }
+        ensures { self.new ≡ with_aim one self.old }
+    {
+        self.room = false;
+        self.off = None;
+        if self.taken < self.aims.len() {
+            self.taken += 1;
+        } else {
+            insert(&mut self.aims, one);
+            self.taken = self.aims.len();
+        }
+    }
+
+    // Whether the transaction has taken something above this.
+    pub(crate) fn has_above(&self, wished: Aim) -> bool
+        ensures above { result ≡ is_above wished self.now.taken }
+        ensures next { first_of self.now.left ≡ Some wished → result ≡ false }
+    {
+        any_above(&self.aims[..self.taken], wished)
+    }
+
+    // Notes what it was kept off from.
+    pub(crate) fn keep_off(&mut self, wished: Aim)
+        requires room { self.old.room ≡ true }
+        requires alone { IsAlone wished }
+        ensures { self.new ≡ with_off wished self.old }
+    {
+        self.off = Some(wished);
+    }
+
+    // Notes that it was kept off from nothing.
+    pub(crate) fn not_off(&mut self)
+        ensures { self.new ≡ without_off self.old }
+    {
+        self.off = None;
+    }
+
+    // Gives all back, to be taken again.
+    pub(crate) fn give_back(&mut self)
+        ensures { self.new ≡ given_back self.old }
+    {
+        self.room = false;
+        self.taken = 0;
+        if let Some(wished) = self.off.take() {
+            insert(&mut self.aims, wished);
+        }
+    }
+}
+
+// Whether one of these begins above what is wished.
+fn any_above(aims: &[Aim], wished: Aim) -> bool
+    ensures { result ≡ is_above wished aims.now }
+{
+    let place = wished.place();
+    aims.iter().any(|one| place < one.place())
+}
+
+// Where the first aim stands whose rank isn't below this one.
+fn position_from(aims: &[Aim], rank: usize) -> Option<usize>
+    ensures { result ≡ position (λ other. nat_le rank (rank_of other)) aims.now }
+{
+    aims.iter().position(|other| rank <= other.rank())
+}
+
+// Puts an aim in its place, where it isn't there.
+fn insert(aims: &mut Vec<Aim>, one: Aim)
+    requires rise { Rises aims.old.items }
+    requires alone { All IsAlone aims.old.items × IsAlone one }
+    requires room { vec_len aims.old < vec_capacity aims.old }
+    ensures items { aims.new.items ≡ inserted one aims.old.items }
+    ensures rise { Rises aims.new.items }
+    ensures alone { All IsAlone aims.new.items }
+{
+    match position_from(aims, one.rank()) {
+        Some(index) => {
+            if aims[index].rank() != one.rank() {
+                match aims.insert(index, one) {
+                    Ok(()) => {}
+                    Err(_) => unreachable!(),
+                }
+            }
+        }
+        None => match aims.push(one) {
+            Ok(()) => {}
+            Err(_) => unreachable!(),
+        },
+    }
+}
