@@ -73,11 +73,31 @@ def test_the_plain_program_ends_with_1_where_the_connection_closes(place):
         expect(what, answer(place, call + behind), 1, reply, b"")
 
 
+def test_the_plain_program_tells_times_apart(place):
+    # Each call of NFS but NULL comes three seconds later than the one before.
+    stream = [wire.setattr_call(1, 448), wire.null_call(2), wire.setattr_call(3, 449), wire.getattr_call(4)]
+    told = [wire.setattr_reply(1, 448, MADE, MADE, 2000), wire.null_reply(2)]
+    told += [wire.setattr_reply(3, 449, MADE, 2000, 2003), wire.getattr_reply(4, 449, MADE, 2003)]
+    stream += [wire.setattr_call(5, 450)]
+    told += [wire.setattr_reply(5, 450, MADE, 2003, 2009)]
+    expect("a clock that rises", answer(place, b"".join(stream), [*COUNTS, "3"]), 0, b"".join(told), b"")
+    # None is later than the last second of 32 bits.
+    last = 2**32 - 1
+    stream = [wire.setattr_call(it, 448) for it in range(3)]
+    times = [MADE, last - 1, last, last]
+    told = [wire.setattr_reply(it, 448, MADE, times[it], times[it + 1]) for it in range(3)]
+    given = [*COUNTS[:3], str(last - 1), "1"]
+    expect("a clock at its end", answer(place, b"".join(stream), given), 0, b"".join(told), b"")
+
+
 def test_the_plain_program_ends_with_2_where_its_arguments_ask_for_nothing(place):
     senseless = [
         [],
         COUNTS[:3],
-        [*COUNTS, "0"],
+        [*COUNTS, "0", "0"],
+        [*COUNTS, "-1"],
+        [*COUNTS, "one"],
+        [*COUNTS, str(2**32)],
         ["blocks", *COUNTS[1:]],
         ["", *COUNTS[1:]],
         ["-1", *COUNTS[1:]],

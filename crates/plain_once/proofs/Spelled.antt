@@ -1,9 +1,10 @@
 -- The words of a command line, each at its place.
 use Rattle.std.proofs.Common.{◌≡◌, ◌<◌, ℕ, List, Global, Option, None, [], map, get_or, length, string_bytes}
-use Rattle.std.proofs.Common.{subst, sym, ap, ◌∙◌}
+use Rattle.std.proofs.Common.{◌≤◌, subst, sym, ap, ◌∙◌, inl, inr, arith}
 use Rattle.std.specs.Prelude.{String, IfNone}
 use Rattle.std.proofs.lemmas.List.{get_or-map}
-use Rattle.plain_once.specs.Words.{AsksFor, Spells}
+use Rattle.std.proofs.lemmas.List.{length-map}
+use Rattle.plain_once.specs.Words.{AsksFor, RisesBy, Spells}
 use Rattle.plain_once.specs.declared.words.Asked.{Asked}
 
 module _ (line : List (String Global)) (at : ℕ) (word : String Global) (within : at < length line)
@@ -25,3 +26,10 @@ module _ (line : List (String Global)) (at : ℕ) (word : String Global) (within
   asks_for_none unspelled told none by spells =
       subst AsksForNone (sym none) (λ asked asks. unspelled (by asked)
       (subst (λ w. Spells w (by asked)) bytes_at (spells asked asks)))
+
+-- where there is a sixth word, it spells the rise
+pub rises_by : (line : List (String Global)) (rise : ℕ) → 6 ≤ length line → RisesBy (map string_bytes line) rise
+    → Spells (get_or (map string_bytes line) 5 []) rise
+rises_by line rise long (inl none) =
+    let all = length-map line string_bytes in let five = none.0 in absurd (omega (arith, long, all, five))
+rises_by line rise long (inr some) = some.1

@@ -1,4 +1,4 @@
-//! The program `plain_once BLOCKS INODES MADE TIME`: answers the records of the standard input over a fresh
+//! The program `plain_once BLOCKS INODES MADE TIME [RISE]`: answers the records of the standard input over a fresh
 //! tree in memory, by plain code, to compare another server with.
 #![tactic(auto)]
 
@@ -65,7 +65,7 @@ fn answer_asked<R: Read, W: Write>(
     ensures senseless { result ≡ SENSELESS → HasData asked.blocks asked.inodes None }
 {
     let mut piece = [0; PIECE_BYTES];
-    match PlainSession::new(alloc, asked.blocks, asked.inodes, asked.made, asked.time) {
+    match PlainSession::new(alloc, asked.blocks, asked.inodes, asked.made, asked.clock) {
         Ok(Some(mut session)) => {
             answer_input(alloc, &mut session, reader, writer, &mut piece, MOST_READS)
         }

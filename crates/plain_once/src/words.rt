@@ -3,16 +3,19 @@ ghost use Rattle.std.specs.Prelude.{ℕ, map, string_bytes, IfSome, IfNone};
 ghost use Rattle.plain_once.specs.Words.{AsksFor, Spells};
 ghost use Rattle.plain_once.specs.declared.words.Asked.{Asked as ask};
 
+use plain_session::Clock;
+
 /// The counts of the image, when its root is made, and when calls come.
 #[derive(Clone, Copy, Debug, PartialEq, Eq)]
 pub struct Asked {
     pub blocks: u32,
     pub inodes: u32,
     pub made: u32,
-    pub time: u32,
+    pub clock: Clock,
 }
 
-/// What a command line asks for, of which the first word is the program's name: four numbers, or nothing.
+/// What a command line asks for, of which the first word is the program's name: four numbers or five, or nothing.
+/// The fifth is by how many seconds each call is later than the one before; without it all come at one moment.
 pub fn parse(line: &[String]) -> Option<Asked>
     ensures asks { IfSome result (AsksFor (map string_bytes line.now)) }
     ensures senseless { IfNone result ((asked : ask) → AsksFor (map string_bytes line.now) asked → ⊥) }
@@ -22,7 +25,19 @@ pub fn parse(line: &[String]) -> Option<Asked>
             blocks: number(blocks)?,
             inodes: number(inodes)?,
             made: number(made)?,
-            time: number(time)?,
+            clock: Clock {
+                second: number(time)?,
+                rise: 0,
+            },
+        }),
+        [_, blocks, inodes, made, time, rise] => Some(Asked {
+            blocks: number(blocks)?,
+            inodes: number(inodes)?,
+            made: number(made)?,
+            clock: Clock {
+                second: number(time)?,
+                rise: number(rise)?,
+            },
         }),
         _ => None,
     }

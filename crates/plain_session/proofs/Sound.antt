@@ -1,5 +1,5 @@
 -- The files of a session are sound.
-use Rattle.std.proofs.Common.{◌≡◌, ℕ, ◌+◌, ◌-◌, ◌<◌, ◌^◌, Bool, true, false, List, Some, subst, sym, ap, refl}
+use Rattle.std.proofs.Common.{◌≡◌, ℕ, ◌+◌, ◌-◌, ◌<◌, ◌^◌, Bool, true, false, List, Some, min, subst, sym, ap, refl}
 use Rattle.std.proofs.Common.{arith}
 use Rattle.std.proofs.Math.Nat.{min-le_right}
 use Rattle.nfs_types.specs.declared.call.Call.{Call}
@@ -9,7 +9,6 @@ use Rattle.nfs_types.specs.declared.program.ProgramCall.TheVariants as programs
 use Rattle.nfs_types.specs.declared.program.ProgramReply.{ProgramReply}
 use Rattle.nfs_types.specs.declared.program.ProgramReply.TheVariants as replied
 use Rattle.nfs_types.specs.declared.reply.Reply.{Reply}
-use Rattle.model.specs.Sound.{SoundTime}
 use Rattle.model.proofs.Formatted as formatted
 use Rattle.procedures.proofs.SoundSteps.{step_sound}
 use Rattle.session_wire.specs.Judging.{judged}
@@ -17,17 +16,22 @@ use Rattle.session_wire.specs.declared.message.Judged.{Judged}
 use Rattle.session_wire.specs.declared.message.Judged.TheVariants as verdict
 use Rattle.plain_steps.specs.Computed.{is_null}
 use Rattle.plain_session.specs.Answering.{Files, IsCallAnswered, IsNfsReply, IsReply, IsStep, IsUndone, Done}
-use Rattle.plain_session.specs.Answering.{IsVerdictAnswered, SoundFiles, Undone, Unread, context, next_files}
+use Rattle.plain_session.specs.Answering.{IsVerdictAnswered, SoundFiles, Undone, Unread, at_second, context, next_files}
 use Rattle.plain_session.specs.Counts.{HasData}
-use Rattle.plain_session.specs.Serving.{AreAnswered, More, None, at_second, fresh_files}
+use Rattle.plain_session.specs.declared.answers.Clock.{Clock}
+use Rattle.plain_session.specs.Serving.{AreAnswered, More, None, fresh_files}
 
 -- where they stay the same, and where a call only took its number
 stays : (before after : Files) → after ≡ before → SoundFiles before → SoundFiles after
 stays before after same sound = subst SoundFiles (sym same) sound
 
+-- a clock rises no further than seconds can be told
+rises : (before : Files) → min (before.clock.second + before.clock.rise) (2 ^ 32 - 1) < 2 ^ 32
+rises before = let most = min-le_right (before.clock.second + before.clock.rise) (2 ^ 32 - 1) in omega (arith, most)
+
 counted : (before after : Files) → after ≡ next_files before before.tree → SoundFiles before → SoundFiles after
 counted before after same sound =
-    subst SoundFiles (sym same) (record { tree = sound.tree; moment = sound.moment })
+    subst SoundFiles (sym same) (record { tree = sound.tree; second = rises before })
 
 -- behind a step
 stepped : (before after : Files) (caller : Credential) (call : Call) (told : Reply)
@@ -37,7 +41,7 @@ stepped before after caller call told is sound =
     (record {
       uid = is.uid;
       gid = is.gid;
-      moment = sound.moment;
+      moment = record { seconds = sound.second; nanoseconds = omega arith };
       stamp = record {
         boot = omega arith;
         transaction = omega (arith, min-le_right (before.transactions + 1) (2 ^ 64 - 1));
@@ -45,7 +49,8 @@ stepped before after caller call told is sound =
     }) is.fits (is.leads sound) in
     record {
       tree = tree;
-      moment = subst SoundTime (sym (ap (λ (files : Files). files.moment) is.counted)) sound.moment;
+      second =
+          subst (λ (n : ℕ). n < 2 ^ 32) (sym (ap (λ (files : Files). files.clock.second) is.counted)) (rises before);
     }
 
 nfs_replied : (before after : Files) (caller : Credential) (call : Call) (told : Reply) (b : Bool)
@@ -89,9 +94,9 @@ kept before bytes first written left after (More {middle = middle} so_far begins
     (kept before bytes first _ _ middle so_far sound)
 
 -- at first
-pub fresh : (blocks inodes data_blocks made time : ℕ) → HasData blocks inodes (Some data_blocks)
-    → made < 2 ^ 32 → time < 2 ^ 32 → SoundFiles (fresh_files data_blocks inodes made time)
-fresh blocks inodes data_blocks made time has made_small time_small =
+pub fresh : (blocks inodes data_blocks made : ℕ) (clock : Clock) → HasData blocks inodes (Some data_blocks)
+    → made < 2 ^ 32 → clock.second < 2 ^ 32 → SoundFiles (fresh_files data_blocks inodes made clock)
+fresh blocks inodes data_blocks made clock has made_small time_small =
     let lawful = has.0 in
     let blocks_are = has.1 in
     let room = lawful.room in
@@ -106,5 +111,5 @@ fresh blocks inodes data_blocks made time has made_small time_small =
             whole_blocks = lawful.whole;
           })
           (record { seconds = made_small; nanoseconds = omega arith });
-      moment = record { seconds = time_small; nanoseconds = omega arith };
+      second = time_small;
     }

@@ -2,10 +2,10 @@
 use Rattle.std.specs.Prelude.{◌≡◌, ◌≢◌, ℕ, ◌⊎◌, Bool, true, false, List, [], ◌++◌, Option, Some}
 use Rattle.std.specs.Prelude.{None as Nothing}
 use Rattle.model.specs.Format.{format_tree}
-use Rattle.nfs_types.specs.declared.ctx.Moment.{Moment}
-use Rattle.plain_session.specs.Answering.{Closes, Files, IsAnswered, files_of}
+use Rattle.plain_session.specs.Answering.{Closes, Files, IsAnswered, at_second, files_of}
 use Rattle.plain_session.specs.Counts.{HasData}
 use Rattle.plain_session.specs.Records.{IsRecord, IsTooLong, NeedsMore}
+use Rattle.plain_session.specs.declared.answers.Clock.{Clock}
 use Rattle.plain_session.specs.declared.session.PlainSession.{PlainSession}
 use Rattle.plain_session.specs.declared.session.Progress.{Progress}
 use Rattle.plain_session.specs.declared.session.Progress.TheVariants as progress
@@ -23,21 +23,17 @@ session_of session = record {
   is_closed = session.is_closed;
 }
 
--- the moment at which a second begins
-abbrev pub at_second : ℕ → Moment
-at_second seconds = record { seconds = seconds; nanoseconds = 0 }
-
--- the files of a fresh image, whose root was made at the first second, with each call at the second one
-abbrev pub fresh_files : ℕ → ℕ → ℕ → ℕ → Files
-fresh_files data_blocks inodes made time = record {
+-- the files of a fresh image, whose root was made at a second, with calls by a clock
+abbrev pub fresh_files : ℕ → ℕ → ℕ → Clock → Files
+fresh_files data_blocks inodes made clock = record {
   tree = format_tree (record { data_blocks = data_blocks; inodes = inodes }) (at_second made);
-  moment = at_second time;
+  clock = clock;
   transactions = 0;
 }
 
-abbrev pub fresh : ℕ → ℕ → ℕ → ℕ → Session
-fresh data_blocks inodes made time = record {
-  files = fresh_files data_blocks inodes made time;
+abbrev pub fresh : ℕ → ℕ → ℕ → Clock → Session
+fresh data_blocks inodes made clock = record {
+  files = fresh_files data_blocks inodes made clock;
   unread = [];
   is_closed = false;
 }
@@ -98,10 +94,10 @@ pub record Fails (before : Files) (bytes first written : List ℕ) (after : File
   pub cut : IsCutOff middle left after
 
 -- a new session; there is none where no image has these counts
-abbrev pub IsNew : ℕ → ℕ → ℕ → ℕ → Option PlainSession → Type 0
-IsNew blocks inodes made time Nothing = HasData blocks inodes Nothing
-IsNew blocks inodes made time (Some session) = (data_blocks : ℕ) × HasData blocks inodes (Some data_blocks)
-    × (session_of session ≡ fresh data_blocks inodes made time)
+abbrev pub IsNew : ℕ → ℕ → ℕ → Clock → Option PlainSession → Type 0
+IsNew blocks inodes made clock Nothing = HasData blocks inodes Nothing
+IsNew blocks inodes made clock (Some session) = (data_blocks : ℕ) × HasData blocks inodes (Some data_blocks)
+    × (session_of session ≡ fresh data_blocks inodes made clock)
 
 -- how a session stands at the end of the input: closed, where it has closed or the end is inside a record
 abbrev pub Ends : Session → Progress → Type 0

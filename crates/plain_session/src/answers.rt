@@ -3,7 +3,7 @@ ghost use Rattle.std.specs.Prelude.{◌≡◌, ◌<◌, ◌^◌, ℕ, List, Ok, 
 ghost use Rattle.nfs_types.specs.Fits.{CallFits, ProgramCallFits};
 ghost use Rattle.plain_session.specs.Answering.{Closes, IsAnswered, IsCallAnswered, IsNfsReply, IsReply};
 ghost use Rattle.plain_session.specs.Answering.{IsStep, IsTold, IsUndone, files_of, next_files};
-ghost use Rattle.plain_session.specs.Answering.{refusal_record};
+ghost use Rattle.plain_session.specs.Answering.{at_second, refusal_record, risen};
 ghost use Rattle.plain_steps.specs.Computed.{is_null as is_null_call};
 ghost use Rattle.session_wire.specs.Replies.{body_of};
 ghost use Rattle.session_wire.specs.declared.message.ReplyBody.TheVariants as body;
@@ -17,11 +17,41 @@ use session_wire::{Judged, RpcReply, judge, reply_bytes};
 use std::alloc::{AllocError, Global};
 use xdr::XdrFault;
 
+/// When calls come: at which second the first one that takes a number, and by how many seconds each is later
+/// than the one before.
+#[derive(Clone, Copy, Debug, PartialEq, Eq)]
+pub struct Clock {
+    pub second: u32,
+    pub rise: u32,
+}
+
+impl Clock {
+    /// The moment of the next call.
+    fn moment(&self) -> Moment
+        ensures { result ≡ at_second self.now.second }
+    {
+        Moment {
+            seconds: self.second,
+            nanoseconds: 0,
+        }
+    }
+
+    /// The clock behind the next call. It stays at the last second that can be told.
+    fn risen(&self) -> Clock
+        ensures { result ≡ risen self.now }
+    {
+        Clock {
+            second: self.second.saturating_add(self.rise),
+            rise: self.rise,
+        }
+    }
+}
+
 /// The files, when calls come, and how many of them took a number.
 #[derive(Drop)]
 pub struct PlainFiles {
     pub tree: PlainTree,
-    pub moment: Moment,
+    pub clock: Clock,
     pub transactions: u64,
 }
 
@@ -177,10 +207,11 @@ fn step(
     files.transactions = files.transactions.saturating_add(1);
     let ctx = Ctx {
         credential,
-        moment: files.moment,
+        moment: files.clock.moment(),
         boot: 1,
         transaction: files.transactions,
     };
+    files.clock = files.clock.risen();
     match answer(alloc, &mut files.tree, &ctx, call)? {
         Some(reply) => Ok(reply),
         None => unreachable!(),

@@ -4,10 +4,11 @@ ghost use Rattle.std.specs.Prelude.{IfNone, OnErr};
 ghost use Rattle.plain_session.specs.Answering.{files_of};
 ghost use Rattle.plain_session.specs.Counts.{HasData};
 ghost use Rattle.plain_session.specs.Serving.{AreAnswered, BeginsAnswered, Ends, Fails, IsCutOff, IsFed};
-ghost use Rattle.plain_session.specs.Serving.{IsNew, IsStream, Stops, at_second as moment_at, fresh_files};
+ghost use Rattle.plain_session.specs.Answering.{at_second as moment_at};
+ghost use Rattle.plain_session.specs.Serving.{IsNew, IsStream, Stops, fresh_files};
 ghost use Rattle.plain_session.specs.Serving.{session_of};
 
-use crate::answers::{PlainFiles, answer_record};
+use crate::answers::{Clock, PlainFiles, answer_record};
 use crate::image::data_blocks;
 use crate::records::{Cut, first_record};
 use nfs_types::Moment;
@@ -31,16 +32,16 @@ pub struct PlainSession {
 }
 
 impl PlainSession {
-    /// A session over the tree of a fresh image, whose root was made at second `made`, with each call at
-    /// second `time`. None where no image has these counts.
+    /// A session over the tree of a fresh image, whose root was made at second `made`, with calls by this clock.
+    /// None where no image has these counts.
     pub fn new(
         alloc: Global,
         blocks: u32,
         inodes: u32,
         made: u32,
-        time: u32,
+        clock: Clock,
     ) -> Result<Option<PlainSession>, AllocError>
-        ensures { IfOk result (λ session. IsNew blocks inodes made time session) }
+        ensures { IfOk result (λ session. IsNew blocks inodes made clock session) }
     {
         let Some(data_blocks) = data_blocks(blocks, inodes) else {
             return Ok(None);
@@ -49,7 +50,7 @@ impl PlainSession {
         Ok(Some(PlainSession {
             files: PlainFiles {
                 tree,
-                moment: at_second(time),
+                clock,
                 transactions: 0,
             },
             unread: Vec::new(alloc),
@@ -175,15 +176,15 @@ pub fn answer_stream(
     blocks: u32,
     inodes: u32,
     made: u32,
-    time: u32,
+    clock: Clock,
     input: &[u8],
 ) -> Result<Option<(Vec<u8>, u8)>, AllocError>
     ensures none { result ≡ Ok None → HasData blocks inodes None }
     ensures answered { IfOk result (λ told. IfSome told (λ ended. (data_blocks : ℕ)
         × HasData blocks inodes (Some data_blocks)
-        × IsStream (fresh_files data_blocks inodes made time) input.now ended.0.items ended.1)) }
+        × IsStream (fresh_files data_blocks inodes made clock) input.now ended.0.items ended.1)) }
 {
-    let Some(mut session) = PlainSession::new(alloc, blocks, inodes, made, time)? else {
+    let Some(mut session) = PlainSession::new(alloc, blocks, inodes, made, clock)? else {
         return Ok(None);
     };
     let mut replies = Vec::new(alloc);
