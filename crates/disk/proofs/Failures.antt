@@ -1,7 +1,7 @@
 -- Which calls failed, by their numbers.
 use Rattle.std.proofs.Common.{◌≡◌, ℕ, zero, suc, ◌+◌, ◌-◌, ◌<◌, ◌≤◌, Bool, true, false, List, [], ◌∷◌, ◌++◌}
 use Rattle.std.proofs.Common.{map, length}
-use Rattle.std.proofs.Common.{slice_index_or, refl, sym, ◌∙◌, ap, arith, if◌then◌else◌, inl, inr}
+use Rattle.std.proofs.Common.{slice_index_or, refl, ◌∙◌, ap, arith, if◌then◌else◌, inl, inr}
 use Rattle.std.proofs.lemmas.Bool.{cases_Bool, ltb-true, ltb-false}
 use Rattle.std.specs.Prelude.{nat_lt}
 use Rattle.disk.specs.Device.{Device, OneLater}

@@ -9,3 +9,4 @@ pub mod MemoryBlocks
 pub mod File
 pub mod FileBlocks
 pub mod Overlap
+pub mod Ports

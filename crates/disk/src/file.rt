@@ -5,6 +5,8 @@ ghost use Rattle.disk.specs.Blocks.{IsBlock};
 ghost use Rattle.disk.specs.Device.{Content};
 ghost use Rattle.disk.specs.File.{AreOfBlocks, bytes_of};
 
+pub(crate) mod ports;
+
 use crate::{Block, BlockNo, Failed, Side};
 use http_server::Log;
 use std::fs::{File, OpenFile};

@@ -4,6 +4,8 @@ ghost use Rattle.limits.specs.declared.TheConstants.{BLOCK_BYTES};
 ghost use Rattle.disk.specs.Crash.{IsAtRest};
 ghost use Rattle.disk.specs.File.{file_device, first_in};
 
+mod splitting;
+
 use crate::file::NotedFile;
 use crate::{Block, BlockFile, BlockNo, CrashDisk, Failed, FirstContents, Side};
 use limits::BLOCK_BYTES;

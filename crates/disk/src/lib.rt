@@ -10,10 +10,13 @@ mod file_disk;
 mod history;
 mod laws;
 mod mem_disk;
+mod mem_ports;
+mod ports;
 mod room;
 
 pub use block::{Block, BlockNo, Side};
 pub use device::{CrashDisk, Failed};
+pub use file::ports::{FilePort, FileSource};
 pub use file::{BlockFile, FileCall, FirstContents};
 pub use file_disk::FileDisk;
 pub use laws::{
@@ -21,3 +24,5 @@ pub use laws::{
     honest_file_keeps_model, one_image_at_rest, overlapping_calls_commute,
 };
 pub use mem_disk::MemDisk;
+pub use mem_ports::{MemPort, MemSource};
+pub use ports::{Port, PortCall, Source};

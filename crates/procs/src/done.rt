@@ -2,6 +2,7 @@
 ghost use Rattle.std.specs.Prelude.{◌≡◌, ◌≤◌, length};
 ghost use Rattle.limits.specs.declared.TheConstants.{CHANGED_BLOCKS};
 ghost use Rattle.txn.specs.Group.{blocks_of};
+ghost use Rattle.layout.specs.Geometry.{IsLawful};
 ghost use Rattle.procs.specs.Finished.{HasPlan, IsFinished};
 
 use crate::draft::Draft;
@@ -60,6 +61,8 @@ impl Change for Done {
     } };
 
     ghost is_plan = { HasPlan };
+
+    ghost are_counts = { IsLawful };
 
     fn read(&self) -> &[Object] {
         &self.draft.read

@@ -7,13 +7,12 @@ ghost use Rattle.session.specs.Replying.{IsCallAnswered, IsMountReply, TakesCall
 ghost use Rattle.session.specs.Streaming.{Delivers, Serves};
 ghost use Rattle.session_wire.specs.Replies.{body_of};
 
-use crate::mounting::mount_reply;
 use crate::serving::SessionFault;
 use crate::writing::put;
 use disk::CrashDisk;
 use nfs_types::{Credential, Moment, MountCall, ProgramCall};
 use rpc::Refusal;
-use session_wire::{Judged, RpcReply, judge};
+use session_wire::{Judged, RpcReply, judge, mount_reply};
 use std::alloc::Global;
 use std::io::Write;
 use store::{Store, Verdict, procedure};

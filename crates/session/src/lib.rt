@@ -3,16 +3,14 @@
 #![tactic(auto)]
 
 mod answering;
-mod mounting;
 mod noting;
 mod serving;
 mod writing;
 
 pub use answering::reply_to;
-pub use mounting::mount_reply;
 pub use noting::Input;
 pub use serving::{SessionFault, serve};
 pub use session_wire::{
     CallMessage, Judged, MessageCredential, MessageVerifier, ReplyBody, ReplyMessage, RpcReply,
-    judge, reply_bytes,
+    judge, mount_reply, reply_bytes,
 };

@@ -5,6 +5,7 @@
 mod judging;
 mod laws;
 mod message;
+mod mounting;
 mod programs;
 mod reply;
 mod streams;
@@ -18,6 +19,7 @@ pub use laws::{
 pub use message::{
     CallMessage, Judged, MessageCredential, MessageVerifier, ReplyBody, ReplyMessage, RpcReply,
 };
+pub use mounting::mount_reply;
 pub use reply::reply_bytes;
 pub use streams::{
     a_closed_connection_gets_no_reply, a_refused_call_gets_its_refusal, a_stream_goes_on,

@@ -1,6 +1,7 @@
 -- A call begins, its read keeps it under way, and so does the settling that it waits for.
 use Rattle.std.proofs.Common.{arith, ◌≡◌, ◌∙◌, refl, sym, ap, subst, true≢false, ℕ, ◌<◌, ◌≤◌, inl, inr, Bool}
-use Rattle.std.proofs.Common.{true, false}
+use Rattle.std.proofs.Common.{true, false, nat_eq}
+use Rattle.std.specs.List.{list_any}
 use Rattle.std.proofs.Common.{IfSome, Option, Some, None, Result, Ok, Err, is_ok, is_some, length, List, []}
 use Rattle.std.proofs.Common.{◌++◌, option_to_list}
 use Rattle.std.specs.Prelude.{IsSomeAnd}
@@ -15,7 +16,7 @@ use Rattle.layout.specs.Geometry.{IsLawful}
 use Rattle.model.specs.Entry.{Entry}
 use Rattle.model.specs.Calls.{has_rules}
 use Rattle.model.specs.Tree.{Tree}
-use Rattle.txn_law.specs.Core.{CoreState}
+use Rattle.txn_law.specs.Core.{CoreState, IsOut}
 use Rattle.txn_law.specs.Fetch.{Fetch}
 use Rattle.wal_law.specs.Calls.{Pending, idle as nothing_out}
 use Rattle.wal_law.specs.Log.{settled_place}
@@ -408,7 +409,7 @@ again_goes o now worker stepped planning with =
         };
         at_work = record {
           with = with;
-          alone = record { fetches = was.at_work.alone.fetches; plans = tt };
+          alone = record { out = was.at_work.alone.out; fetches = was.at_work.alone.fetches; plans = tt };
           loads = tt;
         };
         so_far = so_far_again o now was.entry worker.work.job
@@ -457,11 +458,17 @@ pub none_to_tell : (worker : State) → worker.work.entry ≡ None → worker.wo
 none_to_tell worker entry answer = λ i.
     record worker { work = record worker.work { entry = sym entry i; answer = sym answer i } }
 
--- a core with the same transactions and counts fits it, too
+-- a transaction is out of a core with the same transactions, too
+still_out : {old new : CoreState} (tx : Option ℕ) → new.out ≡ old.out → IfSome tx (IsOut old)
+    → IfSome tx (IsOut new)
+still_out None out is = tt
+still_out (Some tx) out is = ap (λ (o : List ℕ). list_any (λ other. nat_eq other tx) o) out ∙ is
+
+-- and so such a core fits the worker
 pub still_fits : (state : State) (old new : CoreState) → IsCoreOf state old → new.out ≡ old.out
     → new.log.blocks ≡ old.log.blocks → new.inodes ≡ old.inodes → IsCoreOf state new
 still_fits state old new fits out blocks inodes = record {
-  out = out ∙ fits.out;
+  out = still_out state.begun.tx out fits.out;
   reads = subst (λ (n : ℕ). ReadsWithin n state) (sym blocks) fits.reads;
   lawful = subst (λ (n : ℕ). IsLawful n new.inodes) (sym blocks)
       (subst (λ (n : ℕ). IsLawful old.log.blocks n) (sym inodes) fits.lawful);

@@ -666,17 +666,19 @@ settled_or core (Err e) settled broken = inr broken
 pub record AfterLog (waited : Bool) (mid core : CoreState) : Type 0 where
   pub blocks : core.log.blocks ≡ mid.log.blocks
   pub places : core.log.places ≡ mid.log.places
+  pub out : core.out ≡ mid.out
   pub fetches : KeepsFetches mid core
   pub same : waited ≡ false → core ≡ mid
   pub done : waited ≡ true → (settled_place core.log ≡ core.log.places) ⊎ (core.log.broken ≡ true)
 
 pub after_settling : (waited : Bool) (mid core new : CoreState) (result : Result Unit Failed) → waited ≡ true
-    → core ≡ new → SameFrame mid new → SameNumbers mid new → KeepsFetches mid new → OnOk result (IsSettled new)
-    → OnErr result (new.log.broken ≡ true) → AfterLog waited mid core
-after_settling waited mid core new result was is frame numbers fetches settled broken =
+    → core ≡ new → SameFrame mid new → SameNumbers mid new → new.out ≡ mid.out → KeepsFetches mid new
+    → OnOk result (IsSettled new) → OnErr result (new.log.broken ≡ true) → AfterLog waited mid core
+after_settling waited mid core new result was is frame numbers out fetches settled broken =
     subst (λ c. AfterLog waited mid c) (sym is) (record {
       blocks = frame.blocks;
       places = numbers.places;
+      out = out;
       fetches = fetches;
       same = λ other. absurd (not_both waited was other);
       done = λ _. settled_or new result settled broken;
@@ -686,6 +688,7 @@ pub after_none : (waited : Bool) (mid core : CoreState) → waited ≡ false →
 after_none waited mid core was is = subst (λ c. AfterLog waited mid c) (sym is) (record {
   blocks = refl;
   places = refl;
+  out = refl;
   fetches = λ block. refl;
   same = λ _. refl;
   done = λ other. absurd (not_both waited other was);

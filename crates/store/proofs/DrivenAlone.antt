@@ -18,7 +18,7 @@ use Rattle.store_workers.specs.Alone.{IsAlone, PlansAlone, StaysAlone, is_full}
 use Rattle.store.specs.Driving.{IsUnder, has_room, waits_for_log}
 use Rattle.store_images.specs.Fetches.{FetchesOnly, KeepsFetches, is_fetch_of}
 use Rattle.store_workers.specs.Phases.{has_fetch, has_transaction}
-use Rattle.store_workers.specs.Worker.{IsCoreOf, at_rest, with_call}
+use Rattle.store_workers.specs.Worker.{at_rest, with_call}
 use Rattle.store_workers.specs.WorkerReads.{HasReadBlock}
 use Rattle.store_workers.specs.WorkerSteps.{GoesOn, HasGivenBack, KeepsReadsOf, Side, side}
 use Rattle.store_workers.specs.declared.workers.parts.Phase.TheVariants.{Planning, Reading, Read}
@@ -27,23 +27,25 @@ use Rattle.store_workers.specs.declared.workers.parts.State.{State}
 
 -- a worker that has just taken a call is alone where no fetch is pending
 pub starts_alone : (state : State) (core : CoreState) (boot : _) (ctx : Ctx) (call : Call)
-    → state ≡ with_call ctx call (at_rest boot) → FetchesOnly None core → IsAlone state core
-starts_alone state core boot ctx call is none = subst (λ (s : State). IsAlone s core) (sym is)
-    (record { fetches = none; plans = tt })
+    → state ≡ with_call ctx call (at_rest boot) → core.out ≡ [] → FetchesOnly None core → IsAlone state core
+starts_alone state core boot ctx call is out none = subst (λ (s : State). IsAlone s core) (sym is)
+    (record { out = out; fetches = none; plans = tt })
 
 -- one that begins again has no fetch but its own
 pub again_alone : (made : Option Step) (mid state : State) (was core : CoreState) → StaysAlone made mid was
-    → KeepsFetches was core → state ≡ record mid { phase = Again } → IsAlone state core
-again_alone made mid state was core stays keeps is = subst (λ (s : State). IsAlone s core) (sym is) (record {
+    → core.out ≡ was.out → KeepsFetches was core → state ≡ record mid { phase = Again } → IsAlone state core
+again_alone made mid state was core stays out keeps is = subst (λ (s : State). IsAlone s core) (sym is) (record {
+  out = out ∙ stays.out;
   fetches = λ block. keeps block ∙ stays.fetches block;
   plans = tt;
 })
 
 -- where it goes on, it is alone still, once the log was waited for
 pub rest_alone : (made : Option Step) (mid : State) (was core : CoreState) → StaysAlone made mid was
-    → is_full made ≡ false → KeepsFetches was core → (waited : Bool) → (waited ≡ false → core ≡ was)
+    → is_full made ≡ false → core.out ≡ was.out → KeepsFetches was core → (waited : Bool) → (waited ≡ false → core ≡ was)
     → (waited ≡ true → PlansAlone mid.phase mid core) → IsAlone mid core
-rest_alone made mid was core stays room keeps waited same plans = record {
+rest_alone made mid was core stays room out keeps waited same plans = record {
+  out = out ∙ stays.out;
   fetches = λ block. keeps block ∙ stays.fetches block;
   plans = by waited refl;
 }
@@ -57,6 +59,7 @@ pub read_alone : (keeps : Type 0) (before after : Device) (mid read : State) (to
     → mid.phase ≡ Reading → HasReadBlock keeps before mid told after read → IsAlone mid core → IsAlone read core
 read_alone keeps before after mid read told core reading has alone =
     subst (λ (s : State). IsAlone s core) (sym has.worker) (record {
+      out = alone.out;
       fetches = λ block. alone.fetches block ∙ ap (λ (o : Option Fetch). is_fetch_of o block) has.io_is;
       plans = same_taken mid now core core refl refl refl (λ job tx seen tx_is of_call. of_call)
           (subst (λ p. PlansAlone p mid core) reading alone.plans);
@@ -82,16 +85,16 @@ given_room ok old new (Some made) has = by ok old.worker.begun.io has
 
 pub given_alone : (keeps : Type 0) (before after : Device) (mid read : State) (told : Step) (core : CoreState)
     (new : Side) (last : Option Step) → mid.phase ≡ Reading → HasReadBlock keeps before mid told after read
-    → IsAlone mid core → AreTidy core → IsCoreOf read core → is_some read.begun.tx ≡ has_transaction read.phase
+    → IsAlone mid core → AreTidy core → is_some read.begun.tx ≡ has_transaction read.phase
     → is_some read.begun.io ≡ has_fetch read.phase → GoesOn read.phase (side read core) last new
     → KeepsReadsOf (side read core) new → IsAlone new.worker new.core
-given_alone keeps before after mid read told core new last reading has alone tidy fits out fetch goes stays =
+given_alone keeps before after mid read told core new last reading has alone tidy out fetch goes stays =
     let here = read_alone keeps before after mid read told core reading has alone in
-    let then_ = stays_alone (side read core) new tidy fits here.fetches stays read.phase last refl out
+    let then_ = stays_alone (side read core) new tidy here.out here.fetches stays read.phase last refl out
     fetch here.plans goes in
     let room = given_room (is_ok has.answer) (side read core) new last
     (subst (λ p. GoesOn p (side read core) last new) (ap (λ (s : State). s.phase) has.worker) goes) in
-    record { fetches = then_.fetches; plans = then_.plans room }
+    record { out = then_.out; fetches = then_.fetches; plans = then_.plans room }
 
 -- ---- a round
 
@@ -103,13 +106,13 @@ pub record Round (old : Side) (made : Option Step) (mid : Side) (core : CoreStat
 
 pub round : (old mid : Side) (made : Option Step) (core : CoreState)
     → is_some old.worker.begun.tx ≡ has_transaction old.worker.phase
-    → is_some old.worker.begun.io ≡ has_fetch old.worker.phase → AreTidy old.core → IsCoreOf old.worker old.core
+    → is_some old.worker.begun.io ≡ has_fetch old.worker.phase → AreTidy old.core
     → IsAlone old.worker old.core → IsUnder old.worker.phase old.core → GoesOn old.worker.phase old made mid
     → KeepsReadsOf old mid → AfterLog (waits_for_log made) mid.core core → Round old made mid core
-round old mid made core out fetch tidy fits alone under goes keeps log = record {
+round old mid made core out fetch tidy alone under goes keeps log = record {
   came = stepped old.worker.phase old mid made under alone.plans
-      (never_kept_off old mid tidy fits alone.fetches old.worker.phase made fetch alone.plans goes) goes;
-  stays = stays_alone old mid tidy fits alone.fetches keeps old.worker.phase made refl out fetch
+      (never_kept_off old mid tidy alone.out alone.fetches old.worker.phase made fetch alone.plans goes) goes;
+  stays = stays_alone old mid tidy alone.out alone.fetches keeps old.worker.phase made refl out fetch
       alone.plans goes;
   log = log;
 }
@@ -121,10 +124,10 @@ module _ (old : Side) (made : Option Step) (mid : Side) (core : CoreState) (r : 
 
   pub full_alone : is_full made ≡ true → (state : State)
       → (mid.worker.phase ≡ Planning → state ≡ record mid.worker { phase = Again }) → IsAlone state core
-  full_alone off state set = again_alone made mid.worker state mid.core core r.stays r.log.fetches
+  full_alone off state set = again_alone made mid.worker state mid.core core r.stays r.log.out r.log.fetches
       (set (full_plans old.worker.phase old made mid refl r.came off))
 
   pub goes_alone : is_full made ≡ false → IsAlone mid.worker core
-  goes_alone off = rest_alone made mid.worker mid.core core r.stays off r.log.fetches
+  goes_alone off = rest_alone made mid.worker mid.core core r.stays off r.log.out r.log.fetches
       (waits_for_log made) r.log.same (λ log. waits_unplanned old.worker.phase old made mid refl r.came off
       log mid.worker core)

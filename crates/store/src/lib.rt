@@ -8,7 +8,7 @@ mod one_call;
 
 pub use calling::{a_settled_store_stays_open, an_opened_store_is_open};
 pub use one_call::procedure;
-pub use store_images::{FormatFault, Store, close, format, open, settle};
+pub use store_images::{FormatFault, Store, close, format, open, parts, settle};
 pub use store_promise::{
     Answer, CallAnswer, Committed, Committing, Ending, Entry, Event, OpenFault, Run, Step, Verdict,
     Wish,

@@ -1,7 +1,7 @@
 //! One call to its answer, by one thread.
 ghost use Rattle.std.specs.Prelude.{◌≡◌, ◌≤◌, ◌⊎◌, length, true};
 ghost use Rattle.limits.specs.declared.TheConstants.{MOST_KEPT_COMMITS};
-ghost use Rattle.store_workers.specs.Alone.{IsAlone, is_full};
+ghost use Rattle.store_workers.specs.Alone.{IsAlone, IsOutAlone, is_full};
 ghost use Rattle.store.specs.Calling.{Answers, HasAnswered, HasStepped, IsCalling, Outset, asked_of};
 ghost use Rattle.store.specs.Driving.{HasGoneOn, IsUnderWay, steps_left, waits_for_log};
 ghost use Rattle.store_images.specs.Fetches.{FetchesOnly};
@@ -68,6 +68,7 @@ fn answer<D: CrashDisk>(alloc: Global, store: &mut Store<D>, worker: &mut Worker
     requires under_way { IsUnderWay worker.old.state store.old.core }
     ensures fits { Fits worker.new store.new.core }
     ensures quiet { IsQuiet store.new.core.log }
+    ensures out { IsOutAlone worker.new.state store.new.core }
     ensures fetches { FetchesOnly worker.new.state.begun.io store.new.core }
     ensures boot { store.new.boot ≡ store.old.boot }
     ensures answered { (o : Outset) → D.keeps_model store.new.disk

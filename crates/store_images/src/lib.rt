@@ -4,7 +4,9 @@
 mod formatting;
 mod opened;
 mod opening;
+mod taken_apart;
 
 pub use formatting::{FormatFault, format};
 pub use opened::{Store, close, keeps_too_many, settle};
 pub use opening::open;
+pub use taken_apart::parts;

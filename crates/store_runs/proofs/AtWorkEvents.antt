@@ -30,7 +30,7 @@ use Rattle.store_promise.specs.Running.{IsFetchOver, IsRunningOver, IsTold, Stor
 use Rattle.store_promise.specs.Schedule.{Setting, Told, told_after}
 use Rattle.store_promise.specs.declared.events.Event.TheVariants as event
 use Rattle.store_promise.specs.declared.events.Step.{Step}
-use Rattle.store_workers.specs.Alone.{PlansAlone}
+use Rattle.store_workers.specs.Alone.{IsOutAlone, PlansAlone}
 use Rattle.store_runs.specs.AtWork.{IsCoreAtWork, Loads, LoadsFor, fetches_in, fetches_of}
 use Rattle.store_images.specs.Fetches.{FetchesOnly}
 use Rattle.store_workers.specs.Telling.{TakesCall}
@@ -48,6 +48,7 @@ call_core ctx call old new None core takes at with = subst (λ (s : State). IsCo
 call_core ctx call old new (Some made) core takes at with = record {
   with = with;
   alone = record {
+    out = subst (λ (s : State). IsOutAlone s core) (sym takes.3) at.alone.out;
     fetches = subst (λ (s : State). FetchesOnly s.begun.io core) (sym takes.3) at.alone.fetches;
     plans = subst (λ (s : State). PlansAlone s.phase s core) (sym takes.3) tt;
   };
@@ -78,6 +79,7 @@ pub read_core : (ok : Bool) (io : Fetch) (content : Content) (old : State) (core
 read_core ok io content old core phase_is io_is at with = record {
   with = with;
   alone = record {
+    out = at.alone.out;
     fetches = subst (λ (found : Option Fetch). FetchesOnly found core) io_is at.alone.fetches;
     plans = subst (λ (p : Phase). PlansAlone p old core) phase_is at.alone.plans;
   };

@@ -430,5 +430,5 @@ module _ (o : Setting) (told : Told) (number : ℕ) (base : Image) (store : Stor
       → IsWorkerAt boot entries worker → MayFrom (progress_of worker) made
   step_may made goes at worker_at = by_cases old new May may_cases worker.phase made goes
       at.alone.plans at.loads worker_at.stands
-      (never_kept_off old new run.since.over.tidy at.with.core_of at.alone.fetches worker.phase made
+      (never_kept_off old new run.since.over.tidy at.alone.out at.alone.fetches worker.phase made
       at.with.sound.fetch at.alone.plans goes)

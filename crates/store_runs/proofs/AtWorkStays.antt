@@ -303,10 +303,11 @@ pub at_work_still : (old new : Side) (made : Option Step) (boot : ℕ) (entries 
     → GoesOn old.worker.phase old made new → GoesWith (told new.worker) new.core
     → IsCoreAtWork (told new.worker) new.core
 at_work_still old new made boot entries at worker_at tidy reads goes with =
-    let stays = stays_alone old new tidy at.with.core_of at.alone.fetches reads old.worker.phase made refl
+    let stays = stays_alone old new tidy at.alone.out at.alone.fetches reads old.worker.phase made refl
     at.with.sound.transaction at.with.sound.fetch at.alone.plans goes in record {
       with = with;
       alone = record {
+        out = stays.out;
         fetches = stays.fetches;
         plans = plans_told new.worker.phase new.worker new.core
             (plans_by old new made (is_full made) refl stays (λ room.

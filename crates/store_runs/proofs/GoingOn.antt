@@ -177,6 +177,7 @@ module _ (old new : CoreState) (kept : KeepsTransactions old new)
   still_at_work worker with at_work = record {
     with = with;
     alone = record {
+      out = kept.out ∙ at_work.alone.out;
       fetches = λ block. kept.fetches block ∙ at_work.alone.fetches block;
       plans = same_plans worker.phase worker at_work.alone.plans;
     };

@@ -41,18 +41,18 @@ nothing_told boot = record { boot = boot; history = []; answers = []; steps = []
 none_fetched : (core : CoreState) → core.present ≡ [] → FetchesOnly None core
 none_fetched core none block = ap (λ (present : List Present). is_pending (present_of present block)) none
 
-new_at_work : (boot : ℕ) (core : CoreState) → core.present ≡ [] → GoesWith (worker.at_rest boot) core
-    → IsCoreAtWork (worker.at_rest boot) core
-new_at_work boot core none with = record {
+new_at_work : (boot : ℕ) (core : CoreState) → core.out ≡ [] → core.present ≡ []
+    → GoesWith (worker.at_rest boot) core → IsCoreAtWork (worker.at_rest boot) core
+new_at_work boot core out none with = record {
   with = with;
-  alone = record { fetches = none_fetched core none; plans = tt };
+  alone = record { out = out; fetches = none_fetched core none; plans = tt };
   loads = tt;
 }
 
 module _ (b : Beginning) (o : Setting) (base : Image) (core : CoreState) (state : State) (boot : ℕ)
     (calls : Calls) (told : Run) (run : IsRun b o (nothing_told (b.first + 1)) base
     (at_rest b.opened core) [] b.tree)
-    (none : core.present ≡ []) (state_is : state ≡ worker.at_rest boot) (boot_is : boot ≡ b.first + 1)
+    (out : core.out ≡ []) (none : core.present ≡ []) (state_is : state ≡ worker.at_rest boot) (boot_is : boot ≡ b.first + 1)
     (calls_are : calls ≡ none_out) (told_boot : told.boot ≡ boot)
     (empty : (told.history.items ≡ []) × (told.answers.items ≡ []) × (told.steps.items ≡ []))
     (stands : IsWorkerAt boot [] state) (with : GoesWith state core) where
@@ -77,7 +77,7 @@ module _ (b : Beginning) (o : Setting) (base : Image) (core : CoreState) (state 
     stands = subst (λ (cs : List Committed). IsWorkerAt (b.first + 1) (map entry_of cs) state) (sym empty.0)
         (subst (λ (n : ℕ). IsWorkerAt n [] state) boot_is stands);
     at_work = subst (λ (s : State). IsCoreAtWork s core) (sym state_is)
-        (new_at_work boot core none (subst (λ (s : State). GoesWith s core) state_is with));
+        (new_at_work boot core out none (subst (λ (s : State). GoesWith s core) state_is with));
     progress = ap (λ (t : Transcript). progress_now b.events t 0) told_is ∙ ap progress_of (sym state_is);
   }
 

@@ -8,3 +8,4 @@ pub mod StaysAlone
 pub mod StepKinds
 pub mod StepTells
 pub mod WorkCases
+pub mod StillFits

@@ -1,7 +1,7 @@
 -- A worker that is alone in its store is never kept off.
 use Rattle.std.proofs.Common.{◌≡◌, ◌∙◌, refl, sym, ap, subst, true≢false, ℕ, ◌⊎◌, inl, inr, Bool, true, false}
 use Rattle.std.proofs.Common.{◌||◌, nat_eq, Option, Some, None, is_some, List, [], ◌∷◌, All}
-use Rattle.std.specs.Prelude.{Contains, IsSomeAnd}
+use Rattle.std.specs.Prelude.{Contains, IsSomeAnd, option_to_list}
 use Rattle.std.proofs.lemmas.Bool.{eqb-true}
 use Rattle.std.proofs.lemmas.List.Elements.{All-contains, All-head, All-tail}
 use Rattle.disk.specs.declared.block.BlockNo.{BlockNo}
@@ -22,7 +22,6 @@ use Rattle.txn.specs.Commit.{IsOwn, IsReadBy}
 use Rattle.txn.specs.Core.{CoreState}
 use Rattle.txn.specs.Fetch.{Fetch}
 use Rattle.txn.specs.Object.{ObjectBytes}
-use Rattle.txn.specs.Out.{listed}
 use Rattle.txn.specs.Outcomes.{IsClaimed, IsCommit, IsWanted}
 use Rattle.txn.specs.Tidy.{AreTidy}
 use Rattle.txn.specs.Wishes.{IsWhole}
@@ -32,7 +31,9 @@ use Rattle.txn.specs.declared.outcomes.Commit.{Commit}
 use Rattle.txn.specs.declared.outcomes.Commit.TheVariants as commit
 use Rattle.txn.specs.declared.outcomes.Want.{Want}
 use Rattle.txn.specs.declared.outcomes.Want.TheVariants as want
-use Rattle.txn.proofs.LoneTransaction.{is_own, never_busy, never_loading}
+use Rattle.txn.proofs.LoneTransaction.{never_busy, never_loading}
+use Rattle.txn.proofs.OwnChange.{is_own}
+use Rattle.txn_law.proofs.Alone.{alone_is_out}
 use Rattle.txn_law.proofs.Again as again
 use Rattle.txn_law.proofs.Entries.{same_block}
 use Rattle.txn_law.proofs.Swept.{in_first, in_more}
@@ -43,11 +44,10 @@ use Rattle.store_promise.specs.declared.events.Step.TheVariants as step
 use Rattle.layout.proofs.OnGrid.{one_or_apart}
 use Rattle.store_workers.proofs.StepKinds.{Beginning, beginning, ending}
 use Rattle.store_workers.proofs.StepKinds.{begun, refused, replied, lacked, committed}
-use Rattle.store_workers.specs.Alone.{HasOfCall, HasTaken, PlansAlone, is_kept_off}
+use Rattle.store_workers.specs.Alone.{HasOfCall, HasTaken, IsOutAlone, PlansAlone, is_kept_off}
 use Rattle.store_images.specs.Fetches.{FetchesOnly}
 use Rattle.store_workers.specs.Phases.{has_fetch}
 use Rattle.store_workers.specs.Seen.{Seen, seen_in}
-use Rattle.store_workers.specs.Worker.{IsCoreOf}
 use Rattle.store_workers.specs.WorkerAnswers.{claim_wish, committing_of, wish_of}
 use Rattle.store_workers.specs.WorkerSteps.{GoesByNext, GoesOn, HasGivenBack, HasLeft, HasRefused}
 use Rattle.store_workers.specs.WorkerSteps.{IsNext, Side}
@@ -165,7 +165,7 @@ module _ (core : CoreState) (tx : ℕ) (snap : Snap) (tidy : AreTidy core) (out 
     )
 
     own : IsOwn core tx (planned_of done)
-    own = is_own core tx tidy out (planned_of done) (ends.named.blocks ∙ has.blocks)
+    own = is_own core tx tidy (alone_is_out core tx out) (planned_of done) (ends.named.blocks ∙ has.blocks)
         (ends.named.inodes ∙ has.inodes) (subst (λ (os : List ObjectBytes). All (IsReadBy core tx) os)
         (sym ends.named.read) has.read)
         (λ object there. was_had object (All-contains (IsWritable snap) done.written object
@@ -189,7 +189,7 @@ pub no_fetch : (io : Option Fetch) (core : CoreState) → is_some io ≡ false �
 no_fetch None core none only = only
 no_fetch (Some io) core some only = absurd (true≢false some)
 
-module _ (old new : Side) (tidy : AreTidy old.core) (fits : IsCoreOf old.worker old.core)
+module _ (old new : Side) (tidy : AreTidy old.core) (alone : IsOutAlone old.worker old.core)
     (fetches : FetchesOnly old.worker.begun.io old.core) where
   by_plan : (tx : ℕ) (made : Step) (next : Plan) → old.worker.begun.tx ≡ Some tx → IsNext old.worker next
       → HasTaken old.worker old.core → FetchesOnly None old.core → GoesByNext next tx old made new
@@ -200,7 +200,7 @@ module _ (old new : Side) (tidy : AreTidy old.core) (fits : IsCoreOf old.worker 
       has = has_of old.worker old.core is.job tx (seen_of is.snap) is.job_is tx_is is.snap_is taken
 
       out : old.core.out ≡ tx ∷ []
-      out = fits.out ∙ ap listed tx_is
+      out = alone ∙ ap (λ (o : Option ℕ). option_to_list o) tx_is
 
       of_next : (next : Plan) → IsPlanFor is.snap next → GoesByNext next tx old made new
           → is_kept_off (Some made) ≡ false

@@ -1,7 +1,7 @@
 -- A worker that is alone in its store stays alone by each of its steps.
 use Rattle.std.proofs.Common.{◌≡◌, ◌∙◌, refl, sym, ap, subst, true≢false, ℕ, Bool, true, false, not, ◌&&◌, ◌||◌}
 use Rattle.std.proofs.Common.{cond, nat_eq, Option, Some, None, is_some, List, [], ◌∷◌, ◌++◌, All}
-use Rattle.std.specs.Prelude.{IsSomeAnd}
+use Rattle.std.specs.Prelude.{IsSomeAnd, option_to_list}
 use Rattle.std.specs.List.{list_any}
 use Rattle.std.proofs.lemmas.Bool.{eqb-true}
 use Rattle.std.proofs.lemmas.List.Elements.{All-contains, All-nil, All-push, All-weaker}
@@ -28,7 +28,6 @@ use Rattle.txn.specs.CoreWindow.{KeepsReads}
 use Rattle.txn.specs.Fetch.{Fetch}
 use Rattle.txn.specs.Leaves.{taken_by, with_taken}
 use Rattle.txn.specs.Object.{ObjectBytes}
-use Rattle.txn.specs.Out.{listed}
 use Rattle.txn.specs.Outcomes.{IsClaimed, IsCommit, IsWanted}
 use Rattle.txn.specs.Tidy.{AreTidy}
 use Rattle.txn.specs.declared.outcomes.Claim.{Claim}
@@ -52,13 +51,13 @@ use Rattle.store_promise.specs.declared.events.Cause.TheVariants as cause
 use Rattle.store_promise.specs.declared.events.Step.{Step}
 use Rattle.store_promise.specs.declared.events.Step.TheVariants as step
 use Rattle.store_workers.proofs.LoneWorker.{has_of, has_so, no_fetch, seen_of}
+use Rattle.store_workers.proofs.StillFits.{still_alone}
 use Rattle.store_workers.proofs.StepKinds.{Beginning, IsTold, beginning, ending}
 use Rattle.store_workers.proofs.StepKinds.{begun, refused, replied, lacked, committed}
-use Rattle.store_workers.specs.Alone.{HasOfCall, HasTaken, PlansAlone, StaysAlone, is_full}
+use Rattle.store_workers.specs.Alone.{HasOfCall, HasTaken, IsOutAlone, PlansAlone, StaysAlone, is_full}
 use Rattle.store_images.specs.Fetches.{FetchesOnly, is_fetch_of}
 use Rattle.store_workers.specs.Phases.{has_fetch, has_transaction}
 use Rattle.store_workers.specs.Seen.{Seen, seen_in, with_claim, with_object}
-use Rattle.store_workers.specs.Worker.{IsCoreOf}
 use Rattle.store_workers.specs.WorkerAnswers.{after_commit, begun_claimed, begun_wanted, committing_of}
 use Rattle.store_workers.specs.WorkerAnswers.{phase_claimed, phase_wanted, seen_claimed, seen_wanted, told_of}
 use Rattle.store_workers.specs.WorkerAnswers.{with_answer, with_entry}
@@ -112,10 +111,16 @@ same_taken was now core mid job tx seen keeps has =
     by (Some j) j_is (Some t) t_is (Some s) s_is has =
         has_so now mid j t s (job ∙ j_is) (tx ∙ t_is) (seen ∙ s_is) (keeps j t s t_is has)
 
+-- after a step no fetch is pending but its own, and where no room was wanting, what is taken while it plans is
+-- of its call
+record StaysLeft (made : Option Step) (worker : State) (core : CoreState) : Type 0 where
+  fetches : FetchesOnly worker.begun.io core
+  plans : is_full made ≡ false → PlansAlone worker.phase worker core
+
 -- what was made is alone, by its phase and its fetch
 alone_by : (made : Option Step) (worker : State) (core : CoreState) (phase : Phase) (io : Option Fetch)
     → worker.phase ≡ phase → worker.begun.io ≡ io → FetchesOnly io core
-    → (is_full made ≡ false → PlansAlone phase worker core) → StaysAlone made worker core
+    → (is_full made ≡ false → PlansAlone phase worker core) → StaysLeft made worker core
 alone_by made worker core phase io phase_is io_is fetches plans = record {
   fetches = subst (λ (o : Option Fetch). FetchesOnly o core) (sym io_is) fetches;
   plans = λ room. subst (λ p. PlansAlone p worker core) (sym phase_is) (plans room);
@@ -277,17 +282,17 @@ none_taken core tx addr hold tidy out taken =
 
 -- ---- any step
 
-module _ (old new : Side) (tidy : AreTidy old.core) (fits : IsCoreOf old.worker old.core)
+module _ (old new : Side) (tidy : AreTidy old.core) (alone : IsOutAlone old.worker old.core)
     (fetches : FetchesOnly old.worker.begun.io old.core) (keeps : KeepsReadsOf old new) where
   -- the worker is answered, and has its fetch as before
-  told_so : (made : Option Step) → IsTold old new → StaysAlone made new.worker new.core
+  told_so : (made : Option Step) → IsTold old new → StaysLeft made new.worker new.core
   told_so made told = alone_by made new.worker new.core Idle old.worker.begun.io
       (ap (λ (s : State). s.phase) told.worker) (ap (λ (s : State). s.begun.io) told.worker)
       (subst (λ (c : CoreState). FetchesOnly old.worker.begun.io c) (sym told.core) fetches) (λ room. tt)
 
   begun_so : (made : Option Step) (job : Job) (number : ℕ) → old.worker.begun.tx ≡ None
       → FetchesOnly None old.core
-      → HasBegun job old number new → StaysAlone made new.worker new.core
+      → HasBegun job old number new → StaysLeft made new.worker new.core
   begun_so made job number idle none has =
       alone_by made new.worker new.core Planning None (ap (λ (s : State). s.phase) has.worker)
       (ap (λ (s : State). s.begun.io) has.worker)
@@ -316,7 +321,8 @@ module _ (old new : Side) (tidy : AreTidy old.core) (fits : IsCoreOf old.worker 
           })
         where
           nothing : (addr : Addr) (hold : Hold) → taken_by new.core number addr ≡ Some hold → ⊥
-          nothing addr hold is = none_taken old.core number addr hold tidy (fits.out ∙ ap listed idle)
+          nothing addr hold is = none_taken old.core number addr hold tidy
+              (alone ∙ ap (λ (o : Option ℕ). option_to_list o) idle)
               (sym (ap (λ (c : CoreState). taken_by c number addr) has.core) ∙ is)
 
   module _ (tx : ℕ) (tx_is : old.worker.begun.tx ≡ Some tx) (none : FetchesOnly None old.core) where
@@ -324,7 +330,7 @@ module _ (old new : Side) (tidy : AreTidy old.core) (fits : IsCoreOf old.worker 
     aborted_so : (made : Option Step) (phase : Phase)
         → ((worker : State) (core : CoreState) → PlansAlone phase worker core)
         → new.worker.phase ≡ phase → new.worker.begun.io ≡ None → HasAborted tx old.core new.core
-        → StaysAlone made new.worker new.core
+        → StaysLeft made new.worker new.core
     aborted_so made phase plans phase_is io_is has =
         alone_by made new.worker new.core phase None phase_is io_is
         (λ block. has.leaves.fetches block ∙ none block) (λ room. plans new.worker new.core)
@@ -335,7 +341,7 @@ module _ (old new : Side) (tidy : AreTidy old.core) (fits : IsCoreOf old.worker 
       where
         wanted_so : (addr : Addr) (made : Step) → IsPlanFor snap (plan.Need addr)
             → HasWanted tx addr old made new
-            → StaysAlone (Some made) new.worker new.core
+            → StaysLeft (Some made) new.worker new.core
         wanted_so addr made is_plan wanted =
             by wanted.answer wanted.core (ap (λ (s : State). s.phase) wanted.worker)
             (ap (λ (s : State). s.begun) wanted.worker) wanted.seen
@@ -362,7 +368,7 @@ module _ (old new : Side) (tidy : AreTidy old.core) (fits : IsCoreOf old.worker 
             by : (answer : Want) → IsWanted old.core tx addr modes.Exclusive answer new.core
                 → new.worker.phase ≡ phase_wanted answer → new.worker.begun ≡ begun_wanted answer
                 → seen_in new.worker.work.snap ≡ seen_wanted addr answer (seen_in old.worker.work.snap)
-                → StaysAlone (Some made) new.worker new.core
+                → StaysLeft (Some made) new.worker new.core
             by (want.Held back bytes) is phase got seen =
                 let new_tx : new.worker.begun.tx ≡ Some tx =
                 ap (λ (b : Begun). b.tx) got ∙ ap (λ t. Some t) is.0 in
@@ -396,7 +402,7 @@ module _ (old new : Side) (tidy : AreTidy old.core) (fits : IsCoreOf old.worker 
                 (ap (λ (b : Begun). b.io) got) (still is.2) (λ room. tt)
 
         claimed_so : (block : BlockNo) (made : Step) → IsPlanFor snap (plan.Claim block)
-            → HasClaimed tx block old made new → StaysAlone (Some made) new.worker new.core
+            → HasClaimed tx block old made new → StaysLeft (Some made) new.worker new.core
         claimed_so block made is_plan claims =
             by claims.answer claims.core.2 (ap (λ (s : State). s.phase) claims.worker)
             (ap (λ (s : State). s.begun) claims.worker) claims.seen
@@ -416,7 +422,7 @@ module _ (old new : Side) (tidy : AreTidy old.core) (fits : IsCoreOf old.worker 
             by : (answer : Claim) → IsClaimed old.core tx claims.core.0 answer new.core
                 → new.worker.phase ≡ phase_claimed answer → new.worker.begun ≡ begun_claimed answer
                 → seen_in new.worker.work.snap ≡ seen_claimed block answer (seen_in old.worker.work.snap)
-                → StaysAlone (Some made) new.worker new.core
+                → StaysLeft (Some made) new.worker new.core
             by (claim.Held back) is phase got seen =
                 let new_tx : new.worker.begun.tx ≡ Some tx =
                 ap (λ (b : Begun). b.tx) got ∙ ap (λ t. Some t) is.0 in
@@ -446,7 +452,7 @@ module _ (old new : Side) (tidy : AreTidy old.core) (fits : IsCoreOf old.worker 
       placed_so : (made : Option Step) (base : State) (place : Seq) (stable : Bool) → base.begun.io ≡ None
           → FetchesOnly None new.core
           → new.worker ≡ with_entry job done.reply (told_of stable job done.reply place base)
-          → StaysAlone made new.worker new.core
+          → StaysLeft made new.worker new.core
       placed_so made base place true io now is =
           alone_by made new.worker new.core (Waiting place) None (ap (λ (s : State). s.phase) is)
           (ap (λ (s : State). s.begun.io) is ∙ io) now (λ room. tt)
@@ -457,7 +463,7 @@ module _ (old new : Side) (tidy : AreTidy old.core) (fits : IsCoreOf old.worker 
       committed_so : (made : Step) (base : State) (added : ℕ) (answer : Commit Outcome) → base.begun.io ≡ None
           → made ≡ step.Commit added (committing_of answer)
           → IsCommit old.core tx (planned_of done) done answer new.core
-          → new.worker ≡ after_commit job done.reply answer base → StaysAlone (Some made) new.worker new.core
+          → new.worker ≡ after_commit job done.reply answer base → StaysLeft (Some made) new.worker new.core
       committed_so made base added (commit.Committed place) io made_is core is =
           placed_so (Some made) base place (is_answered_stable job.call) io
           (λ block. core.leaves.fetches block ∙ none block) is
@@ -484,19 +490,19 @@ module _ (old new : Side) (tidy : AreTidy old.core) (fits : IsCoreOf old.worker 
           (ap (λ (s : State). s.begun.io) is)
           (subst (λ (c : CoreState). FetchesOnly None c) (sym core.0.core) none) (λ room. tt)
 
-    lacked_so : (made : Step) → HasLacked tx old made new → StaysAlone (Some made) new.worker new.core
+    lacked_so : (made : Step) → HasLacked tx old made new → StaysLeft (Some made) new.worker new.core
     lacked_so made has = aborted_so (Some made) Idle (λ worker core. tt)
         (ap (λ (s : State). s.phase) has.worker) (ap (λ (s : State). s.begun.io) has.worker) has.core
 
     planned_so : (made : Step) (next : Plan) → IsNext old.worker next → HasTaken old.worker old.core
-        → GoesByNext next tx old made new → StaysAlone (Some made) new.worker new.core
+        → GoesByNext next tx old made new → StaysLeft (Some made) new.worker new.core
     planned_so made next is taken goes = of_next next is.plan goes
       where
         has : HasOfCall tx old.core (seen_of is.snap)
         has = has_of old.worker old.core is.job tx (seen_of is.snap) is.job_is tx_is is.snap_is taken
 
         of_next : (next : Plan) → IsPlanFor is.snap next → GoesByNext next tx old made new
-            → StaysAlone (Some made) new.worker new.core
+            → StaysLeft (Some made) new.worker new.core
         of_next (plan.Need addr) is_plan goes =
             wanted_so is.job is.snap is.job_is is.snap_is has addr made is_plan goes
         of_next (plan.Claim block) is_plan goes =
@@ -513,7 +519,7 @@ module _ (old new : Side) (tidy : AreTidy old.core) (fits : IsCoreOf old.worker 
   -- a fetch is given back
   given_so : (ok : Bool) (made : Step) (io : Fetch) → old.worker.begun.io ≡ Some io
       → HasTaken old.worker old.core
-      → HasGivenBack ok io old made new → StaysAlone (Some made) new.worker new.core
+      → HasGivenBack ok io old made new → StaysLeft (Some made) new.worker new.core
   given_so ok made io io_is taken has =
       alone_by (Some made) new.worker new.core (phase_given ok) None (ap (λ (s : State). s.phase) has.worker)
       (ap (λ (s : State). s.begun.io) has.worker) none (λ room. by ok)
@@ -541,39 +547,39 @@ module _ (old new : Side) (tidy : AreTidy old.core) (fits : IsCoreOf old.worker 
       by false = tt
 
   waited_so : (place : Seq) (made : Step) → old.worker.phase ≡ Waiting place → Waits place old made new
-      → StaysAlone (Some made) new.worker new.core
+      → StaysLeft (Some made) new.worker new.core
   waited_so place made at has = by has.settled old.core.log.broken has.told
     where
       now : FetchesOnly old.worker.begun.io new.core
       now = subst (λ (c : CoreState). FetchesOnly old.worker.begun.io c) (sym has.core) fetches
 
       heard : (told : Verdict) (base : State) → base.begun.io ≡ old.worker.begun.io
-          → new.worker ≡ with_answer told (Some place) base → StaysAlone (Some made) new.worker new.core
+          → new.worker ≡ with_answer told (Some place) base → StaysLeft (Some made) new.worker new.core
       heard told base io is = alone_by (Some made) new.worker new.core Idle old.worker.begun.io
           (ap (λ (s : State). s.phase) is) (ap (λ (s : State). s.begun.io) is ∙ io) now (λ room. tt)
 
       reply : (o : Option Reply) (base : State) → base.begun.io ≡ old.worker.begun.io
           → IsSomeAnd o (λ reply. new.worker ≡ with_answer (verdict.Reply reply) (Some place) base)
-          → StaysAlone (Some made) new.worker new.core
+          → StaysLeft (Some made) new.worker new.core
       reply None base io has = absurd has
       reply (Some r) base io has = heard (verdict.Reply r) base io has
 
       by : (settled broken : Bool) → IsHeard settled broken place old.worker new.worker
-          → StaysAlone (Some made) new.worker new.core
+          → StaysLeft (Some made) new.worker new.core
       by true broken has = reply old.worker.work.reply
           (record old.worker { work = record old.worker.work { reply = None } }) refl has
       by false true has = reply old.worker.work.broken_reply
           (record old.worker { work = record old.worker.work { broken_reply = None } }) refl has
       by false false has = waits has
         where
-          waits : new.worker ≡ old.worker → StaysAlone (Some made) new.worker new.core
+          waits : new.worker ≡ old.worker → StaysLeft (Some made) new.worker new.core
           waits same = alone_by (Some made) new.worker new.core (Waiting place) old.worker.begun.io
               (ap (λ (s : State). s.phase) same ∙ at) (ap (λ (s : State). s.begun.io) same) now (λ room. tt)
 
   refused_so : (why : Cause) (made : Step) → FetchesOnly None old.core → (job : Option Job) (tx : Option ℕ)
       → old.worker.begun.tx ≡ tx
       → IsSomeAnd job (λ job. IsSomeAnd tx (λ tx. HasRefused why job tx old made new))
-      → StaysAlone (Some made) new.worker new.core
+      → StaysLeft (Some made) new.worker new.core
   refused_so why made none None tx tx_is has = absurd has
   refused_so why made none (Some job) None tx_is has = absurd has
   refused_so why made none (Some job) (Some tx) tx_is has =
@@ -581,55 +587,66 @@ module _ (old new : Side) (tidy : AreTidy old.core) (fits : IsCoreOf old.worker 
       (ap (λ (s : State). s.begun.io) has.worker) has.core
 
   left_so : (made : Step) → FetchesOnly None old.core → (tx : Option ℕ) → old.worker.begun.tx ≡ tx
-      → IsSomeAnd tx (λ tx. HasLeft tx old made new) → StaysAlone (Some made) new.worker new.core
+      → IsSomeAnd tx (λ tx. HasLeft tx old made new) → StaysLeft (Some made) new.worker new.core
   left_so made none None tx_is has = absurd has
   left_so made none (Some tx) tx_is has =
       aborted_so tx tx_is none (Some made) Called (λ worker core. tt) (ap (λ (s : State). s.phase) has.worker)
       (ap (λ (s : State). s.begun.io) has.worker) has.core
 
   called_so : (made : Step) → old.worker.begun.tx ≡ None → FetchesOnly None old.core → Beginning old made new
-      → StaysAlone (Some made) new.worker new.core
+      → StaysLeft (Some made) new.worker new.core
   called_so made idle none (begun job number job_is made_is has) = begun_so (Some made) job number idle none has
   called_so made idle none (refused why made_is told) = told_so (Some made) told
   called_so made idle none (replied made_is told) = told_so (Some made) told
 
   read_so : (ok : Bool) (made : Step) (io : Option Fetch) → old.worker.begun.io ≡ io
       → HasTaken old.worker old.core
-      → IsSomeAnd io (λ io. HasGivenBack ok io old made new) → StaysAlone (Some made) new.worker new.core
+      → IsSomeAnd io (λ io. HasGivenBack ok io old made new) → StaysLeft (Some made) new.worker new.core
   read_so ok made None io_is taken has = absurd has
   read_so ok made (Some io) io_is taken has = given_so ok made io io_is taken has
 
   rests_so : (made : Option Step) (phase : Phase) → old.worker.phase ≡ phase
       → PlansAlone phase old.worker old.core
-      → new ≡ old → StaysAlone made new.worker new.core
-  rests_so made phase at plans same = subst (λ (s : Side). StaysAlone made s.worker s.core) (sym same)
+      → new ≡ old → StaysLeft made new.worker new.core
+  rests_so made phase at plans same = subst (λ (s : Side). StaysLeft made s.worker s.core) (sym same)
       (alone_by made old.worker old.core phase old.worker.begun.io at refl fetches (λ room. plans))
 
   no_tx : (tx : Option ℕ) → is_some tx ≡ false → tx ≡ None
   no_tx None none = refl
   no_tx (Some tx) some = absurd (true≢false some)
 
+  stays_left : (phase : Phase) (made : Option Step) → old.worker.phase ≡ phase
+      → is_some old.worker.begun.tx ≡ has_transaction phase → is_some old.worker.begun.io ≡ has_fetch phase
+      → PlansAlone phase old.worker old.core → GoesOn phase old made new → StaysLeft made new.worker new.core
+  stays_left Idle made at out fetch plans has = rests_so made Idle at plans has.1
+  stays_left Reading made at out fetch plans has = rests_so made Reading at plans has.1
+  stays_left Called (Some made) at out fetch plans has =
+      called_so made (no_tx old.worker.begun.tx out) (no_fetch old.worker.begun.io old.core fetch fetches)
+      (beginning old new made has)
+  stays_left Planning (Some made) at out fetch plans has =
+      planned_so has.tx has.tx_is (no_fetch old.worker.begun.io old.core fetch fetches) made has.next
+      has.next_is plans has.goes
+  stays_left (Read ok) (Some made) at out fetch plans has = read_so ok made old.worker.begun.io refl plans has
+  stays_left (Refused why) (Some made) at out fetch plans has =
+      refused_so why made (no_fetch old.worker.begun.io old.core fetch fetches) old.worker.work.job
+      old.worker.begun.tx refl has
+  stays_left Again (Some made) at out fetch plans has =
+      left_so made (no_fetch old.worker.begun.io old.core fetch fetches) old.worker.begun.tx refl has
+  stays_left (Waiting place) (Some made) at out fetch plans has = waited_so place made at has
+  stays_left Called None at out fetch plans has = absurd has
+  stays_left Planning None at out fetch plans has = absurd has
+  stays_left (Read ok) None at out fetch plans has = absurd has
+  stays_left (Refused why) None at out fetch plans has = absurd has
+  stays_left Again None at out fetch plans has = absurd has
+  stays_left (Waiting place) None at out fetch plans has = absurd has
+
   pub stays_alone : (phase : Phase) (made : Option Step) → old.worker.phase ≡ phase
       → is_some old.worker.begun.tx ≡ has_transaction phase → is_some old.worker.begun.io ≡ has_fetch phase
       → PlansAlone phase old.worker old.core → GoesOn phase old made new → StaysAlone made new.worker new.core
-  stays_alone Idle made at out fetch plans has = rests_so made Idle at plans has.1
-  stays_alone Reading made at out fetch plans has = rests_so made Reading at plans has.1
-  stays_alone Called (Some made) at out fetch plans has =
-      called_so made (no_tx old.worker.begun.tx out) (no_fetch old.worker.begun.io old.core fetch fetches)
-      (beginning old new made has)
-  stays_alone Planning (Some made) at out fetch plans has =
-      planned_so has.tx has.tx_is (no_fetch old.worker.begun.io old.core fetch fetches) made has.next
-      has.next_is plans has.goes
-  stays_alone (Read ok) (Some made) at out fetch plans has = read_so ok made old.worker.begun.io refl plans has
-  stays_alone (Refused why) (Some made) at out fetch plans has =
-      refused_so why made (no_fetch old.worker.begun.io old.core fetch fetches) old.worker.work.job
-      old.worker.begun.tx refl has
-  stays_alone Again (Some made) at out fetch plans has =
-      left_so made (no_fetch old.worker.begun.io old.core fetch fetches) old.worker.begun.tx refl has
-  stays_alone (Waiting place) (Some made) at out fetch plans has = waited_so place made at has
-  stays_alone Called None at out fetch plans has = absurd has
-  stays_alone Planning None at out fetch plans has = absurd has
-  stays_alone (Read ok) None at out fetch plans has = absurd has
-  stays_alone (Refused why) None at out fetch plans has = absurd has
-  stays_alone Again None at out fetch plans has = absurd has
-  stays_alone (Waiting place) None at out fetch plans has = absurd has
+  stays_alone phase made at out fetch plans goes =
+      let left : StaysLeft made new.worker new.core = stays_left phase made at out fetch plans goes in
+      record {
+        out = still_alone old new phase out alone made goes;
+        fetches = left.fetches;
+        plans = left.plans;
+      }

@@ -1,5 +1,5 @@
 -- A worker that is alone in its store: whatever is taken of the core and whatever is being read is its own.
-use Rattle.std.specs.Prelude.{◌≡◌, ℕ, Bool, true, false, Option, Some, All, IsSomeAnd}
+use Rattle.std.specs.Prelude.{◌≡◌, ℕ, Bool, true, false, Option, Some, All, IsSomeAnd, option_to_list}
 use Rattle.objects.specs.declared.addr.Addr.{Addr}
 use Rattle.objects.specs.declared.mode.Mode.TheVariants as modes
 use Rattle.procs.specs.Asks.{Asks, WereAskedOnce, WereClaimedOnce}
@@ -14,7 +14,6 @@ use Rattle.store_promise.specs.declared.events.Step.TheVariants as step
 use Rattle.store_promise.specs.declared.events.Wish.TheVariants as wish
 use Rattle.store_images.specs.Fetches.{FetchesOnly}
 use Rattle.store_workers.specs.Seen.{Seen, seen_in}
-use Rattle.store_workers.specs.declared.workers.parts.Job.{Job}
 use Rattle.store_workers.specs.declared.workers.parts.Phase.{Phase}
 use Rattle.store_workers.specs.declared.workers.parts.Phase.TheVariants.{Idle, Called, Planning}
 use Rattle.store_workers.specs.declared.workers.parts.Phase.TheVariants.{Reading, Read}
@@ -53,8 +52,13 @@ PlansAlone (Read ok) worker core = HasTaken worker core
 PlansAlone (Refused why) worker core = Unit {0}
 PlansAlone (Waiting place) worker core = Unit {0}
 
--- no fetch is pending but its own, and what is taken while it plans is of its call
+-- no transaction is out but its own
+abbrev pub IsOutAlone : State → CoreState → Type 0
+IsOutAlone worker core = core.out ≡ option_to_list worker.begun.tx
+
+-- no transaction is out and no fetch is pending but its own, and what is taken while it plans is of its call
 pub record IsAlone (worker : State) (core : CoreState) : Type 0 where
+  pub out : IsOutAlone worker core
   pub fetches : FetchesOnly worker.begun.io core
   pub plans : PlansAlone worker.phase worker core
 
@@ -74,8 +78,9 @@ abbrev pub is_full : Option Step → Bool
 is_full (Some (step.Commit added committing.Full)) = true
 is_full _ = false
 
--- after a step no fetch is pending but its own, and where no room was wanting, what is taken while it plans
--- is of its call
+-- after a step no transaction is out and no fetch is pending but its own, and where no room was wanting, what
+-- is taken while it plans is of its call
 pub record StaysAlone (made : Option Step) (worker : State) (core : CoreState) : Type 0 where
+  pub out : IsOutAlone worker core
   pub fetches : FetchesOnly worker.begun.io core
   pub plans : is_full made ≡ false → PlansAlone worker.phase worker core

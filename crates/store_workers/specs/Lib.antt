@@ -4,6 +4,7 @@ pub mod Ended
 pub mod Noting
 pub mod Phases
 pub mod Seen
+pub mod SourceReads
 pub mod Stages
 pub mod Telling
 pub mod WorkTells

@@ -1,5 +1,5 @@
 -- What a worker has, and the core that it fits.
-use Rattle.std.specs.Prelude.{◌≡◌, ℕ, ◌<◌, true, Some, None, is_some, IfSome, [], ◌∷◌, length}
+use Rattle.std.specs.Prelude.{◌≡◌, ℕ, ◌<◌, true, Some, None, is_some, IfSome, [], length}
 use Rattle.nfs_types.specs.declared.call.Call.{Call}
 use Rattle.nfs_types.specs.declared.ctx.Credential.{Credential}
 use Rattle.nfs_types.specs.declared.ctx.Ctx.{Ctx}
@@ -8,8 +8,7 @@ use Rattle.layout.specs.Geometry.{IsLawful}
 use Rattle.inode.specs.Snap as seen
 use Rattle.procs.specs.declared.next.Plan.{Plan}
 use Rattle.procs.specs.declared.next.Plan.TheVariants as plan
-use Rattle.txn.specs.Core.{CoreState}
-use Rattle.txn.specs.Out.{listed}
+use Rattle.txn.specs.Core.{CoreState, IsOut}
 use Rattle.txn.specs.declared.outcomes.Want.{Want}
 use Rattle.txn.specs.declared.outcomes.Want.TheVariants as want
 use Rattle.store_workers.specs.Phases.{has_fetch, has_transaction, is_planned, is_ready}
@@ -21,10 +20,10 @@ use Rattle.store_workers.specs.declared.workers.Worker.{Worker}
 abbrev pub ReadsWithin : ℕ → State → Type 0
 ReadsWithin blocks state = IfSome state.begun.io (λ io. io.block.0 < blocks)
 
--- A core fits it: the transaction that is out of the core is the worker's, the block that it reads is one of
--- the image's, and the image's counts are lawful.
+-- A core fits it: the worker's transaction is out of the core, the block that it reads is one of the image's,
+-- and the image's counts are lawful.
 pub record IsCoreOf (state : State) (core : CoreState) : Type 0 where
-  pub out : core.out ≡ listed state.begun.tx
+  pub out : IfSome state.begun.tx (IsOut core)
   pub reads : ReadsWithin core.log.blocks state
   pub lawful : IsLawful core.log.blocks core.inodes
 
@@ -44,12 +43,10 @@ pub record GoesWith (state : State) (core : CoreState) : Type 0 where
   pub core_of : IsCoreOf state core
 
 -- the worker's transaction was taken out of it, and what it needs to plan is there
-pub record IsHeld (state : State) (tx : ℕ) (core : CoreState) : Type 0 where
-  pub out : core.out ≡ tx ∷ []
+pub record IsHeld (state : State) : Type 0 where
   pub none : state.begun.tx ≡ None
   pub no_fetch : state.begun.io ≡ None
   pub planned : is_planned state.work ≡ true
-  pub lawful : IsLawful core.log.blocks core.inodes
 
 -- it has room for what is read or claimed next
 abbrev pub HasRoom : State → Type 0

@@ -1,7 +1,7 @@
 -- The step by which a worker goes on, by its phase: which step, and what it leaves of the worker and of the
 -- core.
 use Rattle.std.specs.Prelude.{◌≡◌, ◌↔◌, ℕ, ◌+◌, ◌^◌, ◌<◌, ◌≤◌, Bool, true, false, if◌then◌else◌, IsTrue}
-use Rattle.std.specs.Prelude.{Option, Some, None, Ok, Err, List, [], ◌∷◌, IsSomeAnd}
+use Rattle.std.specs.Prelude.{Option, Some, None, Ok, Err, List, [], IsSomeAnd}
 use Rattle.disk.specs.Crash.{Image}
 use Rattle.disk.specs.declared.block.BlockNo.{BlockNo}
 use Rattle.objects.specs.declared.addr.Addr.{Addr}
@@ -16,7 +16,7 @@ use Rattle.procs.specs.declared.next.Plan.{Plan}
 use Rattle.procs.specs.declared.next.Plan.TheVariants as plan
 use Rattle.inode.specs.declared.snap.Snap.{Snap}
 use Rattle.txn.specs.Commit.{Planned}
-use Rattle.txn.specs.Core.{CoreState, without}
+use Rattle.txn.specs.Core.{CoreState, with_begun, without}
 use Rattle.txn.specs.CoreWindow.{IsHomeOf, IsPending, KeepsReads}
 use Rattle.txn.specs.Fetch.{Fetch}
 use Rattle.txn.specs.Group.{blocks_of}
@@ -71,7 +71,7 @@ with_snap new old = record old { work = record old.work { snap = new.work.snap }
 abbrev pub IsNoBeginning : BeginFault → CoreState → Type 0
 IsNoBeginning fault.Broken core = core.log.broken ≡ true
 IsNoBeginning fault.Spent core = (core.log.broken ≡ false) × (core.begun + 1 ≡ 2 ^ 64)
-IsNoBeginning fault.NoMemory core = ⊥
+IsNoBeginning fault.NoMemory core = (core.log.broken ≡ false) × (core.begun + 1 < 2 ^ 64)
 
 -- the job, in the transaction of this number
 abbrev pub numbered : ℕ → Job → Job
@@ -90,7 +90,7 @@ pub record HasBegun (job : Job) (old : Side) (number : ℕ) (new : Side) : Type 
   pub next : number ≡ old.core.begun + 1
   pub counted : number < 2 ^ 64
   pub sound : old.core.log.broken ≡ false
-  pub core : new.core ≡ record old.core { begun = number; out = number ∷ [] }
+  pub core : new.core ≡ with_begun old.core
   pub worker : new.worker ≡ record old.worker {
     phase = Planning;
     begun = record { tx = Some number; io = None };

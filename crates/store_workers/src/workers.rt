@@ -2,9 +2,9 @@
 
 mod asked;
 mod committing;
-mod fitting;
 mod parts;
 mod planning;
+mod sourced;
 mod steps;
 mod telling;
 
@@ -13,7 +13,6 @@ ghost use Rattle.store_workers.specs.Phases.{has_fetch, has_transaction, is_read
 
 use asked::Asked;
 use disk::{BlockNo, CrashDisk};
-use fitting::{are_lawful, is_out, reads_within};
 use nfs_types::{Call, Credential, Ctx, Moment};
 use parts::{Begun, Job, Phase, State, Work};
 use procs::Done;
@@ -40,6 +39,7 @@ impl Worker {
     ghost use Rattle.store_workers.specs.declared.workers.parts.Phase.TheVariants.{Again, Idle, Planning};
     ghost use Rattle.store_workers.specs.declared.workers.parts.Phase.TheVariants.{Reading};
     ghost use Rattle.store_images.specs.Counts.{SameFrame};
+    ghost use Rattle.store_workers.specs.Alone.{IsOutAlone};
     ghost use Rattle.store_workers.specs.Ended.{GivesAllBack};
     ghost use Rattle.store_images.specs.Fetches.{FetchesOnly};
     ghost use Rattle.layout.specs.Geometry.{IsLawful};
@@ -48,11 +48,9 @@ impl Worker {
     ghost use Rattle.store_workers.specs.WorkerReads.{HasReadBlock};
     ghost use Rattle.store_workers.specs.WorkerSteps.{GoesOn, KeepsHomeOf, KeepsReadsOf, side};
 
-    /// An idle worker of a store with this boot number. It fits each core that has no transaction out, and from
-    /// then on that core alone: each method keeps it so.
+    /// An idle worker of a store with this boot number. It has begun nothing.
     pub fn new(boot: u64) -> Worker
-        ensures fits { (core : CoreState) → core.out ≡ [] → IsLawful core.log.blocks core.inodes
-            → Fits result core }
+        ensures fits { (core : CoreState) → IsLawful core.log.blocks core.inodes → Fits result core }
         ensures state { result.state ≡ at_rest boot }
     {
         Worker {
@@ -134,10 +132,10 @@ impl Worker {
     }
 
     /// Makes the next step: one method of the core, or the answer of a call that needs no transaction. None
-    /// where the worker has no call or a read is due.
+    /// where the worker has no call or a read is due. It may be made with any core. With one that isn't the
+    /// worker's a wish is told Outside and a commit Foreign.
     pub fn step(&mut self, alloc: Global, core: &mut Core<Done>) -> Option<Step>
-        requires { Fits self.old core.old }
-        ensures fits { Fits self.new core.new }
+        ensures fits { Fits self.old core.old → Fits self.new core.new }
         ensures frame { SameFrame core.old core.new }
         ensures step { GoesOn self.old.state.phase (side self.old.state core.old) result
             (side self.new.state core.new) }
@@ -183,9 +181,8 @@ impl Worker {
     /// made. What it was to answer is lost; what it committed stays, and so does what other transactions
     /// have.
     pub fn end(self, core: &mut Core<Done>)
-        requires { Fits self core.old }
         ensures frame { SameFrame core.old core.new }
-        ensures ended { core.new.out ≡ [] }
+        ensures ended { IsOutAlone self.state core.old → core.new.out ≡ [] }
         ensures fetches { FetchesOnly self.state.begun.io core.old → FetchesOnly None core.new }
         ensures idle { self.state.phase ≡ Idle → core.new ≡ core.old }
         ensures gives_back { GivesAllBack self.state.begun core.old core.new }
@@ -200,17 +197,5 @@ impl Worker {
         } = state;
         drop(work);
         begun.end(core);
-    }
-
-    /// Whether the core fits the worker, as a step needs it: the transaction that is out of the core is the
-    /// worker's, by its number, or none is out where the worker has none; the block that it has to read is
-    /// one of the image's; and an image may have the core's counts. What the worker does with this core keeps
-    /// it so.
-    pub fn fits(&self, core: &Core<Done>) -> bool
-        ensures { IsTrue result ↔ Fits self.now core.now }
-    {
-        let (blocks, inodes) = core.counts();
-        let begun = &self.state.begun;
-        is_out(core, &begun.tx) && reads_within(blocks, &begun.io) && are_lawful(blocks, inodes)
     }
 }

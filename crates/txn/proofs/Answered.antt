@@ -8,7 +8,7 @@ use Rattle.objects.specs.declared.mode.Mode.{Mode}
 use Rattle.wal_law.specs.Grows.{IsWholeChange}
 use Rattle.wal_law.specs.Log.{Log, IsLawful, newest}
 use Rattle.txn_law.specs.Commit.{Planned, with_record, refreshed_content}
-use Rattle.txn_law.specs.Core.{CoreState, IsOut, with_begun, without}
+use Rattle.txn_law.specs.Core.{CoreState, with_begun, without}
 use Rattle.txn_law.specs.CoreLaw.{IsLawfulCore}
 use Rattle.txn_law.specs.CoreWindow.{IsHomeOf, KeepsHome, KeepsReads, SetsOnly}
 use Rattle.txn_law.specs.Leaves.{Leaves, taken_by, is_fetching, in_memory, but_by}
@@ -30,6 +30,63 @@ use Rattle.txn.specs.declared.outcomes.Claim.{Claim}
 use Rattle.txn.specs.declared.outcomes.Claim.TheVariants as claim
 use Rattle.txn.specs.declared.outcomes.Commit.{Commit}
 use Rattle.txn.specs.declared.outcomes.Commit.TheVariants as commit
+
+-- The image's counts stay.
+
+module _ (K : ℕ → ℕ → Type 0) where
+  -- the counts of a core
+  abbrev Counted : CoreState → Type 0
+  Counted core = K core.log.blocks core.inodes
+
+  same_counts : (old new : CoreState) → new ≡ old → Counted old → Counted new
+  same_counts old new e h = subst Counted (sym e) h
+
+  pub wanted_counts : (old new : CoreState) (tx : ℕ) (addr : Addr) (mode : Mode) (answer : Want)
+      → IsWantedExactly old tx addr mode answer new → Counted old → Counted new
+  wanted_counts old new tx addr mode (want.Held back bytes) h k = subst Counted (sym h.2.core) k
+  wanted_counts old new tx addr mode (want.Fetch back io) h k = subst Counted (sym h.2.core) k
+  wanted_counts old new tx addr mode (want.Busy back) h k = same_counts old new h.2 k
+  wanted_counts old new tx addr mode (want.Loading back) h k = same_counts old new h.2 k
+  wanted_counts old new tx addr mode (want.Outside back) h k = same_counts old new h.2 k
+  wanted_counts old new tx addr mode (want.NoMemory back) h k = same_counts old new h.2 k
+
+  pub claimed_counts : (old new : CoreState) (tx : ℕ) (addr : Addr) (answer : Claim)
+      → IsClaimedExactly old tx addr answer new → Counted old → Counted new
+  claimed_counts old new tx addr (claim.Held back) h k = subst Counted (sym h.2) k
+  claimed_counts old new tx addr (claim.Busy back) h k = same_counts old new h.2 k
+  claimed_counts old new tx addr (claim.Loading back) h k = same_counts old new h.2 k
+  claimed_counts old new tx addr (claim.Outside back) h k = same_counts old new h.2 k
+  claimed_counts old new tx addr (claim.NoMemory back) h k = same_counts old new h.2 k
+
+  pub commit_counts : {C : Type 0} (old new : CoreState) (tx : ℕ) (plan : Planned) (change : C)
+      (answer : Commit C) → IsCommitExactly old tx plan change answer new → Counted old → Counted new
+  commit_counts old new tx plan change (commit.Committed place) h k =
+      subst (λ (n : ℕ). K n new.inodes) (sym h.still.blocks)
+      (subst (λ (n : ℕ). K old.log.blocks n) (sym (ap (λ (core : CoreState). core.inodes) h.core)) k)
+  commit_counts old new tx plan change (commit.Full back same) h k = same_counts old new h.0.core k
+  commit_counts old new tx plan change (commit.Foreign back same) h k = same_counts old new h.0.core k
+  commit_counts old new tx plan change (commit.NoMemory back same) h k = same_counts old new h.0.core k
+  commit_counts old new tx plan change (commit.Broken back same) h k = same_counts old new h.0.core k
+  commit_counts old new tx plan change (commit.Spent back same) h k = same_counts old new h.0.core k
+
+  pub begun_counts : (old new : CoreState) (answer : Result ℕ BeginFault)
+      → IfOk answer (λ tx. (tx ≡ old.begun + 1) × (new ≡ with_begun old)) → OnErr answer (new ≡ old)
+      → Counted old → Counted new
+  begun_counts old new (Ok tx) done none k = subst Counted (sym done.1) k
+  begun_counts old new (Err fault) done none k = same_counts old new none k
+
+  -- the log goes on, over the same blocks
+  pub log_counts : (old new : CoreState) → new.log.blocks ≡ old.log.blocks → new.inodes ≡ old.inodes
+      → Counted old → Counted new
+  log_counts old new blocks inodes k =
+      subst (λ (n : ℕ). K n new.inodes) (sym blocks) (subst (λ (n : ℕ). K old.log.blocks n) (sym inodes) k)
+
+  pub next_counts : {X : Type 0} (o : Option X) (old new : CoreState) (log : Log)
+      → (IsSome o → new ≡ record old { log = log }) → (IsNone o → new ≡ old) → log.blocks ≡ old.log.blocks
+      → Counted old → Counted new
+  next_counts (Some x) old new log some none blocks k =
+      subst Counted (sym (some refl)) (subst (λ (n : ℕ). K n old.inodes) (sym blocks) k)
+  next_counts None old new log some none blocks k = same_counts old new (none refl) k
 
 same_home : (old new : CoreState) → new ≡ old → KeepsHome old new
 same_home old new e base h = subst (λ (core : CoreState). IsHomeOf base core) (sym e) h
@@ -56,27 +113,27 @@ module _ (P : ℕ → ℕ → List ObjectBytes → List ObjectBytes → Type 0) 
   same_law : (old new : CoreState) → new ≡ old → IsLawfulCore P old → IsLawfulCore P new
   same_law old new e h = subst (λ (core : CoreState). IsLawfulCore P core) (sym e) h
 
-  pub wanted_law : (old new : CoreState) (tx : ℕ) (addr : Addr) (mode : Mode) (answer : Want) → IsOut old tx
+  pub wanted_law : (old new : CoreState) (tx : ℕ) (addr : Addr) (mode : Mode) (answer : Want)
       → IsWantedExactly old tx addr mode answer new → IsLawfulCore P old → IsLawfulCore P new
-  wanted_law old new tx addr mode (want.Held back bytes) is_out h =
-      lawful_held P old new tx addr mode bytes.items is_out h.1 h.2
-  wanted_law old new tx addr mode (want.Fetch back io) is_out h =
-      lawful_fetch P old new tx addr mode io is_out h.1 h.2
-  wanted_law old new tx addr mode (want.Busy back) is_out h = same_law old new h.2
-  wanted_law old new tx addr mode (want.Loading back) is_out h = same_law old new h.2
-  wanted_law old new tx addr mode (want.Outside back) is_out h = same_law old new h.2
-  wanted_law old new tx addr mode (want.NoMemory back) is_out h = same_law old new h.2
+  wanted_law old new tx addr mode (want.Held back bytes) h =
+      lawful_held P old new tx addr mode bytes.items h.1 h.2
+  wanted_law old new tx addr mode (want.Fetch back io) h =
+      lawful_fetch P old new tx addr mode io h.1 h.2
+  wanted_law old new tx addr mode (want.Busy back) h = same_law old new h.2
+  wanted_law old new tx addr mode (want.Loading back) h = same_law old new h.2
+  wanted_law old new tx addr mode (want.Outside back) h = same_law old new h.2
+  wanted_law old new tx addr mode (want.NoMemory back) h = same_law old new h.2
 
   pub claimed_law : (old new : CoreState) (tx : ℕ) (block : BlockNo) (addr : Addr) (answer : Claim)
-      → IsWhole block addr → IsOut old tx → IsClaimedExactly old tx addr answer new → IsLawfulCore P old
+      → IsWhole block addr → IsClaimedExactly old tx addr answer new → IsLawfulCore P old
       → IsLawfulCore P new
-  claimed_law old new tx block addr (claim.Held back) whole is_out h core =
+  claimed_law old new tx block addr (claim.Held back) whole h core =
       subst (λ (now : CoreState). IsLawfulCore P now) (sym h.2)
-      (lawful_claim P old tx block addr whole is_out h.1 core)
-  claimed_law old new tx block addr (claim.Busy back) whole is_out h core = same_law old new h.2 core
-  claimed_law old new tx block addr (claim.Loading back) whole is_out h core = same_law old new h.2 core
-  claimed_law old new tx block addr (claim.Outside back) whole is_out h core = same_law old new h.2 core
-  claimed_law old new tx block addr (claim.NoMemory back) whole is_out h core = same_law old new h.2 core
+      (lawful_claim P old tx block addr whole h.1 core)
+  claimed_law old new tx block addr (claim.Busy back) whole h core = same_law old new h.2 core
+  claimed_law old new tx block addr (claim.Loading back) whole h core = same_law old new h.2 core
+  claimed_law old new tx block addr (claim.Outside back) whole h core = same_law old new h.2 core
+  claimed_law old new tx block addr (claim.NoMemory back) whole h core = same_law old new h.2 core
 
   pub commit_law : {C : Type 0} (old new : CoreState) (tx : ℕ) (plan : Planned) (change : C) (answer : Commit C)
       → IsCommitExactly old tx plan change answer new → IsLawful new.log → All IsWholeChange new.log.changes

@@ -1,59 +1,26 @@
--- A transaction that is out alone is kept off by nobody but itself, and its own change is never foreign.
+-- A transaction that is out alone is kept off by nobody but itself.
 use Rattle.std.proofs.Common.{◌≡◌, ◌∙◌, refl, sym, ap, subst, true≢false, ℕ, ◌⊎◌, inl, inr, Bool, true, false}
-use Rattle.std.proofs.Common.{◌||◌}
-use Rattle.std.proofs.Common.{◌++◌}
-use Rattle.std.proofs.Common.{◌&&◌, cond, nat_eq, Option, Some, None, List, [], ◌∷◌, All, get_or, arith}
+use Rattle.std.proofs.Common.{◌||◌, nat_eq, Option, Some, None, List, [], ◌∷◌, get_or}
 use Rattle.std.specs.Prelude.{Contains}
-use Rattle.std.specs.List.{find, list_any}
+use Rattle.std.specs.List.{list_any}
 use Rattle.std.proofs.lemmas.Bool.{eqb-true}
-use Rattle.std.proofs.lemmas.List.Elements.{All-contains, All-contains_itself, All-nil, All-push}
+use Rattle.std.proofs.lemmas.List.Elements.{All-contains, All-contains_itself}
 use Rattle.disk.specs.declared.block.BlockNo.{BlockNo}
 use Rattle.objects.specs.Addr.{Overlap}
-use Rattle.objects.specs.Mode.{is_exclusive}
 use Rattle.objects.specs.declared.addr.Addr.{Addr}
 use Rattle.objects.specs.declared.mode.Mode.{Mode}
 use Rattle.objects.specs.declared.mode.Mode.TheVariants as modes
-use Rattle.wal_law.specs.Log.{IsHomeOn}
-use Rattle.txn_law.specs.Commit.{IsOwn, IsReadBy, IsWrittenBy, Planned}
 use Rattle.txn_law.specs.Core.{CoreState}
-use Rattle.txn_law.specs.Group.{blocks_after, is_among}
-use Rattle.txn_law.specs.Holds.{IsHoldOf, hold_of, is_hold_of, is_read, is_written}
+use Rattle.txn_law.specs.Holds.{IsHoldOf, is_hold_of, is_written}
 use Rattle.txn_law.specs.Leaves.{is_fetching, taken_by}
-use Rattle.txn_law.specs.Object.{ObjectBytes}
 use Rattle.txn_law.specs.Tidy.{AreBeside, AreTidy, IsOfOne}
 use Rattle.txn_law.specs.Wishes.{IsBusy, IsLoading, IsWhole}
 use Rattle.txn_law.specs.declared.hold.Hold.{Hold}
 use Rattle.txn_law.proofs.Again as again
-use Rattle.txn_law.proofs.Alone.{alone_is_out}
-use Rattle.txn_law.proofs.Claims.{all_four, found_by}
-use Rattle.txn_law.proofs.Swept.{in_cons, in_first, in_more}
+use Rattle.txn_law.proofs.Others.{found_some}
 use Rattle.txn_law.proofs.TakenBy.{is_hold_by}
-use Rattle.txn.specs.Claimed.{IsAmongRead, IsClaimedBy, IsClaimedObject}
-
--- where one passes a test, one is found
-found_some : {X : Type 0} (test : X → Bool) (xs : List X) (x : X) → Contains xs x → test x ≡ true
-    → (y : X) × (find test xs ≡ Some y)
-found_some test [] x (k, lt, e) passes = absurd (omega (arith, lt))
-found_some test (y ∷ ys) x there passes = go (found_some test ys x) (test y) refl (in_cons y x ys there)
-  where
-    go : (Contains ys x → test x ≡ true → (z : _) × (find test ys ≡ Some z)) → (t : Bool) → test y ≡ t
-        → (y ≡ x) ⊎ Contains ys x → (z : _) × (cond t (Some y) (find test ys) ≡ Some z)
-    go rest true is at = (y, refl)
-    go rest false is (inl same) = absurd (true≢false (sym passes ∙ ap test (sym same) ∙ is))
-    go rest false is (inr later) = rest later passes
-
--- what holds of the blocks of all objects holds of the group's
-blocks_all : (P : BlockNo → Type 0) (blocks : List BlockNo) (objects : List ObjectBytes) → All P blocks
-    → ((object : ObjectBytes) → Contains objects object → P object.addr.block)
-    → All P (blocks_after blocks objects)
-blocks_all P blocks [] all each = all
-blocks_all P blocks (o ∷ os) all each =
-    blocks_all P (cond (is_among o.addr.block blocks) blocks (blocks ++ o.addr.block ∷ [])) os
-    (by (is_among o.addr.block blocks)) (λ object there. each object (in_more o object os there))
-  where
-    by : (known : Bool) → All P (cond known blocks (blocks ++ o.addr.block ∷ []))
-    by true = all
-    by false = All-push P blocks o.addr.block all (each o (in_first o o os refl))
+use Rattle.txn.specs.Claimed.{IsClaimedBy}
+use Rattle.txn.proofs.OwnChange.{taken_at}
 
 module _ (core : CoreState) (tx : ℕ) (tidy : AreTidy core) (alone : core.out ≡ tx ∷ []) where
   -- whatever is taken is its own
@@ -69,26 +36,6 @@ module _ (core : CoreState) (tx : ℕ) (tidy : AreTidy core) (alone : core.out �
   taken_there : (x : Hold) → Contains core.holds x → (hold : Hold) × (taken_by core tx x.addr ≡ Some hold)
   taken_there x there = found_some (is_hold_of tx x.addr) core.holds x there
       (is_hold_by tx x.addr x (mine x there) refl refl refl)
-
-  -- what it has taken is among the holds, by its address
-  taken_at : (addr : Addr) (hold : Hold) → taken_by core tx addr ≡ Some hold
-      → Contains core.holds hold × (hold.addr ≡ addr)
-  taken_at addr hold taken =
-      let found = found_by (is_hold_of tx addr) core.holds hold taken in
-      let four = all_four (nat_eq hold.transaction tx) (nat_eq hold.addr.block.0 addr.block.0)
-      (nat_eq hold.addr.offset addr.offset) (nat_eq hold.addr.len addr.len) found.0 in (
-        found.1,
-        again.same_addr hold.addr addr (eqb-true hold.addr.block.0 addr.block.0 four.1)
-            (eqb-true hold.addr.offset addr.offset four.2) (eqb-true hold.addr.len addr.len four.3),
-      )
-
-  -- and lies where a change may write
-  taken_home : (addr : Addr) (hold : Hold) → taken_by core tx addr ≡ Some hold
-      → IsHomeOn core.log.blocks addr.block
-  taken_home addr hold taken =
-      let at = taken_at addr hold taken in
-      subst (λ (a : Addr). IsHomeOn core.log.blocks a.block) at.1
-      (All-contains (IsOfOne core) core.holds hold tidy.owned at.0).1
 
   pub never_busy : (addr : Addr) (mode : Mode)
       → ((other : Addr) (hold : Hold) → taken_by core tx other ≡ Some hold → Overlap other addr → other ≡ addr)
@@ -114,8 +61,8 @@ module _ (core : CoreState) (tx : ℕ) (tidy : AreTidy core) (alone : core.out �
           one : (other : Addr) (more : Hold) → taken_by core tx other ≡ Some more → Overlap other addr
               → other ≡ addr
           one other more taken over =
-              let a = taken_at addr hold is in
-              let b = taken_at other more taken in
+              let a = taken_at core tx tidy addr hold is in
+              let b = taken_at core tx tidy other more taken in
               go a b (again.one_or_apart core.holds more hold tidy.apart b.0 a.0)
             where
               go : Contains core.holds hold × (hold.addr ≡ addr) → Contains core.holds more × (more.addr ≡ other)
@@ -124,63 +71,6 @@ module _ (core : CoreState) (tx : ℕ) (tidy : AreTidy core) (alone : core.out �
               go a b (inr apart) = absurd (apart (subst (λ (at : Addr). Overlap more.addr at) (sym a.1)
                   (subst (λ (at : Addr). Overlap at addr) (sym b.1) over))
                   (inl (mine more b.0 ∙ sym (mine hold a.0))))
-
-  -- Its change is its own: it was planned for this core and by what the transaction holds, and writes only
-  -- what it read and holds alone and what it has claimed, while no fetch is pending of what it writes.
-  module _ (plan : Planned) (blocks : plan.blocks ≡ core.log.blocks) (inodes : plan.inodes ≡ core.inodes)
-      (read : All (IsReadBy core tx) plan.read)
-      (written : (object : ObjectBytes) → Contains plan.written object
-      → IsAmongRead plan.read object ⊎ IsClaimedObject core tx object)
-      (exclusive : (addr : Addr) (hold : Hold) → taken_by core tx addr ≡ Some hold
-      → hold.mode ≡ modes.Exclusive)
-      (loaded : (object : ObjectBytes) → Contains plan.written object
-      → is_fetching core object.addr.block ≡ false) where
-    is_written_so : (mode : Mode) (reads claims : Bool) → mode ≡ modes.Exclusive → reads ≡ true
-        → (is_exclusive mode && (reads || claims)) ≡ true
-    is_written_so mode reads claims at by = ap (λ m. is_exclusive m && (reads || claims)) at
-        ∙ ap (λ b. b || claims) by
-
-    by_read : (object : ObjectBytes) → IsAmongRead plan.read object
-        → is_written (taken_by core tx object.addr) ≡ true
-    by_read object before = from (taken_by core tx object.addr) refl
-        (subst (λ (a : Addr). is_read (hold_of core.holds tx a) ≡ true) before.2
-        (All-contains (IsReadBy core tx) plan.read before.0 read before.1).held)
-      where
-        from : (found : Option Hold) → taken_by core tx object.addr ≡ found → is_read found ≡ true
-            → is_written found ≡ true
-        from None is none = absurd (true≢false (sym none))
-        from (Some hold) is reads =
-            is_written_so hold.mode hold.is_read hold.is_claimed (exclusive object.addr hold is) reads
-
-    held_by : (object : ObjectBytes) → IsAmongRead plan.read object ⊎ IsClaimedObject core tx object
-        → is_written (taken_by core tx object.addr) ≡ true
-    held_by object (inl before) = by_read object before
-    held_by object (inr claimed) = claimed.0 object.addr claimed.1
-
-    written_by : (object : ObjectBytes) → Contains plan.written object → IsWrittenBy core tx object.addr
-    written_by object there = record {
-      held = held_by object (written object there);
-      loaded = loaded object there;
-    }
-
-    home_of : (object : ObjectBytes) → Contains plan.written object → IsHomeOn core.log.blocks object.addr.block
-    home_of object there = by (taken_by core tx object.addr) refl (held_by object (written object there))
-      where
-        by : (found : Option Hold) → taken_by core tx object.addr ≡ found → is_written found ≡ true
-            → IsHomeOn core.log.blocks object.addr.block
-        by None is none = absurd (true≢false (sym none))
-        by (Some hold) is held = taken_home object.addr hold is
-
-    pub is_own : IsOwn core tx plan
-    is_own = record {
-      out = alone_is_out core tx alone;
-      blocks = blocks;
-      inodes = inodes;
-      read = read;
-      written = λ k d lt. written_by (get_or plan.written k d) (All-contains_itself plan.written k d lt);
-      homes = blocks_all (IsHomeOn core.log.blocks) [] plan.written
-          (All-nil (IsHomeOn core.log.blocks)) home_of;
-    }
 
 pub never_loading : (core : CoreState) (tx : ℕ) (addr : Addr) (mode : Mode)
     → is_fetching core addr.block ≡ false

@@ -1,7 +1,6 @@
 pub mod Outcomes
 pub mod Exactly
 pub mod Source
-pub mod Out
 pub mod Claimed
 -- What the contracts here cite, for the crates above.
 pub use Rattle.txn_law.specs.Object
@@ -23,3 +22,4 @@ pub use Rattle.txn_law.specs.Absorb
 pub use Rattle.txn_law.specs.HomeRead
 pub use Rattle.txn_law.specs.Tidy
 pub use Rattle.txn_law.specs.CoreLaw
+pub use Rattle.txn_law.specs.Others

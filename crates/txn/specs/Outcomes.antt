@@ -39,7 +39,7 @@ IsWantedWith held fetch old tx addr mode (want.Fetch back io) new = (back ≡ tx
     × fetch io
 IsWantedWith held fetch old tx addr mode (want.Loading back) new = (back ≡ tx) × IsLoading old tx addr mode
     × (new ≡ old)
-IsWantedWith held fetch old tx addr mode (want.Outside back) new = (back ≡ tx) × IsOutside old addr
+IsWantedWith held fetch old tx addr mode (want.Outside back) new = (back ≡ tx) × IsOutside old tx addr
     × (new ≡ old)
 IsWantedWith held fetch old tx addr mode (want.NoMemory back) new = (back ≡ tx) × IsOpen old tx addr mode
     × (new ≡ old)
@@ -75,7 +75,7 @@ IsClaimedWith held old tx addr (claim.Busy back) new = (back ≡ tx) × IsBusy o
     × (new ≡ old)
 IsClaimedWith held old tx addr (claim.Loading back) new = (back ≡ tx) × IsLoading old tx addr modes.Exclusive
     × (new ≡ old)
-IsClaimedWith held old tx addr (claim.Outside back) new = (back ≡ tx) × IsOutside old addr × (new ≡ old)
+IsClaimedWith held old tx addr (claim.Outside back) new = (back ≡ tx) × IsOutside old tx addr × (new ≡ old)
 IsClaimedWith held old tx addr (claim.NoMemory back) new = (back ≡ tx) × IsOpen old tx addr modes.Exclusive
     × (new ≡ old)
 

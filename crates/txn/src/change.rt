@@ -18,6 +18,9 @@ pub trait Change: Drop {
     // and inodes.
     ghost is_plan: { ℕ → ℕ → List ObjectBytes → List ObjectBytes → Type 0 };
 
+    // An image that such changes are made to may have these counts of blocks and inodes.
+    ghost are_counts: { ℕ → ℕ → Type 0 };
+
     /// What it read, as the objects were then.
     fn read(&self) -> &[Object]
         ensures { result.now ≡ (planned self.now).read };

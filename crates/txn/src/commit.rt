@@ -74,7 +74,7 @@ impl<C: Change> State<C> {
         ensures { IsTrue result
             ↔ IsOwn self.now transaction (C.planned change.now) }
     {
-        self.out == Some(transaction)
+        self.is_out(transaction)
             && change.blocks() == self.log.blocks()
             && change.inodes() == self.inodes
             && self.has_read(transaction, change.read())

@@ -8,14 +8,18 @@ ghost use Rattle.objects.specs.declared.addr.Addr.{Addr};
 ghost use Rattle.objects.specs.declared.mode.Mode.{Mode};
 ghost use Rattle.objects.specs.declared.mode.Mode.TheVariants as modes;
 ghost use Rattle.txn_law.specs.Commit.{IsOwn, IsReadBy, Planned};
-ghost use Rattle.txn_law.specs.Core.{CoreState};
-ghost use Rattle.txn_law.specs.Leaves.{HasFetched, taken_by, is_fetching};
+ghost use Rattle.txn_law.specs.Core.{CoreState, IsOut, with_begun, without};
+ghost use Rattle.txn_law.specs.CoreWindow.{KeepsReads};
+ghost use Rattle.txn_law.specs.Leaves.{HasFetched, Leaves, but_by, in_memory, taken_by, is_fetching};
+ghost use Rattle.txn_law.specs.Leaves.{without_fetch};
+ghost use Rattle.txn_law.specs.Others.{KeepsTaken};
 ghost use Rattle.txn_law.specs.Object.{ObjectBytes};
 ghost use Rattle.txn_law.specs.Tidy.{AreTidy};
 ghost use Rattle.txn_law.specs.Wishes.{IsBusy, IsLoading, IsWhole};
 ghost use Rattle.txn_law.specs.declared.hold.Hold.{Hold};
 ghost use Rattle.txn.specs.Claimed.{IsAmongRead, IsClaimedBy, IsClaimedObject};
-ghost use Rattle.txn.specs.Outcomes.{IsMet, IsWanted};
+ghost use Rattle.txn.specs.Outcomes.{IsClaimed, IsMet, IsWanted, TakesPlace};
+ghost use Rattle.txn.specs.declared.outcomes.Claim.{Claim};
 ghost use Rattle.txn.specs.declared.outcomes.Want.{Want};
 
 /// A transaction has taken an address of a block that is being fetched. Once that fetch is given back, a
@@ -29,9 +33,7 @@ pub fn a_wish_is_met_after_its_fetch()
 
 /// A transaction that is out alone is told neither Busy nor Loading, where it wishes for no byte of what it
 /// has taken by another address and no fetch of the block is pending; so it may claim again a block that it
-/// has claimed. Its change is its own, so not Foreign, where it was planned for this core, read what the
-/// transaction holds, and writes only what it read and holds alone and whole blocks that it has claimed, while
-/// no fetch of a block that it writes is pending.
+/// has claimed.
 pub fn a_lone_transaction_is_not_kept_off()
     ensures busy { (core : CoreState) (tx : ℕ) (addr : Addr) (mode : Mode) → AreTidy core → core.out ≡ tx ∷ []
         → ((other : Addr) (hold : Hold) → taken_by core tx other ≡ Some hold → Overlap other addr
@@ -42,7 +44,38 @@ pub fn a_lone_transaction_is_not_kept_off()
     ensures claimed { (core : CoreState) (tx : ℕ) (block : BlockNo) (addr : Addr) → AreTidy core
         → core.out ≡ tx ∷ [] → IsClaimedBy core tx block → IsWhole block addr
         → IsBusy core tx addr modes.Exclusive → ⊥ }
-    ensures own { (core : CoreState) (tx : ℕ) (plan : Planned) → AreTidy core → core.out ≡ tx ∷ []
+{}
+
+/// Each step of the core keeps what those transactions have that it isn't of: they stay out, what they have
+/// taken stays theirs, what they read stays as they read it, and its blocks stay in memory.
+pub fn others_keep_what_they_have()
+    ensures begun { (old new : CoreState) (other : ℕ) → KeepsReads old new other → new ≡ with_begun old
+        → KeepsTaken old new other }
+    ensures wanted { (old new : CoreState) (tx other : ℕ) → (other ≡ tx → ⊥) → KeepsReads old new other
+        → (addr : Addr) (mode : Mode) (answer : Want) → IsWanted old tx addr mode answer new
+        → KeepsTaken old new other }
+    ensures claimed { (old new : CoreState) (tx other : ℕ) → (other ≡ tx → ⊥) → KeepsReads old new other
+        → (addr : Addr) (answer : Claim) → IsClaimed old tx addr answer new → KeepsTaken old new other }
+    ensures placed { (old new : CoreState) (tx other : ℕ) → (other ≡ tx → ⊥) → KeepsReads old new other
+        → (plan : Planned) (place : ℕ) → TakesPlace old tx plan place new → KeepsTaken old new other }
+    ensures ended { (old new : CoreState) (tx other : ℕ) → (other ≡ tx → ⊥) → KeepsReads old new other
+        → new.out ≡ without tx old.out
+        → Leaves new (but_by tx (taken_by old)) (is_fetching old) (in_memory old)
+        → KeepsTaken old new other }
+    ensures fetched { (old new : CoreState) (other : ℕ) → KeepsReads old new other
+        → (block : BlockNo) (content : Content) → new.out ≡ old.out → HasFetched old block content new
+        → KeepsTaken old new other }
+    ensures failed { (old new : CoreState) (other : ℕ) → KeepsReads old new other
+        → (block : BlockNo) → new.out ≡ old.out
+        → Leaves new (taken_by old) (without_fetch block (is_fetching old)) (in_memory old)
+        → KeepsTaken old new other }
+{}
+
+/// The change of a transaction that is out is its own, so not Foreign, where it was planned for this core, read
+/// what the transaction holds, and writes only what it read and holds alone and whole blocks that it has
+/// claimed, while no fetch of a block that it writes is pending.
+pub fn a_planned_change_is_its_own()
+    ensures { (core : CoreState) (tx : ℕ) (plan : Planned) → AreTidy core → IsOut core tx
         → plan.blocks ≡ core.log.blocks → plan.inodes ≡ core.inodes → All (IsReadBy core tx) plan.read
         → ((object : ObjectBytes) → Contains plan.written object
         → IsAmongRead plan.read object ⊎ IsClaimedObject core tx object)

@@ -1,8 +1,8 @@
 //! The state of a core, and exactly what each method makes of it: who holds what, what is in memory, and the
 //! commits that aren't installed.
 ghost use Rattle.std.specs.Prelude.{◌≡◌, ◌≤◌, ◌<◌, ◌+◌, ◌^◌, ◌↔◌, IsTrue, IsSome, IsNone, IfSome, IsErrOf, OnErr};
-ghost use Rattle.txn.specs.Out.{listed};
-ghost use Rattle.std.specs.Prelude.{IfOk, ◌∷◌, true, false, is_some, if◌then◌else◌, [], length, All};
+ghost use Rattle.std.specs.List.{list_any};
+ghost use Rattle.std.specs.Prelude.{nat_eq, IfOk, ◌∷◌, true, false, is_some, if◌then◌else◌, [], length, All};
 ghost use Rattle.limits.specs.declared.TheConstants.{CHANGED_BLOCKS};
 ghost use Rattle.wal_law.specs.Grows.{IsWholeChange};
 ghost use Rattle.wal_law.specs.Log.{settled_place, installed_place, tail_count, added_blocks, IsHomeOn};
@@ -13,8 +13,9 @@ ghost use Rattle.wal_law.specs.Io.{IsCallWithin};
 ghost use Rattle.wal_law.specs.Logger.{IsNextLogCall, may_log, with_log_out, is_log_out, with_log_back};
 ghost use Rattle.wal_law.specs.Installer.{IsNextInstCall, may_install, with_inst_out, is_inst_out};
 ghost use Rattle.wal_law.specs.Installer.{with_inst_back};
-ghost use Rattle.txn_law.specs.Core.{with_begun, without, ended, past, installed};
+ghost use Rattle.txn_law.specs.Core.{IsOut, with_begun, without, ended, past, installed};
 ghost use Rattle.txn_law.specs.Records.{swept};
+ghost use Rattle.txn_law.specs.Wishes.{IsInside};
 
 use crate::outcomes::BeginFault;
 use crate::records::{Record, forget, sweep};
@@ -23,6 +24,7 @@ use disk::BlockNo;
 use holds::group::blocks_of_objects;
 use holds::taken::release;
 use limits::FIRST_HOME_BLOCK;
+use objects::Addr;
 use std::alloc::Global;
 use std::collections::VecDeque;
 use std::marker::Model;
@@ -36,8 +38,8 @@ pub(crate) struct State<C: Change> {
     pub(crate) inodes: u32,
     // How many transactions were begun.
     pub(crate) begun: u64,
-    // The transaction that is out.
-    pub(crate) out: Option<u64>,
+    // The transactions that are out.
+    pub(crate) out: Vec<u64>,
     pub(crate) holds: Vec<Hold>,
     // Each block that is held or that a kept record read, with its current content, and those that are being
     // fetched.
@@ -48,7 +50,6 @@ pub(crate) struct State<C: Change> {
 
 impl<C: Change> Model for State<C> {
     ghost use Rattle.std.specs.Prelude.{map};
-    ghost use Rattle.txn.specs.Out.{listed};
     ghost use Rattle.txn_law.specs.Commit.{footprint};
     ghost use Rattle.txn_law.specs.Core.{CoreState};
 
@@ -58,7 +59,7 @@ impl<C: Change> Model for State<C> {
       log = c.log;
       inodes = c.inodes;
       begun = c.begun;
-      out = listed c.out;
+      out = c.out.items;
       holds = c.holds.items;
       present = c.present.items;
       records = map (λ r. footprint r.place.0 (C.planned r.change)) c.records.items;
@@ -82,7 +83,7 @@ impl<C: Change> State<C> {
             log,
             inodes,
             begun: 0,
-            out: None,
+            out: Vec::new(alloc),
             holds: Vec::new(alloc),
             present: Vec::new(alloc),
             records: VecDeque::new(alloc),
@@ -110,16 +111,15 @@ impl<C: Change> State<C> {
         (self.log.blocks(), self.inodes)
     }
 
-    /// The number of the transaction that is out, if one is.
-    pub(crate) fn transaction_out(&self) -> Option<u64>
-        ensures { self.now.out ≡ listed result }
+    /// Whether the transaction of this number is out.
+    pub(crate) fn is_out(&self, number: u64) -> bool
+        ensures { IsTrue result ↔ IsOut self.now number }
     {
-        self.out
+        is_among(number, &self.out)
     }
 
-    /// Begins a transaction. Transactions are numbered from 1. Broken is tested first.
+    /// Begins a transaction; `Core::begin` tells the answers.
     pub(crate) fn begin(&mut self) -> Result<Tx, BeginFault>
-        requires { self.old.out ≡ [] }
         ensures begun { IfOk result (λ tx. (tx ≡ self.old.begun + 1)
             × (self.new ≡ with_begun self.old)) }
         ensures counted { IfOk result (λ tx. tx < 2 ^ 64) }
@@ -127,7 +127,8 @@ impl<C: Change> State<C> {
         ensures broken { IsErrOf result BeginFault.Broken ↔ (self.old.log.broken ≡ true) }
         ensures spent { IsErrOf result BeginFault.Spent
             ↔ ((self.old.log.broken ≡ false) × (self.old.begun + 1 ≡ 2 ^ 64)) }
-        ensures no_memory { IsErrOf result BeginFault.NoMemory → ⊥ }
+        ensures no_memory { IsErrOf result BeginFault.NoMemory → (self.old.log.broken ≡ false)
+            × (self.old.begun + 1 < 2 ^ 64) }
     {
         if self.log.broken() {
             return Err(BeginFault::Broken);
@@ -135,9 +136,12 @@ impl<C: Change> State<C> {
         if self.begun == u64::MAX {
             return Err(BeginFault::Spent);
         }
-        self.begun += 1;
-        self.out = Some(self.begun);
-        Ok(Tx { number: self.begun })
+        let number = self.begun + 1;
+        if self.out.insert(0, number).is_err() {
+            return Err(BeginFault::NoMemory);
+        }
+        self.begun = number;
+        Ok(Tx { number })
     }
 
     /// Ends a transaction without a change, and lets go of what it has taken.
@@ -152,7 +156,7 @@ impl<C: Change> State<C> {
     pub(crate) fn close(&mut self, transaction: u64)
         ensures { self.new ≡ ended self.old transaction }
     {
-        self.out = without(transaction, self.out);
+        leave(&mut self.out, transaction);
         release(&mut self.holds, transaction);
         self.sweep();
     }
@@ -171,6 +175,13 @@ impl<C: Change> State<C> {
             ≡ record self.old { present = swept self.old.holds self.old.records self.old.present } }
     {
         sweep(&mut self.present, &self.holds, &self.records);
+    }
+
+    // Whether the transaction is out, and a change may write the address's block.
+    pub(crate) fn may_wish(&self, transaction: u64, addr: Addr) -> bool
+        ensures { IsTrue result ↔ IsInside self.now transaction addr }
+    {
+        self.is_out(transaction) && self.is_inside(addr.block)
     }
 
     // Whether a change may write the block.
@@ -277,12 +288,16 @@ impl<C: Change> State<C> {
     }
 }
 
-// Which transaction is out once this one has ended.
-fn without(transaction: u64, out: Option<u64>) -> Option<u64>
-    ensures { listed result ≡ without transaction (listed out) }
+// Whether the number is among these.
+fn is_among(number: u64, out: &[u64]) -> bool
+    ensures { result ≡ list_any (λ other. nat_eq other number) out.now }
 {
-    match out {
-        Some(number) if number == transaction => None,
-        _ => out,
-    }
+    out.iter().any(|other| *other == number)
+}
+
+// The transaction is out no more.
+fn leave(out: &mut Vec<u64>, transaction: u64)
+    ensures { out.new.items ≡ without transaction out.old.items }
+{
+    out.retain(|other| *other != transaction);
 }

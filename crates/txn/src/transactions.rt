@@ -21,8 +21,10 @@ ghost use Rattle.txn_law.specs.HomeRead.{IsReadable, HasContents};
 ghost use Rattle.txn_law.specs.Leaves.{Leaves, HasFetched, taken_by, is_fetching, in_memory, but_by};
 ghost use Rattle.txn_law.specs.Leaves.{without_fetch};
 ghost use Rattle.txn_law.specs.Wishes.{IsWhole};
-ghost use Rattle.txn.specs.Out.{listed};
 ghost use Rattle.txn.specs.Outcomes.{IsWanted, IsWithin, IsClaimed, IsCommit, IsSetBy};
+
+mod ending;
+mod places;
 
 use crate::state::State;
 use crate::{BeginFault, Change, Claim, Commit, FetchIo, Object, Stable, Tx, Want};
@@ -47,13 +49,14 @@ impl<C: Change> Model for Core<C> {
 
     ghost use Rattle.txn_law.specs.CoreLaw.{IsLawfulCore};
 
-    ghost invariant = { λ c. IsLawfulCore C.is_plan c.state };
+    ghost invariant = { λ c. IsLawfulCore C.is_plan c.state × C.are_counts c.state.log.blocks c.state.inodes };
 }
 
 impl<C: Change> Core<C> {
     /// A core over a log, for an image with the log's blocks and this count of inodes.
     pub fn new(alloc: Global, log: Wal, inodes: u32) -> Core<C>
-        requires { IsFresh log }
+        requires fresh { IsFresh log }
+        requires counts { C.are_counts log.blocks inodes }
         ensures { result ≡ record {
           log = log;
           inodes = inodes;
@@ -79,6 +82,13 @@ impl<C: Change> Core<C> {
         let _ = &self.state;
     }
 
+    /// An image may have the counts that it has.
+    pub fn counted(&self)
+        ensures { C.are_counts self.now.log.blocks self.now.inodes }
+    {
+        let _ = &self.state;
+    }
+
     /// The image's counts of blocks and of inodes.
     pub fn counts(&self) -> (u32, u32)
         ensures { result ≡ (self.now.log.blocks, self.now.inodes) }
@@ -86,16 +96,17 @@ impl<C: Change> Core<C> {
         self.state.counts()
     }
 
-    /// The number of the transaction that is out, if one is.
-    pub fn transaction_out(&self) -> Option<u64>
-        ensures { self.now.out ≡ listed result }
+    /// Whether the transaction of this number is out.
+    pub fn is_out(&self, number: u64) -> bool
+        ensures { IsTrue result ↔ IsOut self.now number }
     {
-        self.state.transaction_out()
+        self.state.is_out(number)
     }
 
-    /// Begins a transaction. Transactions are numbered from 1. Broken is tested first.
+    /// Begins a transaction beside those that are out. Transactions are numbered from 1. Broken: a write or a
+    /// barrier has failed. Spent: no number is left. NoMemory: there was no room to note it. They are tested in
+    /// this order, and change nothing.
     pub fn begin(&mut self) -> Result<Tx, BeginFault>
-        requires { self.old.out ≡ [] }
         ensures begun { IfOk result (λ tx. (tx ≡ self.old.begun + 1)
             × (self.new ≡ with_begun self.old)) }
         ensures counted { IfOk result (λ tx. tx < 2 ^ 64) }
@@ -103,20 +114,20 @@ impl<C: Change> Core<C> {
         ensures broken { IsErrOf result BeginFault.Broken ↔ (self.old.log.broken ≡ true) }
         ensures spent { IsErrOf result BeginFault.Spent
             ↔ ((self.old.log.broken ≡ false) × (self.old.begun + 1 ≡ 2 ^ 64)) }
-        ensures no_memory { IsErrOf result BeginFault.NoMemory → ⊥ }
+        ensures no_memory { IsErrOf result BeginFault.NoMemory → (self.old.log.broken ≡ false)
+            × (self.old.begun + 1 < 2 ^ 64) }
         ensures stays { (other : ℕ) → KeepsReads self.old self.new other }
         ensures keeps { KeepsHome self.old self.new }
     {
         self.state.begin()
     }
 
-    /// Takes an object for reading, alone, in a transaction that this core began and that hasn't ended.
-    /// Outside: the block isn't one that a change may write. Busy: another transaction has taken a byte of
-    /// it, or this one by another address. Loading: a fetch of the block is pending, and nothing is taken.
-    /// Fetch: the block has to be read from home; the object is taken, and the same want after `fetched`
-    /// answers Held or NoMemory. NoMemory: nothing has changed.
+    /// Takes an object for reading, alone. Outside: the block isn't one that a change may write, or the
+    /// transaction isn't one that this core began and that hasn't ended. Busy: another transaction has taken a
+    /// byte of it, or this one by another address. Loading: a fetch of the block is pending, and nothing is
+    /// taken. They are tested in this order. Fetch: the block has to be read from home; the object is taken,
+    /// and the same want after `fetched` answers Held or NoMemory. NoMemory: nothing has changed.
     pub fn want(&mut self, alloc: Global, tx: Tx, addr: Addr) -> Want
-        requires { IsOut self.old tx }
         ensures answer { IsWanted self.old tx addr modes.Exclusive result self.new }
         ensures within { IsWithin self.old.log.blocks addr.len result }
         ensures stays { (other : ℕ) → KeepsReads self.old self.new other }
@@ -127,7 +138,6 @@ impl<C: Change> Core<C> {
 
     /// Takes a whole block for writing, whose bytes don't matter. It answers as `want` does, and never Fetch.
     pub fn claim(&mut self, tx: Tx, block: BlockNo) -> Claim
-        requires { IsOut self.old tx }
         ensures answer { (addr : Addr) × IsWhole block addr × IsClaimed self.old tx addr result self.new }
         ensures stays { (other : ℕ) → KeepsReads self.old self.new other }
         ensures keeps { KeepsHome self.old self.new }
@@ -165,11 +175,11 @@ impl<C: Change> Core<C> {
     }
 
     /// Commits a change at the next place, and ends its transaction. Broken: a write or a barrier has failed.
-    /// Foreign: the transaction isn't one that this core began; or the change was planned for other counts
-    /// than the core's, writes a block that no change may write, writes what this transaction doesn't hold or
-    /// whose fetch is pending, or read what it doesn't hold for reading or what differs. Spent: no place is
-    /// left, or too few positions of the log. Full: the open group and this change pass the log. These and
-    /// NoMemory change nothing.
+    /// Foreign: the transaction isn't one that this core began and that hasn't ended; or the change was planned
+    /// for other counts than the core's, writes a block that no change may write, writes what this transaction
+    /// doesn't hold or whose fetch is pending, or read what it doesn't hold for reading or what differs. Spent:
+    /// no place is left, or too few positions of the log. Full: the open group and this change pass the log.
+    /// These and NoMemory change nothing.
     pub fn commit(&mut self, alloc: Global, tx: Tx, change: C) -> Commit<C>
         requires { length (blocks_of (C.planned change).written) ≤ CHANGED_BLOCKS }
         ensures answer { IsCommit self.old tx (C.planned change) change result self.new }

@@ -30,7 +30,7 @@ impl<C: Change> State<C> {
         ensures answer { IsWantedExactly self.old tx addr mode result self.new }
         ensures within { IsWithin self.old.log.blocks addr.len result }
     {
-        if !self.is_inside(addr.block) {
+        if !self.may_wish(tx.number, addr) {
             return Want::Outside(tx);
         }
         if !is_free(&self.holds, tx.number, addr, mode) {
@@ -57,7 +57,7 @@ impl<C: Change> State<C> {
     fn claim_at(&mut self, tx: Tx, addr: Addr) -> Claim
         ensures { IsClaimedExactly self.old tx addr result self.new }
     {
-        if !self.is_inside(addr.block) {
+        if !self.may_wish(tx.number, addr) {
             return Claim::Outside(tx);
         }
         if !is_free(&self.holds, tx.number, addr, Mode::Exclusive) {

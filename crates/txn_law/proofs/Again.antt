@@ -13,7 +13,7 @@ use Rattle.objects.specs.declared.addr.Addr.{Addr}
 use Rattle.objects.specs.declared.mode.Mode.{Mode}
 use Rattle.objects.specs.declared.mode.Mode.TheVariants as modes
 use Rattle.wal_law.specs.Log.{IsHomeOn}
-use Rattle.txn_law.specs.Core.{CoreState}
+use Rattle.txn_law.specs.Core.{CoreState, IsOut}
 use Rattle.txn_law.specs.Holds.{IsHoldOf, KeepsOff, is_hold_of}
 use Rattle.txn_law.specs.Leaves.{taken_by, is_fetching}
 use Rattle.txn_law.specs.Tidy.{AreBeside, AreApart, IsOfOne, AreTidy}
@@ -84,8 +84,10 @@ pub open_again : (core : CoreState) (tx : ℕ) (addr : Addr) (hold : Hold) (mode
     → taken_by core tx addr ≡ Some hold → raised hold.mode mode ≡ hold.mode
     → is_fetching core addr.block ≡ false → IsOpen core tx addr mode
 open_again core tx addr hold mode tidy taken no_more loaded = record {
-  home = subst (λ (a : Addr). IsHomeOn core.log.blocks a.block) at
-      (All-contains (IsOfOne core) core.holds hold tidy.owned there).1;
+  inside = record {
+    out = subst (IsOut core) by own.0;
+    home = subst (λ (a : Addr). IsHomeOn core.log.blocks a.block) at own.1;
+  };
   free = record {
     others = λ k d lt over off. each (get_or core.holds k d) (All-contains_itself core.holds k d lt) over off;
   };
@@ -107,6 +109,9 @@ open_again core tx addr hold mode tidy taken no_more loaded = record {
 
     by : hold.transaction ≡ tx
     by = eqb-true hold.transaction tx four.0
+
+    own : IsOfOne core hold
+    own = All-contains (IsOfOne core) core.holds hold tidy.owned there
 
     off_too : (x : Hold) → KeepsOff tx mode x → KeepsOff hold.transaction hold.mode x
     off_too x (inl same) = inl (same ∙ sym by)

@@ -19,7 +19,7 @@ use Rattle.wal_law.specs.Logger.{with_log_out, with_log_back}
 use Rattle.wal_law.specs.Log.{Log, IsLawful, newest, installed_place, blocks_of as group_blocks}
 use Rattle.wal_law.proofs.Effects.{seen_inst_done}
 use Rattle.txn_law.specs.Commit.{Planned, IsOwn, committed}
-use Rattle.txn_law.specs.Core.{CoreState, IsOut, with_begun, past, installed, ended}
+use Rattle.txn_law.specs.Core.{CoreState, with_begun, past, installed, ended}
 use Rattle.txn_law.specs.CoreLaw.{IsFresh, IsPlanned, IsLawfulCore}
 use Rattle.txn_law.specs.CoreWindow.{held_of, IsCoreWindow, AreBlocks, IsHomeOf, KeepsHome}
 use Rattle.txn_law.specs.Fetch.{Fetch}
@@ -104,7 +104,7 @@ home_log_done old true ok lawful base h = record {
 }
 home_log_done old false ok lawful base h = record { whole = h.whole; window = h.window }
 
-out_blocks : (log : Log) → (with_inst_out log).blocks ≡ log.blocks
+pub out_blocks : (log : Log) → (with_inst_out log).blocks ≡ log.blocks
 out_blocks log = elim (nat_lt 0 log.installing) as (λ t. (if t then record log { inst_out = true }
     else record log {
       installing = log.logged;
@@ -257,34 +257,34 @@ module _ (P : ℕ → ℕ → List ObjectBytes → List ObjectBytes → Type 0) 
     planned = h.planned;
   }
 
-  pub lawful_held : (old new : CoreState) (tx : ℕ) (addr : Addr) (mode : Mode) (bytes : List ℕ) → IsOut old tx
+  pub lawful_held : (old new : CoreState) (tx : ℕ) (addr : Addr) (mode : Mode) (bytes : List ℕ)
       → IsOpen old tx addr mode → IsHeldExactly old tx addr mode bytes new → IsLawfulCore P old
       → IsLawfulCore P new
-  lawful_held old new tx addr mode bytes is_out open' held h = record {
+  lawful_held old new tx addr mode bytes open' held h = record {
     log = subst (λ (core : CoreState). IsLawful core.log) (sym held.core) h.log;
-    tidy = tidy_held old new tx addr mode bytes is_out open' held h.tidy;
+    tidy = tidy_held old new tx addr mode bytes open' held h.tidy;
     home = (h.home.0, home_held old new tx addr mode bytes held h.home.0 h.home.1);
     planned = subst (λ (core : CoreState). All (IsPlanned P core.log.blocks core.inodes) core.records)
         (sym held.core) h.planned;
   }
 
-  pub lawful_fetch : (old new : CoreState) (tx : ℕ) (addr : Addr) (mode : Mode) (io : Fetch) → IsOut old tx
+  pub lawful_fetch : (old new : CoreState) (tx : ℕ) (addr : Addr) (mode : Mode) (io : Fetch)
       → IsOpen old tx addr mode → IsFetchedExactly old tx addr mode io new → IsLawfulCore P old
       → IsLawfulCore P new
-  lawful_fetch old new tx addr mode io is_out open' fetch h = record {
+  lawful_fetch old new tx addr mode io open' fetch h = record {
     log = subst (λ (core : CoreState). IsLawful core.log) (sym fetch.core) h.log;
-    tidy = tidy_fetch old new tx addr mode io is_out open' fetch h.tidy;
+    tidy = tidy_fetch old new tx addr mode io open' fetch h.tidy;
     home = (h.home.0, home_fetch old new tx addr mode io fetch h.home.0 h.home.1);
     planned = subst (λ (core : CoreState). All (IsPlanned P core.log.blocks core.inodes) core.records)
         (sym fetch.core) h.planned;
   }
 
   pub lawful_claim : (old : CoreState) (tx : ℕ) (block : BlockNo) (addr : Addr) → IsWhole block addr
-      → IsOut old tx → IsOpen old tx addr modes.Exclusive → IsLawfulCore P old
+      → IsOpen old tx addr modes.Exclusive → IsLawfulCore P old
       → IsLawfulCore P (claimed old tx addr)
-  lawful_claim old tx block addr whole is_out open' h = record {
+  lawful_claim old tx block addr whole open' h = record {
     log = h.log;
-    tidy = tidy_claim old tx block addr whole is_out open' h.tidy;
+    tidy = tidy_claim old tx block addr whole open' h.tidy;
     home = (h.home.0, home_claim old tx addr h.home.0 h.home.1);
     planned = h.planned;
   }

@@ -1,5 +1,5 @@
 -- Lemmas: a log in which no commit was made has the window of none.
-use Rattle.std.proofs.Common.{◌≡◌, ℕ, ◌-◌, ◌<◌, ◌≤◌, ◌⊎◌, inl, inr, List, [], ◌∷◌, length, take, drop, All}
+use Rattle.std.proofs.Common.{◌≡◌, ℕ, ◌<◌, ◌≤◌, ◌⊎◌, inl, inr, List, [], ◌∷◌, length, take, drop, All}
 use Rattle.std.proofs.Common.{zero, suc, refl, sym, ap, subst, ◌∙◌, arith, if◌then◌else◌, Bool}
 use Rattle.std.proofs.lemmas.Bool.{eq-eqb}
 use Rattle.std.proofs.lemmas.List.{drop_all, take_all, length-drop}
@@ -9,7 +9,7 @@ use Rattle.disk.specs.Crash.{Image}
 use Rattle.wal_law.specs.declared.change.LogChange.{LogChange}
 use Rattle.wal_law.specs.Grows.{recovered}
 use Rattle.wal_law.specs.Law.{with_changes}
-use Rattle.wal_law.specs.Log.{Log, IsLawful, IsRising, IsCommitted, first_place, place_before, opened}
+use Rattle.wal_law.specs.Log.{Log, IsLawful, IsRising, IsCommitted, first_place, place_before}
 use Rattle.txn_law.specs.CoreLaw.{IsFresh}
 use Rattle.txn_law.specs.Window.{Footprint, after_commits, opening, GroupEnd, at_first, at_installed, at_logged}
 use Rattle.txn_law.specs.Window.{at_taken, at_last, commits_among, AreInLog, ArePinned, IsCurrent, IsWindowOver}

@@ -27,3 +27,4 @@ pub mod HeldReads
 pub mod Beside
 pub mod OtherReads
 pub mod HeldNow
+pub mod Others

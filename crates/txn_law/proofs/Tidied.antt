@@ -286,14 +286,14 @@ owned_with core hold own each =
     each_with core.holds hold (IsOfOne core) (IsOfOne core) (λ x h. h) each own (λ had h block offset len. own)
 
 pub tidy_held : (old new : CoreState) (tx : ℕ) (addr : Addr) (mode : Mode) (bytes : List ℕ)
-    → IsOut old tx → IsOpen old tx addr mode
+    → IsOpen old tx addr mode
     → IsHeldExactly old tx addr mode bytes new → AreTidy old → AreTidy new
-tidy_held old new tx addr mode bytes is_out open' held tidy =
+tidy_held old new tx addr mode bytes open' held tidy =
     let hold : Hold = for_reading tx addr mode in
     subst AreTidy (sym held.core) (record {
-      owned = owned_with old hold (is_out, open'.home) tidy.owned;
+      owned = owned_with old hold (open'.inside.out, open'.inside.home) tidy.owned;
       placed = block_each old.present addr.block (Some held.content) (IsPlaced old.log.blocks)
-          open'.home tidy.placed;
+          open'.inside.home tidy.placed;
       apart = apart_with old.holds hold tidy.apart open'.free;
       read = read_with old.holds hold old.present (with_block old.present addr.block (Some held.content))
           (block_stays old.present addr.block (Some held.content)) tidy.read
@@ -305,14 +305,14 @@ tidy_held old new tx addr mode bytes is_out open' held tidy =
       changes = tidy.changes;
     })
 
-pub tidy_fetch : (old new : CoreState) (tx : ℕ) (addr : Addr) (mode : Mode) (io : Fetch) → IsOut old tx
+pub tidy_fetch : (old new : CoreState) (tx : ℕ) (addr : Addr) (mode : Mode) (io : Fetch)
     → IsOpen old tx addr mode
     → IsFetchedExactly old tx addr mode io new → AreTidy old → AreTidy new
-tidy_fetch old new tx addr mode io is_out open' fetch tidy =
+tidy_fetch old new tx addr mode io open' fetch tidy =
     let hold : Hold = for_fetching tx addr mode in
     subst AreTidy (sym fetch.core) (record {
-      owned = owned_with old hold (is_out, open'.home) tidy.owned;
-      placed = block_each old.present addr.block None (IsPlaced old.log.blocks) open'.home tidy.placed;
+      owned = owned_with old hold (open'.inside.out, open'.inside.home) tidy.owned;
+      placed = block_each old.present addr.block None (IsPlaced old.log.blocks) open'.inside.home tidy.placed;
       apart = apart_with old.holds hold tidy.apart open'.free;
       read = read_with old.holds hold old.present (with_block old.present addr.block None)
           (block_stays old.present addr.block None) tidy.read (λ is. absurd (cc));
@@ -323,12 +323,12 @@ tidy_fetch old new tx addr mode io is_out open' fetch tidy =
       changes = tidy.changes;
     })
 
-pub tidy_claim : (old : CoreState) (tx : ℕ) (block : BlockNo) (addr : Addr) → IsWhole block addr → IsOut old tx
+pub tidy_claim : (old : CoreState) (tx : ℕ) (block : BlockNo) (addr : Addr) → IsWhole block addr
     → IsOpen old tx addr modes.Exclusive → AreTidy old → AreTidy (claimed old tx addr)
-tidy_claim old tx block addr whole is_out open' tidy =
+tidy_claim old tx block addr whole open' tidy =
     let hold : Hold = for_writing tx addr in
     record {
-      owned = owned_with old hold (is_out, open'.home) tidy.owned;
+      owned = owned_with old hold (open'.inside.out, open'.inside.home) tidy.owned;
       placed = tidy.placed;
       apart = apart_with old.holds hold tidy.apart open'.free;
       read = read_with old.holds hold old.present old.present (λ at c e. e) tidy.read (λ is. absurd (cc));
@@ -371,7 +371,7 @@ read_swept holds records old new stays each =
     (λ k d lt. (each k d lt, All-contains_itself holds k d lt))
 
 -- what the others have taken is of transactions that are still out
-out_still : (out : List ℕ) (tx t : ℕ) → nat_eq t tx ≡ false → list_any (λ other. nat_eq other t) out ≡ true
+pub out_still : (out : List ℕ) (tx t : ℕ) → nat_eq t tx ≡ false → list_any (λ other. nat_eq other t) out ≡ true
     → list_any (λ other. nat_eq other t) (without tx out) ≡ true
 out_still [] tx t differ e = e
 out_still (o ∷ os) tx t differ e = go (out_still os tx t differ) (nat_eq o t) refl (nat_eq o tx) refl e

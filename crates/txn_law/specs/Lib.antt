@@ -17,3 +17,4 @@ pub mod Absorb
 pub mod HomeRead
 pub mod Tidy
 pub mod CoreLaw
+pub mod Others

@@ -7,29 +7,33 @@ use Rattle.objects.specs.declared.addr.Addr.{Addr}
 use Rattle.objects.specs.declared.mode.Mode.{Mode}
 use Rattle.wal_law.specs.Log.{IsHomeOn, newest, or_else}
 use Rattle.txn_law.specs.Commit.{IsReadBy, IsWrittenBy}
-use Rattle.txn_law.specs.Core.{CoreState}
+use Rattle.txn_law.specs.Core.{CoreState, IsOut}
 use Rattle.txn_law.specs.Fetch.{Fetch}
 use Rattle.txn_law.specs.Holds.{IsFree, for_reading, for_fetching, for_writing}
 use Rattle.txn_law.specs.Leaves.{Leaves, taken_by, is_fetching, in_memory, with_taken, with_fetch, with_content}
 use Rattle.txn_law.specs.Present.{present_of, content_in, is_pending}
 use Rattle.txn_law.specs.Window.{part}
 
--- the block is one that a change may write, nothing that is taken keeps the wish off, and no fetch of the block
--- is pending
-pub record IsOpen (core : CoreState) (tx : ℕ) (addr : Addr) (mode : Mode) : Type 0 where
+-- the transaction is out, and the block is one that a change may write
+pub record IsInside (core : CoreState) (tx : ℕ) (addr : Addr) : Type 0 where
+  pub out : IsOut core tx
   pub home : IsHomeOn core.log.blocks addr.block
+
+-- the wish is inside, nothing that is taken keeps it off, and no fetch of the block is pending
+pub record IsOpen (core : CoreState) (tx : ℕ) (addr : Addr) (mode : Mode) : Type 0 where
+  pub inside : IsInside core tx addr
   pub free : IsFree core.holds tx addr mode
   pub settled : is_pending (present_of core.present addr.block) ≡ false
 
 -- why a wish was refused
-abbrev pub IsOutside : CoreState → Addr → Type 0
-IsOutside core addr = IsHomeOn core.log.blocks addr.block → ⊥
+abbrev pub IsOutside : CoreState → ℕ → Addr → Type 0
+IsOutside core tx addr = IsInside core tx addr → ⊥
 
 abbrev pub IsBusy : CoreState → ℕ → Addr → Mode → Type 0
-IsBusy core tx addr mode = IsHomeOn core.log.blocks addr.block × (IsFree core.holds tx addr mode → ⊥)
+IsBusy core tx addr mode = IsInside core tx addr × (IsFree core.holds tx addr mode → ⊥)
 
 abbrev pub IsLoading : CoreState → ℕ → Addr → Mode → Type 0
-IsLoading core tx addr mode = IsHomeOn core.log.blocks addr.block × IsFree core.holds tx addr mode
+IsLoading core tx addr mode = IsInside core tx addr × IsFree core.holds tx addr mode
     × (is_pending (present_of core.present addr.block) ≡ true)
 
 -- the block's current content, where it is in memory: beside the log, else in the log

@@ -7,7 +7,7 @@ mod present;
 mod reads;
 mod window;
 
-ghost use Rattle.std.specs.Prelude.{◌≡◌, ◌≢◌, ◌∷◌, ◌+◌, ◌-◌, ◌≤◌, ℕ, List, [], All, Bool, None, length};
+ghost use Rattle.std.specs.Prelude.{◌≡◌, ◌≢◌, ◌∷◌, ◌+◌, ◌-◌, ◌≤◌, ℕ, List, [], All, Bool, Option, None, length};
 ghost use Rattle.std.specs.Prelude.{take, drop};
 ghost use Rattle.std.specs.Prelude.{true, false, Some};
 ghost use Rattle.disk.specs.Device.{Content};
@@ -20,7 +20,7 @@ ghost use Rattle.wal_law.specs.Calls.{home_after, KeepsAgreement};
 ghost use Rattle.wal_law.specs.Logger.{with_log_out, with_log_back};
 ghost use Rattle.wal_law.specs.Installer.{with_inst_out, with_inst_back};
 ghost use Rattle.wal_law.specs.Grows.{GrowsBy};
-ghost use Rattle.txn_law.specs.Core.{CoreState, past, installed, ended};
+ghost use Rattle.txn_law.specs.Core.{CoreState, IsOut, past, installed, ended};
 ghost use Rattle.txn_law.specs.Records.{swept};
 ghost use Rattle.txn_law.specs.declared.hold.Hold.{Hold};
 ghost use Rattle.txn_law.specs.Lists.{IsHeldExactly, IsFetchedExactly, claimed};
@@ -28,13 +28,14 @@ ghost use Rattle.txn_law.specs.Fetch.{Fetch};
 ghost use Rattle.objects.specs.Mode.{raised};
 ghost use Rattle.objects.specs.declared.addr.Addr.{Addr};
 ghost use Rattle.objects.specs.declared.mode.Mode.{Mode};
-ghost use Rattle.txn_law.specs.CoreWindow.{IsCoreWindow, IsHomeOf, held_of};
+ghost use Rattle.txn_law.specs.CoreWindow.{IsCoreWindow, IsHomeOf, KeepsReads, held_of};
 ghost use Rattle.txn_law.specs.Tidy.{AreTidy};
 ghost use Rattle.txn_law.specs.Object.{ObjectBytes};
 ghost use Rattle.txn_law.specs.Present.{present_of, content_in};
 ghost use Rattle.txn_law.specs.Fetched.{fetched, fetch_failed};
-ghost use Rattle.txn_law.specs.Leaves.{taken_by, is_fetching};
-ghost use Rattle.txn_law.specs.Wishes.{IsHeld, IsOpen};
+ghost use Rattle.txn_law.specs.Leaves.{Leaves, taken_by, is_fetching, in_memory};
+ghost use Rattle.txn_law.specs.Others.{IsApartFrom, IsKeptOff, KeepsTaken};
+ghost use Rattle.txn_law.specs.Wishes.{IsBusy, IsHeld, IsOpen};
 ghost use Rattle.txn_law.specs.Commit.{Planned, IsCommitted, committed, IsReadBy, IsWrittenBy};
 ghost use Rattle.txn_law.specs.declared.present.Present.{Present};
 ghost use Rattle.wal_law.specs.Room.{with_group};
@@ -220,4 +221,18 @@ pub fn what_is_held_is_current()
         → bytes ≡ object_at (now_of base old.log old.records) addr }
     ensures held { (base : Image) (core : CoreState) (tx : ℕ) (object : ObjectBytes) → IsHomeOf base core
         → IsReadBy core tx object → IsAsRead (now_of base core.log core.records) object }
+{}
+
+/// A wish that is told Busy is kept off by another transaction that is out, where it shares no byte with what
+/// its own transaction has taken by another address. A step that leaves what a transaction has taken and what
+/// was in memory keeps what the transaction has.
+pub fn transactions_stand_beside_each_other()
+    ensures busy { (core : CoreState) (tx : ℕ) (addr : Addr) (mode : Mode) → AreTidy core
+        → IsApartFrom core tx addr → IsBusy core tx addr mode → IsKeptOff core tx addr mode }
+    ensures keeps { (old new : CoreState) (tx : ℕ) (taken : ℕ → Addr → Option Hold)
+        (fetching : BlockNo → Bool) (there : BlockNo → Option Content) → Leaves new taken fetching there
+        → ((addr : Addr) → taken tx addr ≡ taken_by old tx addr)
+        → ((block : BlockNo) (content : Content) → in_memory old block ≡ Some content
+        → (now : Content) × (there block ≡ Some now))
+        → (IsOut old tx → IsOut new tx) → KeepsReads old new tx → KeepsTaken old new tx }
 {}

@@ -1,4 +1,5 @@
 pub mod View
+pub mod OnPorts
 -- What the contracts here cite, for the crates above.
 pub use Rattle.wal_law.specs.Io
 pub use Rattle.wal_law.specs.Log

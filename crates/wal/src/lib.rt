@@ -6,6 +6,7 @@
 pub mod circ;
 mod io;
 mod memory;
+mod port_io;
 
 pub use io::{InstIo, LogIo};
 pub use memory::Wal;

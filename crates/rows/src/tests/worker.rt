@@ -1,6 +1,6 @@
 //! A worker that is driven by hand over a device: what it needs for each step comes from the clauses of the
 //! calls before.
-ghost use Rattle.std.specs.Prelude.{◌≡◌, ◌<◌, IfOk, []};
+ghost use Rattle.std.specs.Prelude.{◌≡◌, ◌<◌, IfOk};
 ghost use Rattle.layout.specs.Geometry.{IsLawful};
 ghost use Rattle.store_workers.specs.Worker.{Fits};
 
@@ -10,7 +10,7 @@ use crate::tests::served::formatted;
 use disk::{Block, BlockNo, CrashDisk, Failed};
 use layout::Super;
 use limits::SUPER_BLOCK;
-use nfs_types::Reply;
+use nfs_types::{Reply, Status};
 use procs::Done;
 use std::alloc::Global;
 use std::test::Fail;
@@ -41,7 +41,6 @@ fn super_of<D: CrashDisk>(alloc: Global, disk: &mut D) -> Result<Super, Fail>
 
 // A core over the log of an image.
 fn core_of<D: CrashDisk>(alloc: Global, disk: &mut D) -> Result<Core<Done>, Fail>
-    ensures out { IfOk result (λ core. core.out ≡ []) }
     ensures lawful { IfOk result (λ core. IsLawful core.log.blocks core.inodes) }
     ensures size { IfOk result (λ core. (D.device disk.new).size ≡ core.log.blocks) }
 {
@@ -123,31 +122,36 @@ fn a_worker_driven_by_hand_answers(rt: HostRuntime) -> Result<(), Fail> {
     Ok(())
 }
 
-// What `fits` answers: of a new worker and of each of two cores; of both once its call began a transaction of
-// the first; and of another new worker and the first then.
-fn fitted<D: CrashDisk>(alloc: Global, disk: &mut D) -> Result<[bool; 5], Fail> {
+// What GETATTR of the root is answered by a worker that begins its transaction of one core, and makes its next
+// steps with another.
+fn told_by_another<D: CrashDisk>(
+    alloc: Global,
+    disk: &mut D,
+) -> Result<Option<CallAnswer>, Fail> {
     let mut core = core_of(alloc, disk)?;
-    let other = core_of(alloc, disk)?;
+    let mut other = core_of(alloc, disk)?;
     let (credential, call) = asked(alloc, &GETATTR)?;
     let mut worker = Worker::new(1);
-    let new = worker.fits(&core);
-    let new_other = worker.fits(&other);
     worker.hand(credential, NOW, call);
     let _ = worker.step(alloc, &mut core);
-    let begun = worker.fits(&core);
-    let begun_other = worker.fits(&other);
-    let idle = Worker::new(1);
-    let idle_there = idle.fits(&core);
+    let _ = worker.step(alloc, &mut other);
+    let _ = worker.step(alloc, &mut other);
+    let told = worker.take_answer();
     worker.end(&mut core);
-    idle.end(&mut core);
-    Ok([new, new_other, begun, begun_other, idle_there])
+    Ok(told)
 }
 
+// Its wish is told Outside there, and so the call is answered IO.
 #[test]
-fn a_worker_tells_which_core_it_fits(rt: HostRuntime) -> Result<(), Fail> {
+fn a_worker_with_another_core_is_answered_io(rt: HostRuntime) -> Result<(), Fail> {
     let alloc = rt.alloc();
     let mut disk = formatted(alloc)?;
-    let fitted = fitted(alloc, &mut disk)?;
-    assert_eq!(rt; fitted, [true, true, true, false, false]);
+    let told = told_by_another(alloc, &mut disk)?.ok_or("no answer")?;
+    let refused = Reply::GetAttr {
+        outcome: Err(Status::Io),
+    };
+    let is_refused = told.place.is_none() && is_reply(&told.verdict, &refused);
+    drop(told);
+    assert!(rt; is_refused);
     Ok(())
 }

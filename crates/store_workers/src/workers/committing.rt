@@ -11,7 +11,7 @@ use txn::{Change, Commit, Core, Seq, Tx};
 impl State {
     ghost use Rattle.model.specs.Calls.{is_answered_stable};
     ghost use Rattle.store_images.specs.Counts.{SameFrame};
-    ghost use Rattle.store_workers.specs.Worker.{GoesWith, IsHeld};
+    ghost use Rattle.store_workers.specs.Worker.{IsSound, IsHeld};
     ghost use Rattle.store_workers.specs.WorkerAnswers.{after_commit, committed, committing_of};
     ghost use Rattle.store_workers.specs.WorkerAnswers.{told_of, with_entry};
     ghost use Rattle.store_workers.specs.WorkerAnswers.{with_replies};
@@ -26,8 +26,8 @@ impl State {
         tx: Tx,
         done: Done,
     ) -> Step
-        requires { IsHeld self.old tx core.old }
-        ensures with { GoesWith self.new core.new }
+        requires { IsHeld self.old }
+        ensures sound { IsSound self.new }
         ensures frame { SameFrame core.old core.new }
         ensures step { EndsBy tx done (side self.old core.old) result (side self.new core.new) }
         ensures home { KeepsHome core.old core.new }

@@ -1,6 +1,5 @@
 //! What a worker is made of.
-ghost use Rattle.std.specs.Prelude.{◌≡◌, None, []};
-ghost use Rattle.txn.specs.Out.{listed};
+ghost use Rattle.std.specs.Prelude.{◌≡◌, None, [], option_to_list};
 ghost use Rattle.store_images.specs.Counts.{SameFrame};
 ghost use Rattle.store_workers.specs.Ended.{GivesFetchBack, GivesTransactionBack};
 ghost use Rattle.store_images.specs.Fetches.{FetchesOnly, KeepsFetches};
@@ -68,8 +67,7 @@ pub(crate) struct Begun {
 }
 
 impl Begun {
-    ghost use Rattle.std.specs.Prelude.{◌≡◌, Some, None, true, is_some, []};
-    ghost use Rattle.txn.specs.Out.{listed};
+    ghost use Rattle.std.specs.Prelude.{◌≡◌, Some, None, true, is_some, [], option_to_list};
     ghost use Rattle.store_images.specs.Counts.{SameFrame};
     ghost use Rattle.store_workers.specs.Ended.{GivesAllBack};
     ghost use Rattle.store_images.specs.Fetches.{FetchesOnly};
@@ -100,9 +98,8 @@ impl Begun {
 
     // Gives the fetch back, and ends the transaction.
     pub(crate) fn end(self, core: &mut Core<Done>)
-        requires { core.old.out ≡ listed self.tx }
         ensures frame { SameFrame core.old core.new }
-        ensures ended { core.new.out ≡ [] }
+        ensures ended { core.old.out ≡ option_to_list self.tx → core.new.out ≡ [] }
         ensures fetches { FetchesOnly self.io core.old → FetchesOnly None core.new }
         ensures none { self.tx ≡ None → self.io ≡ None → core.new ≡ core.old }
         ensures gives_back { GivesAllBack self core.old core.new }
@@ -116,7 +113,6 @@ impl Begun {
 // Gives a fetch back that isn't made any more.
 fn give_up(io: Option<FetchIo>, core: &mut Core<Done>)
     ensures frame { SameFrame core.old core.new }
-    ensures out { core.new.out ≡ core.old.out }
     ensures fetches { FetchesOnly io core.old → FetchesOnly None core.new }
     ensures none { io ≡ None → core.new ≡ core.old }
     ensures gives { GivesFetchBack io core.old core.new }
@@ -126,11 +122,10 @@ fn give_up(io: Option<FetchIo>, core: &mut Core<Done>)
     }
 }
 
-// Ends the transaction that is out.
+// Ends the transaction.
 fn leave(tx: Option<Tx>, core: &mut Core<Done>)
-    requires { core.old.out ≡ listed tx }
     ensures frame { SameFrame core.old core.new }
-    ensures ended { core.new.out ≡ [] }
+    ensures ended { core.old.out ≡ option_to_list tx → core.new.out ≡ [] }
     ensures fetches { KeepsFetches core.old core.new }
     ensures none { tx ≡ None → core.new ≡ core.old }
     ensures leaves { GivesTransactionBack tx core.old core.new }

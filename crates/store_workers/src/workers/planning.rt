@@ -16,7 +16,7 @@ impl State {
     ghost use Rattle.store_images.specs.Counts.{SameFrame};
     ghost use Rattle.store_workers.specs.Phases.{is_planned};
     ghost use Rattle.store_workers.specs.Seen.{seen_in, with_claim, with_object};
-    ghost use Rattle.store_workers.specs.Worker.{GoesWith, HasBytes, HasRoom, HasRoomFor, IsHeld};
+    ghost use Rattle.store_workers.specs.Worker.{IsSound, HasBytes, HasRoom, HasRoomFor, IsHeld};
     ghost use Rattle.store_workers.specs.WorkerAnswers.{asked_wanted, begun_claimed, begun_wanted};
     ghost use Rattle.store_workers.specs.WorkerAnswers.{claim_wish, phase_claimed};
     ghost use Rattle.store_workers.specs.WorkerAnswers.{phase_wanted, seen_claimed, seen_wanted, wish_of};
@@ -27,9 +27,9 @@ impl State {
 
     // Makes the step that the plan asks for. Where the plan finds no memory the transaction is ended.
     pub(super) fn go_by_plan(&mut self, alloc: Global, core: &mut Core<Done>) -> Step
-        requires with { GoesWith self.old core.old }
+        requires sound { IsSound self.old }
         requires phase { self.old.phase ≡ Planning }
-        ensures with { GoesWith self.new core.new }
+        ensures sound { IsSound self.new }
         ensures frame { SameFrame core.old core.new }
         ensures step { GoesByPlan (side self.old core.old) result (side self.new core.new) }
         ensures home { KeepsHome core.old core.new }
@@ -64,8 +64,8 @@ impl State {
 
     // Ends the transaction for want of memory.
     pub(super) fn lack(&mut self, core: &mut Core<Done>, tx: Tx) -> Step
-        requires { IsHeld self.old tx core.old }
-        ensures with { GoesWith self.new core.new }
+        requires { IsHeld self.old }
+        ensures sound { IsSound self.new }
         ensures frame { SameFrame core.old core.new }
         ensures step { HasLacked tx (side self.old core.old) result (side self.new core.new) }
         ensures home { KeepsHome core.old core.new }
@@ -78,9 +78,9 @@ impl State {
 
     // Reads an object in the transaction.
     fn want(&mut self, alloc: Global, core: &mut Core<Done>, tx: Tx, addr: Addr) -> Step
-        requires held { IsHeld self.old tx core.old }
+        requires held { IsHeld self.old }
         requires room { HasRoom self.old }
-        ensures with { GoesWith self.new core.new }
+        ensures sound { IsSound self.new }
         ensures frame { SameFrame core.old core.new }
         ensures step { HasWanted tx addr (side self.old core.old) result (side self.new core.new) }
         ensures home { KeepsHome core.old core.new }
@@ -155,9 +155,9 @@ impl State {
 
     // Claims a block that is written whole.
     fn claim(&mut self, core: &mut Core<Done>, tx: Tx, block: BlockNo) -> Step
-        requires held { IsHeld self.old tx core.old }
+        requires held { IsHeld self.old }
         requires room { HasRoom self.old }
-        ensures with { GoesWith self.new core.new }
+        ensures sound { IsSound self.new }
         ensures frame { SameFrame core.old core.new }
         ensures step { HasClaimed tx block (side self.old core.old) result (side self.new core.new) }
         ensures home { KeepsHome core.old core.new }

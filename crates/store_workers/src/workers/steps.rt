@@ -18,7 +18,7 @@ impl State {
     ghost use Rattle.store_workers.specs.declared.workers.parts.Phase.TheVariants.{Read, Refused, Again};
     ghost use Rattle.store_workers.specs.declared.workers.parts.Phase.TheVariants.{Waiting};
     ghost use Rattle.store_images.specs.Counts.{SameFrame};
-    ghost use Rattle.store_workers.specs.Worker.{GoesWith, with_call};
+    ghost use Rattle.store_workers.specs.Worker.{IsSound, with_call};
     ghost use Rattle.store_workers.specs.WorkerAnswers.{with_answer};
     ghost use Rattle.store_workers.specs.WorkerReads.{HasReadBlock};
     ghost use Rattle.store_workers.specs.WorkerSteps.{Begins, BeginsAgain, GivesBack, GoesOn};
@@ -27,8 +27,8 @@ impl State {
 
     // Makes the next step.
     pub(super) fn step(&mut self, alloc: Global, core: &mut Core<Done>) -> Option<Step>
-        requires { GoesWith self.old core.old }
-        ensures with { GoesWith self.new core.new }
+        requires { IsSound self.old }
+        ensures sound { IsSound self.new }
         ensures frame { SameFrame core.old core.new }
         ensures step { GoesOn self.old.phase (side self.old core.old) result (side self.new core.new) }
         ensures home { KeepsHomeOf (side self.old core.old) (side self.new core.new) }
@@ -72,9 +72,9 @@ impl State {
 
     // Begins the transaction of a call, or answers a call that needs none.
     fn begin(&mut self, alloc: Global, core: &mut Core<Done>) -> Step
-        requires with { GoesWith self.old core.old }
+        requires sound { IsSound self.old }
         requires phase { self.old.phase ≡ Called }
-        ensures with { GoesWith self.new core.new }
+        ensures sound { IsSound self.new }
         ensures frame { SameFrame core.old core.new }
         ensures step { Begins (side self.old core.old) result (side self.new core.new) }
         ensures home { KeepsHome core.old core.new }
@@ -92,6 +92,7 @@ impl State {
             Ok(tx) => {
                 let number = tx.number();
                 job.ctx.transaction = number;
+                core.counted();
                 let (blocks, inodes) = core.counts();
                 let geometry = Geometry {
                     version: FormatVersion::First,
@@ -113,9 +114,9 @@ impl State {
 
     // Gives the core the block that was read. Where the read failed the transaction has to be ended.
     fn give_back(&mut self, core: &mut Core<Done>, ok: bool) -> Step
-        requires with { GoesWith self.old core.old }
+        requires sound { IsSound self.old }
         requires phase { self.old.phase ≡ Read ok }
-        ensures with { GoesWith self.new core.new }
+        ensures sound { IsSound self.new }
         ensures frame { SameFrame core.old core.new }
         ensures step { GivesBack ok (side self.old core.old) result (side self.new core.new) }
         ensures home { KeepsHomeOf (side self.old core.old) (side self.new core.new) }
@@ -137,9 +138,9 @@ impl State {
 
     // Ends the transaction, and answers why.
     fn refuse(&mut self, core: &mut Core<Done>, why: Cause) -> Step
-        requires with { GoesWith self.old core.old }
+        requires sound { IsSound self.old }
         requires phase { self.old.phase ≡ Refused why }
-        ensures with { GoesWith self.new core.new }
+        ensures sound { IsSound self.new }
         ensures frame { SameFrame core.old core.new }
         ensures step { Refuses why (side self.old core.old) result (side self.new core.new) }
         ensures home { KeepsHome core.old core.new }
@@ -157,9 +158,9 @@ impl State {
 
     // Ends the transaction of a call that begins again.
     fn begin_again(&mut self, core: &mut Core<Done>) -> Step
-        requires with { GoesWith self.old core.old }
+        requires sound { IsSound self.old }
         requires phase { self.old.phase ≡ Again }
-        ensures with { GoesWith self.new core.new }
+        ensures sound { IsSound self.new }
         ensures frame { SameFrame core.old core.new }
         ensures step { BeginsAgain (side self.old core.old) result (side self.new core.new) }
         ensures home { KeepsHome core.old core.new }
@@ -173,9 +174,9 @@ impl State {
 
     // Answers a committed procedure once its place is settled, or once it can't be any more.
     fn wait(&mut self, core: &Core<Done>, place: Seq) -> Step
-        requires with { GoesWith self.old core.now }
+        requires sound { IsSound self.old }
         requires phase { self.old.phase ≡ Waiting place }
-        ensures with { GoesWith self.new core.now }
+        ensures sound { IsSound self.new }
         ensures step { Waits place (side self.old core.now) result (side self.new core.now) }
     {
         let settled = core.stable(place).is_some();

@@ -49,7 +49,7 @@ pub enum Ended {
     NotBegun,
 }
 
-// A core and its device. What is asked of them has a transaction of its own, if none is out.
+// A core and its device. What is asked of them has a transaction of its own.
 #[derive(Drop)]
 pub struct Bench<D: CrashDisk> {
     pub alloc: Global,
@@ -122,9 +122,6 @@ impl<D: CrashDisk> Bench<D> {
 
     // Why no transaction begins.
     pub fn refusal(&mut self) -> Option<BeginFault> {
-        if self.core.transaction_out().is_some() {
-            return None;
-        }
         match self.core.begin() {
             Ok(tx) => {
                 self.core.abort(tx);
@@ -135,9 +132,7 @@ impl<D: CrashDisk> Bench<D> {
     }
 
     // Wants an object behind these steps, which has to be fetched, and hands the fetch out.
-    pub fn fetch_out(&mut self, steps: &[Step], addr: Addr) -> Option<(Tx, FetchIo)>
-        ensures { IfSome result (λ begun. self.new.core.out ≡ begun.0 ∷ []) }
-    {
+    pub fn fetch_out(&mut self, steps: &[Step], addr: Addr) -> Option<(Tx, FetchIo)> {
         let tx = self.begin()?;
         let (tx, _) = self.take_all(tx, steps, &[]);
         let tx = match self.core.want(self.alloc, tx, addr) {
@@ -150,9 +145,7 @@ impl<D: CrashDisk> Bench<D> {
     }
 
     // Makes the calls of the logger until it has none, and tells how many there were.
-    pub fn log_all(&mut self) -> u16
-        ensures { self.new.core.out ≡ self.old.core.out }
-    {
+    pub fn log_all(&mut self) -> u16 {
         let mut calls: u16 = 0;
         'calls: for _ in 0..600u16 {
             let Some(io) = self.core.log_next() else {
@@ -192,21 +185,16 @@ impl<D: CrashDisk> Bench<D> {
 
 // The steps of a transaction.
 impl<D: CrashDisk> Bench<D> {
-    pub fn begin(&mut self) -> Option<Tx>
-        ensures { IfSome result (λ tx. self.new.core.out ≡ tx ∷ []) }
-    {
-        if self.core.transaction_out().is_some() {
-            return None;
+    // Begins a transaction, once more where it was refused memory.
+    pub fn begin(&mut self) -> Option<Tx> {
+        match self.core.begin() {
+            Err(BeginFault::NoMemory) => self.core.begin().ok(),
+            begun => begun.ok(),
         }
-        self.core.begin().ok()
     }
 
     // Takes these steps, and tells whether they come to this, as far as it is told.
-    pub fn take_all(&mut self, tx: Tx, steps: &[Step], wanted: &[Seen]) -> (Tx, bool)
-        requires { self.old.core.out ≡ tx ∷ [] }
-        ensures back { result.0 ≡ tx }
-        ensures out { self.new.core.out ≡ self.old.core.out }
-    {
+    pub fn take_all(&mut self, tx: Tx, steps: &[Step], wanted: &[Seen]) -> (Tx, bool) {
         let mut tx = tx;
         let mut are_seen = true;
         'steps: for (place, step) in steps.iter().enumerate() {
@@ -217,11 +205,7 @@ impl<D: CrashDisk> Bench<D> {
         (tx, are_seen)
     }
 
-    fn take(&mut self, tx: Tx, step: Step) -> (Tx, Seen)
-        requires { self.old.core.out ≡ tx ∷ [] }
-        ensures back { result.0 ≡ tx }
-        ensures out { self.new.core.out ≡ self.old.core.out }
-    {
+    fn take(&mut self, tx: Tx, step: Step) -> (Tx, Seen) {
         match step {
             Step::Want(addr) => self.want(tx, addr),
             Step::Read(addr) => self.read(tx, addr),
@@ -233,11 +217,7 @@ impl<D: CrashDisk> Bench<D> {
         }
     }
 
-    fn read(&mut self, tx: Tx, addr: Addr) -> (Tx, Seen)
-        requires { self.old.core.out ≡ tx ∷ [] }
-        ensures back { result.0 ≡ tx }
-        ensures out { self.new.core.out ≡ self.old.core.out }
-    {
+    fn read(&mut self, tx: Tx, addr: Addr) -> (Tx, Seen) {
         let (tx, seen) = self.want(tx, addr);
         if seen == Seen::Fetched {
             return self.want(tx, addr);
@@ -245,11 +225,7 @@ impl<D: CrashDisk> Bench<D> {
         (tx, seen)
     }
 
-    pub fn want(&mut self, tx: Tx, addr: Addr) -> (Tx, Seen)
-        requires { self.old.core.out ≡ tx ∷ [] }
-        ensures back { result.0 ≡ tx }
-        ensures out { self.new.core.out ≡ self.old.core.out }
-    {
+    pub fn want(&mut self, tx: Tx, addr: Addr) -> (Tx, Seen) {
         let (tx, seen) = self.want_once(tx, addr);
         if seen == Seen::NoMemory {
             return self.want_once(tx, addr);
@@ -257,11 +233,7 @@ impl<D: CrashDisk> Bench<D> {
         (tx, seen)
     }
 
-    fn want_once(&mut self, tx: Tx, addr: Addr) -> (Tx, Seen)
-        requires { self.old.core.out ≡ tx ∷ [] }
-        ensures back { result.0 ≡ tx }
-        ensures out { self.new.core.out ≡ self.old.core.out }
-    {
+    fn want_once(&mut self, tx: Tx, addr: Addr) -> (Tx, Seen) {
         match self.core.want(self.alloc, tx, addr) {
             Want::Held(tx, bytes) => (tx, Seen::Bytes(first(&bytes))),
             Want::Busy(tx) => (tx, Seen::Busy),
@@ -274,7 +246,6 @@ impl<D: CrashDisk> Bench<D> {
 
     fn fetch(&mut self, io: FetchIo) -> Seen
         requires { io.block.0 < self.old.core.log.blocks }
-        ensures { self.new.core.out ≡ self.old.core.out }
     {
         let mut io = io;
         if io.perform(&mut self.disk).is_ok() {
@@ -286,11 +257,7 @@ impl<D: CrashDisk> Bench<D> {
         }
     }
 
-    fn claim(&mut self, tx: Tx, block: BlockNo) -> (Tx, Seen)
-        requires { self.old.core.out ≡ tx ∷ [] }
-        ensures back { result.0 ≡ tx }
-        ensures out { self.new.core.out ≡ self.old.core.out }
-    {
+    fn claim(&mut self, tx: Tx, block: BlockNo) -> (Tx, Seen) {
         match self.core.claim(tx, block) {
             Claim::Held(tx) => (tx, Seen::Claimed),
             Claim::Busy(tx) => (tx, Seen::Busy),

@@ -36,6 +36,9 @@ impl Change for Toy {
     // It is planned for blocks alone.
     ghost is_plan = { λ blocks inodes read written. blocks ≡ BLOCKS };
 
+    // It is made to any image.
+    ghost are_counts = { λ blocks inodes. Unit {0} };
+
     fn read(&self) -> &[Object] {
         &self.read
     }

@@ -11,7 +11,7 @@ use Rattle.store.specs.Calling.{HasStepped, HasWaited, IsCalling}
 use Rattle.store.specs.Driving.{HasGoneOn, steps_left, waits_for_log}
 use Rattle.store_images.specs.Opening.{store_of}
 use Rattle.store_workers.specs.Telling.{told}
-use Rattle.store_workers.specs.Worker.{GoesWith, IsCoreOf}
+use Rattle.store_workers.specs.Worker.{GoesWith}
 use Rattle.store_workers.specs.WorkerSteps.{side}
 use Rattle.store_workers.specs.declared.workers.Worker.{Worker}
 use Rattle.store_workers.specs.declared.workers.parts.State.{State}
@@ -29,12 +29,12 @@ returns-then-is_full-clause-alone g c =
       | then-waits_for_log w ↦
           after_settling (waits_for_log made) mid.core core w.settle.new.store.core w.settle.result
           (sym w.if-waits_for_log.ensures) (search rules) w.settle.ensures.counts w.settle.ensures.numbers
-          w.settle.ensures.fetches w.settle.ensures.settled w.settle.ensures.broken
+          w.settle.ensures.out w.settle.ensures.fetches w.settle.ensures.settled w.settle.ensures.broken
       | else-waits_for_log w ↦
           after_none (waits_for_log made) mid.core core (sym w.if-waits_for_log.ensures) (search rules)
     ] in
     let r = round old mid made core c.args.worker.now.transaction c.args.worker.now.fetch c.lawful.ensures.tidy
-    c.requires.fits c.requires.alone c.requires.under_way c.step-made.ensures.step
+    c.requires.alone c.requires.under_way c.step-made.ensures.step
     c.step-made.ensures.stays log in
     full_alone old made mid core r (sym c.if-is_full.ensures) c.begin_again.new.self.state
     c.begin_again.ensures.planning
@@ -50,12 +50,12 @@ returns-then-is_full-clause-nearer g c =
       | then-waits_for_log w ↦
           after_settling (waits_for_log made) mid.core core w.settle.new.store.core w.settle.result
           (sym w.if-waits_for_log.ensures) (search rules) w.settle.ensures.counts w.settle.ensures.numbers
-          w.settle.ensures.fetches w.settle.ensures.settled w.settle.ensures.broken
+          w.settle.ensures.out w.settle.ensures.fetches w.settle.ensures.settled w.settle.ensures.broken
       | else-waits_for_log w ↦
           after_none (waits_for_log made) mid.core core (sym w.if-waits_for_log.ensures) (search rules)
     ] in
     let r = round old mid made core c.args.worker.now.transaction c.args.worker.now.fetch c.lawful.ensures.tidy
-    c.requires.fits c.requires.alone c.requires.under_way c.step-made.ensures.step
+    c.requires.alone c.requires.under_way c.step-made.ensures.step
     c.step-made.ensures.stays log in
     begins_again old.worker.phase old made mid refl r.came (sym c.if-is_full.ensures)
     c.begin_again.new.self.state core
@@ -73,19 +73,18 @@ returns-then-is_some-clause-alone g c =
       | then-waits_for_log w ↦
           after_settling (waits_for_log made) mid.core core w.settle.new.store.core w.settle.result
           (sym w.if-waits_for_log.ensures) (search rules) w.settle.ensures.counts w.settle.ensures.numbers
-          w.settle.ensures.fetches w.settle.ensures.settled w.settle.ensures.broken
+          w.settle.ensures.out w.settle.ensures.fetches w.settle.ensures.settled w.settle.ensures.broken
       | else-waits_for_log w ↦
           after_none (waits_for_log made) mid.core core (sym w.if-waits_for_log.ensures) (search rules)
     ] in
     let r = round old mid made core c.args.worker.now.transaction c.args.worker.now.fetch c.lawful.ensures.tidy
-    c.requires.fits c.requires.alone c.requires.under_way c.step-made.ensures.step
+    c.requires.alone c.requires.under_way c.step-made.ensures.step
     c.step-made.ensures.stays log in
     let some : is_some c.read.result ≡ true = search rules in
     let (step, has) = was_made c.read.result _ _ some c.read.ensures.step in
-    let fits : IsCoreOf c.read.new.self.state core = search rules in
     given_alone _ _ _ mid.worker c.read.new.self.state step core (side c.step.new.self.state c.step.new.core)
     c.step.result (c.read.ensures.due.0 some) has (goes_alone old made mid core r (sym c.if-is_full.ensures))
-    c.lawful-3.ensures.tidy fits c.read.new.self.transaction c.read.new.self.fetch c.step.ensures.step
+    c.lawful-3.ensures.tidy c.read.new.self.transaction c.read.new.self.fetch c.step.ensures.step
     c.step.ensures.stays
 
 pub returns-then-is_some-clause-nearer : goal.returns-then-is_some-clause-nearer
@@ -99,12 +98,12 @@ returns-then-is_some-clause-nearer g c =
       | then-waits_for_log w ↦
           after_settling (waits_for_log made) mid.core core w.settle.new.store.core w.settle.result
           (sym w.if-waits_for_log.ensures) (search rules) w.settle.ensures.counts w.settle.ensures.numbers
-          w.settle.ensures.fetches w.settle.ensures.settled w.settle.ensures.broken
+          w.settle.ensures.out w.settle.ensures.fetches w.settle.ensures.settled w.settle.ensures.broken
       | else-waits_for_log w ↦
           after_none (waits_for_log made) mid.core core (sym w.if-waits_for_log.ensures) (search rules)
     ] in
     let r = round old mid made core c.args.worker.now.transaction c.args.worker.now.fetch c.lawful.ensures.tidy
-    c.requires.fits c.requires.alone c.requires.under_way c.step-made.ensures.step
+    c.requires.alone c.requires.under_way c.step-made.ensures.step
     c.step-made.ensures.stays log in
     let some : is_some c.read.result ≡ true = search rules in
     let (step, has) = was_made c.read.result _ _ some c.read.ensures.step in
@@ -124,12 +123,12 @@ returns-else-is_some-clause-alone g c =
       | then-waits_for_log w ↦
           after_settling (waits_for_log made) mid.core core w.settle.new.store.core w.settle.result
           (sym w.if-waits_for_log.ensures) (search rules) w.settle.ensures.counts w.settle.ensures.numbers
-          w.settle.ensures.fetches w.settle.ensures.settled w.settle.ensures.broken
+          w.settle.ensures.out w.settle.ensures.fetches w.settle.ensures.settled w.settle.ensures.broken
       | else-waits_for_log w ↦
           after_none (waits_for_log made) mid.core core (sym w.if-waits_for_log.ensures) (search rules)
     ] in
     let r = round old mid made core c.args.worker.now.transaction c.args.worker.now.fetch c.lawful.ensures.tidy
-    c.requires.fits c.requires.alone c.requires.under_way c.step-made.ensures.step
+    c.requires.alone c.requires.under_way c.step-made.ensures.step
     c.step-made.ensures.stays log in
     let none : is_some c.read.result ≡ false = search rules in
     let same = none_made c.read.result _ _ none c.read.ensures.step in
@@ -147,12 +146,12 @@ returns-else-is_some-clause-nearer g c =
       | then-waits_for_log w ↦
           after_settling (waits_for_log made) mid.core core w.settle.new.store.core w.settle.result
           (sym w.if-waits_for_log.ensures) (search rules) w.settle.ensures.counts w.settle.ensures.numbers
-          w.settle.ensures.fetches w.settle.ensures.settled w.settle.ensures.broken
+          w.settle.ensures.out w.settle.ensures.fetches w.settle.ensures.settled w.settle.ensures.broken
       | else-waits_for_log w ↦
           after_none (waits_for_log made) mid.core core (sym w.if-waits_for_log.ensures) (search rules)
     ] in
     let r = round old mid made core c.args.worker.now.transaction c.args.worker.now.fetch c.lawful.ensures.tidy
-    c.requires.fits c.requires.alone c.requires.under_way c.step-made.ensures.step
+    c.requires.alone c.requires.under_way c.step-made.ensures.step
     c.step-made.ensures.stays log in
     let none : is_some c.read.result ≡ false = search rules in
     let same = none_made c.read.result _ _ none c.read.ensures.step in
@@ -176,7 +175,7 @@ returns-then-is_full-clause-going g c = λ o keeps calling.
       | then-waits_for_log w ↦
           after_settling (waits_for_log made) mid.core core w.settle.new.store.core w.settle.result
           (sym w.if-waits_for_log.ensures) (search rules) w.settle.ensures.counts w.settle.ensures.numbers
-          w.settle.ensures.fetches w.settle.ensures.settled w.settle.ensures.broken
+          w.settle.ensures.out w.settle.ensures.fetches w.settle.ensures.settled w.settle.ensures.broken
       | else-waits_for_log w ↦
           after_none (waits_for_log made) mid.core core (sym w.if-waits_for_log.ensures) (search rules)
     ] in
@@ -206,15 +205,15 @@ returns-then-is_full-clause-going g c = λ o keeps calling.
       | else-waits_for_log w ↦ search rules
     ] in
     let r = round old mid made core c.args.worker.now.transaction c.args.worker.now.fetch c.lawful.ensures.tidy
-    c.requires.fits c.requires.alone c.requires.under_way c.step-made.ensures.step
+    c.requires.alone c.requires.under_way c.step-made.ensures.step
     c.step-made.ensures.stays log in
-    let fits = still_fits mid.worker mid.core core c.step-made.ensures.fits opens.core.out log.blocks
+    let fits = still_fits mid.worker mid.core core (c.step-made.ensures.fits c.requires.fits) opens.core.out log.blocks
     opens.core.inodes in
     let first = store_of d was.core was.boot in
     let stepped : HasStepped o (store_of d mid.core was.boot) mid.worker =
     c.a_step_keeps_a_call_going.ensures.goes o first old.worker mid made calling c.step-made.ensures.step
     c.step-made.ensures.home c.step-made.ensures.stays c.lawful-2.ensures.log c.lawful-2.ensures.tidy
-    (goes_told c.step-made.new.self mid.core c.step-made.ensures.fits) in
+    (goes_told c.step-made.new.self mid.core (c.step-made.ensures.fits c.requires.fits)) in
     let now = store_of (device disk) core was.boot in
     let settled : HasStepped o now mid.worker =
     c.a_settling_keeps_a_call_going.ensures o (store_of d mid.core was.boot) (device disk) core mid.worker
@@ -245,7 +244,7 @@ returns-then-is_some-clause-going g c = λ o keeps calling.
       | then-waits_for_log w ↦
           after_settling (waits_for_log made) mid.core core w.settle.new.store.core w.settle.result
           (sym w.if-waits_for_log.ensures) (search rules) w.settle.ensures.counts w.settle.ensures.numbers
-          w.settle.ensures.fetches w.settle.ensures.settled w.settle.ensures.broken
+          w.settle.ensures.out w.settle.ensures.fetches w.settle.ensures.settled w.settle.ensures.broken
       | else-waits_for_log w ↦
           after_none (waits_for_log made) mid.core core (sym w.if-waits_for_log.ensures) (search rules)
     ] in
@@ -275,15 +274,15 @@ returns-then-is_some-clause-going g c = λ o keeps calling.
       | else-waits_for_log w ↦ search rules
     ] in
     let r = round old mid made core c.args.worker.now.transaction c.args.worker.now.fetch c.lawful.ensures.tidy
-    c.requires.fits c.requires.alone c.requires.under_way c.step-made.ensures.step
+    c.requires.alone c.requires.under_way c.step-made.ensures.step
     c.step-made.ensures.stays log in
-    let fits = still_fits mid.worker mid.core core c.step-made.ensures.fits opens.core.out log.blocks
+    let fits = still_fits mid.worker mid.core core (c.step-made.ensures.fits c.requires.fits) opens.core.out log.blocks
     opens.core.inodes in
     let first = store_of d was.core was.boot in
     let stepped : HasStepped o (store_of d mid.core was.boot) mid.worker =
     c.a_step_keeps_a_call_going.ensures.goes o first old.worker mid made calling c.step-made.ensures.step
     c.step-made.ensures.home c.step-made.ensures.stays c.lawful-2.ensures.log c.lawful-2.ensures.tidy
-    (goes_told c.step-made.new.self mid.core c.step-made.ensures.fits) in
+    (goes_told c.step-made.new.self mid.core (c.step-made.ensures.fits c.requires.fits)) in
     let now = store_of (device disk) core was.boot in
     let settled : HasStepped o now mid.worker =
     c.a_settling_keeps_a_call_going.ensures o (store_of d mid.core was.boot) (device disk) core mid.worker
@@ -309,7 +308,7 @@ returns-then-is_some-clause-going g c = λ o keeps calling.
     (c.a_step_keeps_a_call_going.ensures.goes o (store_of after core was.boot) c.read.new.self.state
     (side c.step.new.self.state c.step.new.core) c.step.result was_read c.step.ensures.step c.step.ensures.home
     c.step.ensures.stays c.lawful-then-is_some.ensures.log c.lawful-then-is_some.ensures.tidy
-    (goes_told c.step.new.self c.step.new.core c.step.ensures.fits))
+    (goes_told c.step.new.self c.step.new.core (c.step.ensures.fits (c.read.ensures.fits core fits))))
 
 pub returns-else-is_some-clause-going : goal.returns-else-is_some-clause-going
 returns-else-is_some-clause-going g c = λ o keeps calling.
@@ -326,7 +325,7 @@ returns-else-is_some-clause-going g c = λ o keeps calling.
       | then-waits_for_log w ↦
           after_settling (waits_for_log made) mid.core core w.settle.new.store.core w.settle.result
           (sym w.if-waits_for_log.ensures) (search rules) w.settle.ensures.counts w.settle.ensures.numbers
-          w.settle.ensures.fetches w.settle.ensures.settled w.settle.ensures.broken
+          w.settle.ensures.out w.settle.ensures.fetches w.settle.ensures.settled w.settle.ensures.broken
       | else-waits_for_log w ↦
           after_none (waits_for_log made) mid.core core (sym w.if-waits_for_log.ensures) (search rules)
     ] in
@@ -356,15 +355,15 @@ returns-else-is_some-clause-going g c = λ o keeps calling.
       | else-waits_for_log w ↦ search rules
     ] in
     let r = round old mid made core c.args.worker.now.transaction c.args.worker.now.fetch c.lawful.ensures.tidy
-    c.requires.fits c.requires.alone c.requires.under_way c.step-made.ensures.step
+    c.requires.alone c.requires.under_way c.step-made.ensures.step
     c.step-made.ensures.stays log in
-    let fits = still_fits mid.worker mid.core core c.step-made.ensures.fits opens.core.out log.blocks
+    let fits = still_fits mid.worker mid.core core (c.step-made.ensures.fits c.requires.fits) opens.core.out log.blocks
     opens.core.inodes in
     let first = store_of d was.core was.boot in
     let stepped : HasStepped o (store_of d mid.core was.boot) mid.worker =
     c.a_step_keeps_a_call_going.ensures.goes o first old.worker mid made calling c.step-made.ensures.step
     c.step-made.ensures.home c.step-made.ensures.stays c.lawful-2.ensures.log c.lawful-2.ensures.tidy
-    (goes_told c.step-made.new.self mid.core c.step-made.ensures.fits) in
+    (goes_told c.step-made.new.self mid.core (c.step-made.ensures.fits c.requires.fits)) in
     let now = store_of (device disk) core was.boot in
     let settled : HasStepped o now mid.worker =
     c.a_settling_keeps_a_call_going.ensures o (store_of d mid.core was.boot) (device disk) core mid.worker

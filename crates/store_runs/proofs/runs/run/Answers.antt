@@ -37,10 +37,11 @@ events-init g c =
             position = opens.1;
             blocks = λ place. file_blocks opens.3 store.core;
           } in
+          let out : store.core.out ≡ [] = search rules in
           let with = goes_with made.worker store.core
           (subst (λ s. Fits made.worker s.core) same c.new-running.ensures.well.fits) in
           let going = first_going b o opens.3 store.core made.worker.state store.boot made.calls
-          c.new-run.result begun.1
+          c.new-run.result begun.1 out
           opens.4.present c.new-running.ensures.worker opens.0 c.new-running.ensures.calls
           (c.new-run.ensures.boot ∙ c.boot.ensures) c.new-run.ensures.empty c.new-running.ensures.stands with in
           let none = c.new-running.ensures.clock in

@@ -4,7 +4,6 @@ use Rattle.wal_law.specs.Log.{installed_place}
 use Rattle.txn_law.specs.Commit.{footprint}
 use Rattle.txn_law.specs.Core.{CoreState, past}
 use Rattle.txn_law.specs.Window.{Footprint}
-use Rattle.txn.specs.Out.{listed}
 use Rattle.txn.proofs.state.State.forget.Goals as goal
 
 pub returns : goal.returns
@@ -20,7 +19,7 @@ returns g c =
       log = core.log;
       inodes = core.inodes;
       begun = core.begun;
-      out = listed core.out;
+      out = core.out.items;
       holds = core.holds.items;
       present = core.present.items;
       records = records;

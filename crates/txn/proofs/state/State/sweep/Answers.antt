@@ -3,7 +3,6 @@ use Rattle.txn.proofs.Mapped.{swept_of_map}
 use Rattle.txn_law.specs.Commit.{footprint}
 use Rattle.txn_law.specs.Core.{CoreState}
 use Rattle.txn_law.specs.Records.{swept}
-use Rattle.txn.specs.Out.{listed}
 use Rattle.txn.proofs.state.State.sweep.Goals as goal
 
 pub returns : goal.returns
@@ -20,7 +19,7 @@ returns g c =
       log = core.log;
       inodes = core.inodes;
       begun = core.begun;
-      out = listed core.out;
+      out = core.out.items;
       holds = core.holds.items;
       present = present;
       records = map (λ kept. footprint kept.place.0 (g.C.Change.planned kept.change)) core.records.items;

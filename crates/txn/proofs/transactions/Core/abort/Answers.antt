@@ -6,12 +6,18 @@ use Rattle.txn_law.proofs.CoreLaws.{home_end, lawful_end}
 use Rattle.txn_law.proofs.HeldReads.{reads_end}
 use Rattle.txn_law.specs.Leaves.{Leaves, taken_by, is_fetching, in_memory, but_by}
 use Rattle.txn_law.proofs.Leaves.{leaves_end}
+use Rattle.txn.proofs.Answered.{log_counts}
+use Rattle.std.proofs.Common.{ap}
 use Rattle.txn.proofs.transactions.Core.abort.Goals as goal
 
 pub invariant_of-self : goal.invariant_of-self
-invariant_of-self g c =
-    subst (λ (core : CoreState). IsLawfulCore g.C.Change.is_plan core) (sym c.abort.ensures)
-    (lawful_end g.C.Change.is_plan c.self.inside.state c.args.tx c.self.invariant)
+invariant_of-self g c = (
+  subst (λ (core : CoreState). IsLawfulCore g.C.Change.is_plan core) (sym c.abort.ensures)
+      (lawful_end g.C.Change.is_plan c.self.inside.state c.args.tx c.self.invariant.0),
+  log_counts g.C.Change.are_counts c.self.inside.state c.abort.new.self
+      (ap (λ (core : CoreState). core.log.blocks) c.abort.ensures)
+      (ap (λ (core : CoreState). core.inodes) c.abort.ensures) c.self.invariant.1,
+)
 
 pub returns-clause-keeps : goal.returns-clause-keeps
 returns-clause-keeps g c =
@@ -31,4 +37,4 @@ returns-clause-leaves g c =
     (in_memory old)) c.self.view_is
     (subst (λ (core : CoreState). Leaves core (but_by c.args.tx (taken_by c.self.inside.state))
     (is_fetching c.self.inside.state) (in_memory c.self.inside.state)) (sym c.abort.ensures)
-    (leaves_end c.self.inside.state c.args.tx c.self.invariant.tidy))
+    (leaves_end c.self.inside.state c.args.tx c.self.invariant.0.tidy))

@@ -6,12 +6,18 @@ use Rattle.txn_law.proofs.CoreLaws.{home_failed, lawful_failed}
 use Rattle.txn_law.proofs.HeldReads.{reads_failed}
 use Rattle.txn_law.specs.Leaves.{Leaves, taken_by, is_fetching, in_memory, without_fetch}
 use Rattle.txn_law.proofs.Leaves.{leaves_failed}
+use Rattle.txn.proofs.Answered.{log_counts}
+use Rattle.std.proofs.Common.{ap}
 use Rattle.txn.proofs.transactions.Core.fetch_failed.Goals as goal
 
 pub invariant_of-self : goal.invariant_of-self
-invariant_of-self g c =
-    subst (λ (core : CoreState). IsLawfulCore g.C.Change.is_plan core) (sym c.fetch_failed.ensures)
-    (lawful_failed g.C.Change.is_plan c.self.inside.state c.args.io.block c.self.invariant)
+invariant_of-self g c = (
+  subst (λ (core : CoreState). IsLawfulCore g.C.Change.is_plan core) (sym c.fetch_failed.ensures)
+      (lawful_failed g.C.Change.is_plan c.self.inside.state c.args.io.block c.self.invariant.0),
+  log_counts g.C.Change.are_counts c.self.inside.state c.fetch_failed.new.self
+      (ap (λ (core : CoreState). core.log.blocks) c.fetch_failed.ensures)
+      (ap (λ (core : CoreState). core.inodes) c.fetch_failed.ensures) c.self.invariant.1,
+)
 
 pub returns-clause-keeps : goal.returns-clause-keeps
 returns-clause-keeps g c =
@@ -31,4 +37,4 @@ returns-clause-leaves g c =
     (without_fetch c.args.io.block (is_fetching old)) (in_memory old)) c.self.view_is
     (subst (λ (core : CoreState). Leaves core (taken_by c.self.inside.state)
     (without_fetch c.args.io.block (is_fetching c.self.inside.state)) (in_memory c.self.inside.state))
-    (sym c.fetch_failed.ensures) (leaves_failed c.self.inside.state c.args.io.block c.self.invariant.tidy))
+    (sym c.fetch_failed.ensures) (leaves_failed c.self.inside.state c.args.io.block c.self.invariant.0.tidy))

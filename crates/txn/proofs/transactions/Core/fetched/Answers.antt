@@ -13,13 +13,19 @@ use Rattle.txn_law.specs.HomeRead.{IsReadable, HasContents}
 use Rattle.txn_law.proofs.HeldReads.{reads_fetched}
 use Rattle.txn_law.specs.Leaves.{HasFetched}
 use Rattle.txn_law.proofs.Leaves.{leaves_fetched}
+use Rattle.txn.proofs.Answered.{log_counts}
+use Rattle.std.proofs.Common.{ap}
 use Rattle.txn.proofs.transactions.Core.fetched.Goals as goal
 
 pub invariant_of-self : goal.invariant_of-self
-invariant_of-self g c =
-    subst (λ (core : CoreState). IsLawfulCore g.C.Change.is_plan core) (sym c.fetched.ensures)
-    (lawful_fetched g.C.Change.is_plan c.self.inside.state c.args.io.block c.args.io.content c.whole.ensures
-    c.self.invariant)
+invariant_of-self g c = (
+  subst (λ (core : CoreState). IsLawfulCore g.C.Change.is_plan core) (sym c.fetched.ensures)
+      (lawful_fetched g.C.Change.is_plan c.self.inside.state c.args.io.block c.args.io.content c.whole.ensures
+      c.self.invariant.0),
+  log_counts g.C.Change.are_counts c.self.inside.state c.fetched.new.self
+      (ap (λ (core : CoreState). core.log.blocks) c.fetched.ensures)
+      (ap (λ (core : CoreState). core.inodes) c.fetched.ensures) c.self.invariant.1,
+)
 
 pub returns-clause-keeps : goal.returns-clause-keeps
 returns-clause-keeps g c =
@@ -27,7 +33,7 @@ returns-clause-keeps g c =
     → c.args.io.content ≡ base c.args.io.block.0) → IsHomeOf base old → IsHomeOf base c.fetched.new.self)
     c.self.view_is
     (λ base brought h. subst (λ (core : CoreState). IsHomeOf base core) (sym c.fetched.ensures)
-    (fetched_home base c.self.inside.state c.args.io.block c.args.io.content c.self.invariant.tidy brought h))
+    (fetched_home base c.self.inside.state c.args.io.block c.args.io.content c.self.invariant.0.tidy brought h))
 
 pub returns-clause-stays : goal.returns-clause-stays
 returns-clause-stays g c = λ other.
@@ -41,7 +47,7 @@ returns-clause-leaves g c =
     c.self.view_is
     (subst (λ (core : CoreState). HasFetched c.self.inside.state c.args.io.block c.args.io.content core)
     (sym c.fetched.ensures)
-    (leaves_fetched c.self.inside.state c.args.io.block c.args.io.content c.self.invariant.tidy))
+    (leaves_fetched c.self.inside.state c.args.io.block c.args.io.content c.self.invariant.0.tidy))
 
 pub returns-clause-brings : goal.returns-clause-brings
 returns-clause-brings g c =
@@ -50,5 +56,5 @@ returns-clause-brings g c =
     → c.args.io.content ≡ newest_content (current d c.args.io.block.0) → IsPending old c.args.io.block
     → c.args.io.content ≡ base c.args.io.block.0) c.self.view_is
     (λ d base logging installing agrees readable contents same waits. same
-    ∙ pending_is_home d base c.self.inside.state logging installing c.args.io.block c.self.invariant.tidy agrees
+    ∙ pending_is_home d base c.self.inside.state logging installing c.args.io.block c.self.invariant.0.tidy agrees
     readable contents waits)

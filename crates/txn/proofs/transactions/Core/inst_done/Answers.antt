@@ -12,15 +12,19 @@ use Rattle.txn_law.proofs.CoreLaws.{home_inst_done, lawful_inst_done}
 use Rattle.txn_law.proofs.HeldReads.{reads_installed}
 use Rattle.txn_law.specs.Leaves.{Leaves, taken_by, is_fetching, in_memory}
 use Rattle.txn_law.proofs.Leaves.{leaves_installed}
+use Rattle.txn.proofs.Answered.{log_counts}
 use Rattle.txn.proofs.transactions.Core.inst_done.Goals as goal
 
 pub invariant_of-self : goal.invariant_of-self
-invariant_of-self g c =
-    let old : CoreState = c.self.inside.state in
-    subst (λ (core : CoreState). IsLawfulCore g.C.Change.is_plan core)
-    (sym (c.inst_done.ensures.others ∙ ap (λ (log : Log). installed old log) c.inst_done.ensures.log))
-    (lawful_inst_done g.C.Change.is_plan old (is_inst_out old.log c.args.io) c.args.ok
-    (subst IsLawful c.inst_done.ensures.log c.lawful.ensures) c.self.invariant)
+invariant_of-self g c = (
+  let old : CoreState = c.self.inside.state in
+      subst (λ (core : CoreState). IsLawfulCore g.C.Change.is_plan core)
+      (sym (c.inst_done.ensures.others ∙ ap (λ (log : Log). installed old log) c.inst_done.ensures.log))
+      (lawful_inst_done g.C.Change.is_plan old (is_inst_out old.log c.args.io) c.args.ok
+      (subst IsLawful c.inst_done.ensures.log c.lawful.ensures) c.self.invariant.0),
+  log_counts g.C.Change.are_counts c.self.inside.state c.inst_done.new.self c.inst_done.ensures.blocks
+      (ap (λ (core : CoreState). core.inodes) c.inst_done.ensures.others) c.self.invariant.1,
+)
 
 pub returns-clause-law : goal.returns-clause-law
 returns-clause-law g c =
@@ -37,8 +41,8 @@ returns-clause-keeps g c =
     (λ (core : CoreState). IsHomeOf (if is_inst_out old.log c.args.io then home_after base old.log
     c.args.ok else base)
     core) (sym (c.inst_done.ensures.others ∙ ap (λ (log : Log). installed old log) c.inst_done.ensures.log))
-    (home_inst_done base old (is_inst_out old.log c.args.io) c.args.ok c.self.invariant.log
-    c.self.invariant.tidy h))
+    (home_inst_done base old (is_inst_out old.log c.args.io) c.args.ok c.self.invariant.0.log
+    c.self.invariant.0.tidy h))
 
 pub returns-clause-stays : goal.returns-clause-stays
 returns-clause-stays g c = λ other.
@@ -52,4 +56,4 @@ returns-clause-leaves g c =
     c.self.view_is
     (subst (λ (core : CoreState). Leaves core (taken_by c.self.inside.state) (is_fetching c.self.inside.state)
     (in_memory c.self.inside.state)) (sym c.inst_done.ensures.others)
-    (leaves_installed c.self.inside.state c.inst_done.new.self.log c.self.invariant.tidy))
+    (leaves_installed c.self.inside.state c.inst_done.new.self.log c.self.invariant.0.tidy))

@@ -7,14 +7,20 @@ use Rattle.wal_law.specs.Installer.{with_inst_out}
 use Rattle.txn_law.proofs.CoreLaws.{home_inst_out, lawful_inst_out}
 use Rattle.txn.proofs.Answered.{next_home, next_law}
 use Rattle.txn.proofs.Answered.{next_reads}
+use Rattle.txn.proofs.Answered.{next_counts}
+use Rattle.txn_law.proofs.CoreLaws.{out_blocks}
 use Rattle.txn.proofs.transactions.Core.inst_next.Goals as goal
 
 pub invariant_of-self : goal.invariant_of-self
-invariant_of-self g c =
-    next_law c.self.inside.state c.inst_next-io.new.self (with_inst_out c.self.inside.state.log)
-    g.C.Change.is_plan c.inst_next-io.result
-    c.inst_next-io.ensures.some c.inst_next-io.ensures.none c.lawful.ensures
-    (λ lawful. lawful_inst_out g.C.Change.is_plan c.self.inside.state lawful c.self.invariant) c.self.invariant
+invariant_of-self g c = (
+  next_law c.self.inside.state c.inst_next-io.new.self (with_inst_out c.self.inside.state.log)
+      g.C.Change.is_plan c.inst_next-io.result
+      c.inst_next-io.ensures.some c.inst_next-io.ensures.none c.lawful.ensures
+      (λ lawful. lawful_inst_out g.C.Change.is_plan c.self.inside.state lawful c.self.invariant.0) c.self.invariant.0,
+  next_counts g.C.Change.are_counts c.inst_next-io.result c.self.inside.state c.inst_next-io.new.self
+      (with_inst_out c.self.inside.state.log) c.inst_next-io.ensures.some c.inst_next-io.ensures.none
+      (out_blocks c.self.inside.state.log) c.self.invariant.1,
+)
 
 pub returns-clause-law : goal.returns-clause-law
 returns-clause-law g c =
@@ -28,7 +34,7 @@ returns-clause-keeps g c =
     (next_home c.self.inside.state c.inst_next-io.new.self (with_inst_out c.self.inside.state.log)
     c.inst_next-io.result
     c.inst_next-io.ensures.some c.inst_next-io.ensures.none
-    (home_inst_out c.self.inside.state c.self.invariant.log))
+    (home_inst_out c.self.inside.state c.self.invariant.0.log))
 
 pub returns-clause-stays : goal.returns-clause-stays
 returns-clause-stays g c = λ other.

@@ -7,14 +7,20 @@ use Rattle.wal_law.specs.Logger.{with_log_out}
 use Rattle.txn_law.proofs.CoreLaws.{home_log_out, lawful_log_out}
 use Rattle.txn.proofs.Answered.{next_home, next_law}
 use Rattle.txn.proofs.Answered.{next_reads}
+use Rattle.txn.proofs.Answered.{next_counts}
+use Rattle.std.proofs.Common.{refl}
 use Rattle.txn.proofs.transactions.Core.log_next.Goals as goal
 
 pub invariant_of-self : goal.invariant_of-self
-invariant_of-self g c =
-    next_law c.self.inside.state c.log_next-io.new.self (with_log_out c.self.inside.state.log)
-    g.C.Change.is_plan c.log_next-io.result
-    c.log_next-io.ensures.some c.log_next-io.ensures.none c.lawful.ensures
-    (λ lawful. lawful_log_out g.C.Change.is_plan c.self.inside.state lawful c.self.invariant) c.self.invariant
+invariant_of-self g c = (
+  next_law c.self.inside.state c.log_next-io.new.self (with_log_out c.self.inside.state.log)
+      g.C.Change.is_plan c.log_next-io.result
+      c.log_next-io.ensures.some c.log_next-io.ensures.none c.lawful.ensures
+      (λ lawful. lawful_log_out g.C.Change.is_plan c.self.inside.state lawful c.self.invariant.0) c.self.invariant.0,
+  next_counts g.C.Change.are_counts c.log_next-io.result c.self.inside.state c.log_next-io.new.self
+      (with_log_out c.self.inside.state.log) c.log_next-io.ensures.some c.log_next-io.ensures.none refl
+      c.self.invariant.1,
+)
 
 pub returns-clause-law : goal.returns-clause-law
 returns-clause-law g c =
@@ -28,7 +34,7 @@ returns-clause-keeps g c =
     (next_home c.self.inside.state c.log_next-io.new.self (with_log_out c.self.inside.state.log)
     c.log_next-io.result
     c.log_next-io.ensures.some c.log_next-io.ensures.none
-    (home_log_out c.self.inside.state c.self.invariant.log))
+    (home_log_out c.self.inside.state c.self.invariant.0.log))
 
 pub returns-clause-stays : goal.returns-clause-stays
 returns-clause-stays g c = λ other.

@@ -1,19 +1,23 @@
-use Rattle.std.proofs.Common.{sym, subst}
+use Rattle.std.proofs.Common.{subst}
 use Rattle.objects.specs.declared.mode.Mode.TheVariants as modes
-use Rattle.txn_law.specs.Core.{CoreState, IsOut}
+use Rattle.txn_law.specs.Core.{CoreState}
 use Rattle.txn_law.specs.CoreWindow.{KeepsHome, KeepsReads}
 use Rattle.txn.proofs.Answered.{wanted_home, wanted_law}
 use Rattle.txn.proofs.Answered.{wanted_reads}
 use Rattle.txn.specs.Outcomes.{IsWanted}
 use Rattle.txn.proofs.Answered.{wanted_leaves}
+use Rattle.txn.proofs.Answered.{wanted_counts}
 use Rattle.txn.proofs.transactions.Core.want.Goals as goal
 
 pub invariant_of-self : goal.invariant_of-self
-invariant_of-self g c =
-    wanted_law g.C.Change.is_plan c.self.inside.state c.want.new.self c.args.tx c.args.addr modes.Exclusive
-    c.want.result
-    (subst (λ (old : CoreState). IsOut old c.args.tx) (sym c.self.view_is) c.requires) c.want.ensures.answer
-    c.self.invariant
+invariant_of-self g c = (
+  wanted_law g.C.Change.is_plan c.self.inside.state c.want.new.self c.args.tx c.args.addr modes.Exclusive
+      c.want.result
+      c.want.ensures.answer
+      c.self.invariant.0,
+  wanted_counts g.C.Change.are_counts c.self.inside.state c.want.new.self c.args.tx c.args.addr
+      modes.Exclusive c.want.result c.want.ensures.answer c.self.invariant.1,
+)
 
 pub returns-clause-keeps : goal.returns-clause-keeps
 returns-clause-keeps g c =

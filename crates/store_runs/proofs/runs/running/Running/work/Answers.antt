@@ -37,6 +37,6 @@ returns-clause-core g c = λ zero.
       with = record {
         sound = record { transaction = worker.transaction; fetch = worker.fetch; ready = worker.ready };
         core_of = subst (λ core. Fits worker core) (sym core_is)
-            (c.tell.ensures.fits _ c.step-step.ensures.fits);
+            (c.tell.ensures.fits _ (c.step-step.ensures.fits c.requires.well.fits));
       };
     }

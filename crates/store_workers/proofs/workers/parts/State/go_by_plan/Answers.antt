@@ -1,8 +1,5 @@
-use Rattle.std.proofs.Common.{rules, subst, ap, ◌≡◌, ◌∙◌}
+use Rattle.std.proofs.Common.{rules}
 use Rattle.procs.specs.declared.next.Plan.TheVariants as plan
-use Rattle.store_workers.specs.WorkerSteps.{EndsBy, IsNext, side}
-use Rattle.store_workers.specs.declared.workers.parts.State.{State}
-use Rattle.store_workers.proofs.PlansEnd.{ends}
 use Rattle.store_workers.proofs.workers.parts.State.go_by_plan.Goals as goal
 
 pub returns-in-Done-clause-step : goal.returns-in-Done-clause-step

@@ -1,0 +1,8 @@
+use Rattle.std.proofs.Common.{◌≡◌, All, [], length}
+use Rattle.disk.proofs.mem_ports.sources_of.Given as goal
+
+abbrev pub invariant-loop-made : goal.invariant-loop-made
+invariant-loop-made g l = record {
+  count : length l.sources.items ≡ l._made;
+  fresh : All (λ source. source.noted.items ≡ []) l.sources.items;
+}

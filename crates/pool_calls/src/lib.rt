@@ -1,0 +1,17 @@
+//! The device calls of the logger and the installer of a core among threads: each is taken and given back by
+//! one step of the core, and made on a port in between.
+#![tactic(auto)]
+
+mod counter;
+mod gate;
+mod handed;
+mod seat;
+mod steps;
+mod turn;
+
+pub use counter::{Counter, Whole};
+pub use gate::{Gate, NoGate, Point};
+pub use handed::{DeviceIo, HandedOut};
+pub use seat::IoSeat;
+pub use steps::{give_up, make_call, step_installer, step_logger};
+pub use turn::Turn;

@@ -1,0 +1,63 @@
+-- What is told of a record is what it is, but that a call for which memory was refused is told as refused.
+use Rattle.std.proofs.Common.{◌≡◌, refl, sym, ap, subst, ℕ, Bool, true, false, true≢false, inl, inr, ◌⊎◌}
+use Rattle.nfs_types.specs.declared.ctx.Credential.{Credential}
+use Rattle.nfs_types.specs.declared.program.ProgramCall.{ProgramCall}
+use Rattle.nfs_types.specs.declared.program.ProgramCall.TheVariants.{Mount, Nfs}
+use Rattle.rpc.specs.declared.refusal.Refusal.{Refusal}
+use Rattle.session_wire.specs.Judging.{Judges}
+use Rattle.session_wire.specs.declared.message.Judged.{Judged}
+use Rattle.session_wire.specs.declared.message.Judged.TheVariants.{Closed, Refused, Call}
+use Rattle.session_wire.specs.declared.message.ReplyBody.{ReplyBody}
+use Rattle.session_wire.specs.declared.message.ReplyBody.TheVariants as body
+use Rattle.model.specs.Mount.{mount_reply}
+use Rattle.nfs_types.specs.declared.mount.MountCall.{MountCall}
+use Rattle.nfs_types.specs.declared.program.ProgramReply.TheVariants as program_replies
+use Rattle.rpc.specs.declared.refusal.Refusal.TheVariants.{SystemError}
+use Rattle.pool_jobs.specs.Received.{RepliesWithout}
+
+is_refused : Judged → Bool
+is_refused Closed = false
+is_refused (Refused xid why) = true
+is_refused (Call xid credential call) = false
+
+unlike : {xid : ℕ} {why : Refusal} → Refused xid why ≡ Closed → ⊥
+unfolding is_refused
+unlike is = true≢false (ap is_refused is)
+
+pub closed : (verdict : Judged) → Judges Closed verdict → verdict ≡ Closed
+closed Closed is = refl
+closed (Refused xid why) is = sym is
+closed (Call xid credential call) (inl is) = sym is
+closed (Call xid credential call) (inr is) = search
+
+pub called : (verdict : Judged) (xid : ℕ) (credential : Credential) (call : ProgramCall)
+    → Judges (Call xid credential call) verdict → verdict ≡ Call xid credential call
+called Closed xid credential call is = sym is
+called (Refused number why) xid credential call is = sym is
+called (Call number caller asked) xid credential call (inl is) = sym is
+called (Call number caller asked) xid credential call (inr is) = search
+
+other : {xid number : ℕ} {why : Refusal} {credential : Credential} {call : ProgramCall}
+    → Refused xid why ≡ Call number credential call → ⊥
+unfolding is_refused
+other is = true≢false (ap is_refused is)
+
+same : {xid number : ℕ} {why : Refusal} → Refused xid why ≡ Refused number SystemError
+    → (xid ≡ number) × (body.Refused why ≡ body.Refused SystemError)
+same is = search
+
+pub refused : (verdict : Judged) (xid : ℕ) (why : Refusal) → Judges (Refused xid why) verdict
+    → RepliesWithout verdict xid (body.Refused why)
+refused Closed xid why is = absurd (unlike is)
+refused (Refused number refusal) xid why is = search
+refused (Call number credential (Mount call)) xid why (inl is) = absurd (other is)
+refused (Call number credential (Mount call)) xid why (inr is) = ((same is).0, inr (same is).1)
+refused (Call number credential (Nfs call)) xid why (inl is) = absurd (other is)
+refused (Call number credential (Nfs call)) xid why (inr is) = same is
+
+pub mounted : (verdict : Judged) (xid : ℕ) (credential : Credential) (call : MountCall) (reply : ReplyBody)
+    → Judges (Call xid credential (Mount call)) verdict
+    → (reply ≡ body.Done (program_replies.Mount (mount_reply call))) ⊎ (reply ≡ body.Refused SystemError)
+    → RepliesWithout verdict xid reply
+mounted verdict xid credential call reply told is = subst (λ (verdict : Judged). RepliesWithout verdict xid reply)
+    (sym (called verdict xid credential (Mount call) told)) (refl, is)

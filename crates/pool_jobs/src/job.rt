@@ -1,0 +1,19 @@
+//! A job: a call of NFS with the connection that it came from.
+ghost use Rattle.pool_jobs.specs.Spelled.{SpellsJob};
+
+use bytes::Bytes;
+use nfs_types::{Call, Credential};
+use std::snapshot::Snapshot;
+
+/// What a connection hands to a worker: the connection's key and number, the call's number, who calls and what.
+/// Its type keeps that these are what a record spells.
+#[derive(Drop)]
+pub struct Job {
+    pub key: usize,
+    pub number: u64,
+    pub xid: u32,
+    pub credential: Credential,
+    pub call: Call,
+    pub(crate) message: Snapshot<Bytes>,
+    pub ghost spelled: { SpellsJob message.value xid credential call },
+}

@@ -1,0 +1,12 @@
+//! What connections and workers hand each other: jobs and answers, and the connections that are open.
+#![tactic(auto)]
+
+mod answer;
+mod connections;
+mod job;
+mod receiving;
+
+pub use answer::Answer;
+pub use connections::{Bearer, Connections};
+pub use job::Job;
+pub use receiving::{Received, receive};

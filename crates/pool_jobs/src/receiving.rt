@@ -1,0 +1,73 @@
+//! From a record of a connection to a job, or to an answer where it begins no transaction.
+ghost use Rattle.std.specs.Prelude.{◌≡◌, ◌⊎◌};
+ghost use Rattle.model.specs.Mount.{mount_reply};
+ghost use Rattle.nfs_types.specs.declared.program.ProgramReply.TheVariants as program_replies;
+ghost use Rattle.pool_jobs.specs.Received.{IsReceived};
+ghost use Rattle.rpc.specs.declared.refusal.Refusal.TheVariants.{SystemError};
+ghost use Rattle.session_wire.specs.declared.message.ReplyBody.TheVariants as body;
+
+use crate::{Answer, Job};
+use bytes::Bytes;
+use nfs_types::{MountCall, ProgramCall, ProgramReply};
+use rpc::Refusal;
+use session_wire::{Judged, ReplyBody, judge, mount_reply};
+use std::alloc::Global;
+use std::snapshot::Snapshot;
+
+/// What a record is received as.
+#[derive(Drop)]
+pub enum Received {
+    /// No call, or none whose header can be read: the connection is closed without a reply.
+    Closed,
+    /// The record begins no transaction: it is refused before it comes to its procedure, or calls MOUNT.
+    Answered(Answer),
+    /// A call of NFS.
+    Job(Job),
+}
+
+/// Receives a message, a whole record of the connection of this key and number.
+#[tactic(auto, using(crate::proofs::Judgements::closed, crate::proofs::Judgements::refused, crate::proofs::Judgements::called))]
+pub fn receive(alloc: Global, key: usize, number: u64, message: &Bytes) -> Received
+    ensures { IsReceived key number message.now result }
+{
+    match judge(alloc, message) {
+        Judged::Closed => Received::Closed,
+        Judged::Refused { xid, refusal } => Received::Answered(Answer {
+            key,
+            number,
+            xid,
+            body: ReplyBody::Refused(refusal),
+        }),
+        Judged::Call {
+            xid,
+            credential,
+            call,
+        } => match call {
+            ProgramCall::Mount(call) => Received::Answered(Answer {
+                key,
+                number,
+                xid,
+                body: mounted(alloc, &call),
+            }),
+            ProgramCall::Nfs(call) => Received::Job(Job {
+                key,
+                number,
+                xid,
+                credential,
+                call,
+                message: Snapshot::of(message),
+            }),
+        },
+    }
+}
+
+// What a call of MOUNT is answered.
+fn mounted(alloc: Global, call: &MountCall) -> ReplyBody
+    ensures { (result ≡ body.Done (program_replies.Mount (mount_reply call.now)))
+        ⊎ (result ≡ body.Refused SystemError) }
+{
+    match mount_reply(alloc, call) {
+        Ok(reply) => ReplyBody::Done(ProgramReply::Mount(reply)),
+        Err(_) => ReplyBody::Refused(Refusal::SystemError),
+    }
+}

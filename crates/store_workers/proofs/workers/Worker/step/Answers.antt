@@ -1,0 +1,8 @@
+use Rattle.store_workers.specs.WorkerSteps.{side}
+use Rattle.store_workers.proofs.StillFits.{still_fits}
+use Rattle.store_workers.proofs.workers.Worker.step.Goals as goal
+
+pub returns-clause-fits : goal.returns-clause-fits
+returns-clause-fits c = λ fits. still_fits (side c.args.self.now.state c.args.core.now)
+    (side c.step.new.self c.step.new.core) c.step.ensures.frame fits c.args.self.now.state.phase c.step.result
+    c.step.ensures.step

@@ -1,0 +1,23 @@
+//! The places of commits, as the core knows them.
+ghost use Rattle.std.specs.Prelude.{◌≡◌};
+ghost use Rattle.wal_law.specs.Log.{settled_place};
+
+use super::Core;
+use crate::Change;
+use wal::Seq;
+
+impl<C: Change> Core<C> {
+    /// The place of the last commit.
+    pub fn places(&self) -> Seq
+        ensures { result.0 ≡ self.now.log.places }
+    {
+        self.state.log.places()
+    }
+
+    /// The greatest place such that each change at or before it is settled.
+    pub fn settled(&self) -> Seq
+        ensures { result.0 ≡ settled_place self.now.log }
+    {
+        self.state.log.settled()
+    }
+}

@@ -1,0 +1,14 @@
+-- What a port is asked for by a call of the log.
+use Rattle.disk.specs.Device.{Content}
+use Rattle.disk.specs.Overlap.{DeviceCall, settles, writes}
+use Rattle.wal_law.specs.Io.{Io}
+use Rattle.wal_law.specs.declared.calls.IoCall.{IoCall}
+use Rattle.wal_law.specs.declared.calls.IoCall.TheVariants.{Write, Barrier}
+
+-- the call with what a write writes
+abbrev pub call_with : IoCall → Content → DeviceCall
+call_with (Write block) content = writes block.0 content
+call_with (Barrier side) content = settles side
+
+abbrev pub port_call : Io → DeviceCall
+port_call io = call_with io.call io.content
