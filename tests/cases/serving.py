@@ -1,5 +1,6 @@
 """`serve`: many connections at once, in pieces of any size, and clients that misbehave."""
 
+import os
 import random
 import socket
 import struct
@@ -8,7 +9,7 @@ import time
 
 from cases import nfs, wire
 from cases.conversing import ROOT, ROOT_USER
-from cases.running import MADE, NEW_MODE, expect, is_so, same
+from cases.running import FORMATTED, MADE, NEW_MODE, expect, is_so, same
 from cases.tcp import MNT, UMNT, Server, is_closed, mount_call, mounted, next_reply, replies, spent
 
 CALLER = nfs.credential(*ROOT_USER)
@@ -307,6 +308,11 @@ def test_it_ends_after_so_many_connections_with_all_settled(place):
     ran = place.once(image, nfs.READ.call(1, CALLER, file, 0, 10))
     _, read = nfs.READ.read_result(nfs.result_of(wire.records(ran.output)[0]))
     same("what the next opening reads", read.data, b"hello")
+
+
+def test_the_example_of_serve_prints_same(place):
+    ran = place.run([], command=["bash", os.path.join(place.top, "examples/serve")], env={**os.environ, "NFSD": place.program})
+    expect("examples/serve", ran, 0, FORMATTED + b"same\n", b"")
 
 
 def test_an_idle_server_takes_no_time(place):

@@ -4,7 +4,6 @@ import socket
 import struct
 
 from cases import conversing, wire
-from cases.clients import read_record
 from cases.running import SECONDS, is_so, read_exactly, same
 
 MOUNT_PROGRAM, MNT, UMNT = 100005, 1, 3
@@ -75,7 +74,7 @@ class Client(conversing.Client):
 
 def next_reply(stream):
     """The message of the next reply."""
-    found = read_record(stream.recv)
+    found = wire.read_record(stream.recv)
     is_so("the connection ended before the reply", found is not None)
     return found
 
@@ -97,6 +96,7 @@ def is_closed(stream):
         return stream.recv(1) == b""
     except ConnectionResetError:
         return True
+
 
 def spent(process):
     """The processor time of a process, in ticks."""

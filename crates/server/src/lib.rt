@@ -2,6 +2,7 @@
 #![tactic(auto)]
 
 mod accepting;
+mod beginning;
 mod connection;
 mod driving;
 mod hall;
@@ -12,5 +13,6 @@ mod serving;
 mod sizes;
 mod working;
 
+pub use beginning::serve_store;
 pub use hall::Sides;
 pub use serving::{ServeFault, serve};

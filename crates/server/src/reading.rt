@@ -5,6 +5,7 @@ use crate::connection::Connection;
 use crate::driving::answer_in;
 use crate::hall::Hall;
 use crate::sizes::{MOST_WAITING_BYTES, REPLY_BATCH_BYTES, STREAM_PIECE_BYTES};
+use bytes::Bytes;
 use crossbeam_channel::Sender;
 use pool::{Answer, Job, Received, Source, Whole, receive};
 use rpc::Records;
@@ -109,7 +110,7 @@ fn serve_records<L: Ledger, G: Whole, I: Whole, P, S: Source, R: Wait + Clock>(
         let Some(record) = next else {
             break;
         };
-        if !serve_record(rt, hall, connection, desk, record.as_slice(), &mut replies) {
+        if !serve_record(rt, hall, connection, desk, &record, &mut replies) {
             goes_on = false;
             break;
         }
@@ -133,7 +134,7 @@ fn serve_record<L: Ledger, G: Whole, I: Whole, P, S: Source, R: Wait + Clock>(
     hall: &Hall<L, G, I, P, S>,
     connection: &Connection,
     desk: &Desk,
-    record: &[u8],
+    record: &Bytes,
     replies: &mut Vec<u8>,
 ) -> bool {
     match receive(hall.alloc, desk.key, desk.number, record) {

@@ -5,7 +5,7 @@ use crate::accepting::accept_all;
 use crate::hall::{Devices, Hall, Sides, Signs};
 use crate::installing::install_all;
 use crate::logging::log_all;
-use crate::sizes::{MOST_JOBS, MOST_WORKER_THREADS};
+use crate::sizes::{MOST_JOBS, MOST_JOB_THREADS};
 use crate::working::{finish_all, work_all};
 use crossbeam_channel::bounded;
 use pool::{Job, Pool, Port, Source, Whole};
@@ -107,7 +107,7 @@ where
     let (to_finish, finished) = bounded::<usize, Global>(hall.alloc, MOST_JOBS)?;
     let (to_work, jobs) = bounded::<Job, Global>(hall.alloc, MOST_JOBS)?;
     let (finished, jobs) = (&finished, &jobs);
-    let workers = hall.seats.len().min(MOST_WORKER_THREADS);
+    let threads = hall.seats.len().min(MOST_JOB_THREADS);
     thread::scope(
         thread::scope_env(),
         rt,
@@ -118,7 +118,7 @@ where
             let logger = scope.spawn(move || log_all(rt, hall, &to_finish)).ok();
             let installer = scope.spawn(move || install_all(rt, hall)).ok();
             let mut all = scope.spawn(move || finish_all(rt, hall, finished)).is_ok();
-            for _ in 0..workers {
+            for _ in 0..threads {
                 all = scope.spawn(move || work_all(rt, hall, jobs)).is_ok() && all;
             }
             all = all && logger.is_some() && installer.is_some();

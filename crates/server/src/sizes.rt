@@ -5,7 +5,7 @@ pub const MOST_CONNECTIONS: usize = 64;
 /// The most jobs that wait for a worker.
 pub const MOST_JOBS: usize = 256;
 /// The most threads that take jobs off their queue.
-pub const MOST_WORKER_THREADS: usize = 4;
+pub const MOST_JOB_THREADS: usize = 4;
 /// The bytes that are read of a stream at once.
 pub const STREAM_PIECE_BYTES: usize = 65_536;
 /// Replies of a piece are written once there are so many bytes of them.
@@ -19,9 +19,7 @@ pub const IDLE_SECONDS: u64 = 900;
 /// How long the installer waits for more groups, once one is settled.
 pub const INSTALL_MILLISECONDS: u64 = 50;
 /// Of how many kept commits on the installer doesn't wait.
-pub const URGENT_COMMITS: usize = 4096;
-/// Of how many blocks of the tail on the installer doesn't wait.
-pub const URGENT_BLOCKS: usize = 256;
+pub const URGENT_COMMITS: usize = 256;
 /// How often a thread that is kept off yields before it sleeps.
 pub const YIELDS: u32 = 8;
 /// How long it sleeps first, and at most.
