@@ -8,8 +8,9 @@ use Rattle.limits.specs.declared.TheConstants.{BLOCK_BYTES}
 use Rattle.disk.specs.Crash.{Image}
 use Rattle.layout.specs.Parts.{bit_at}
 use Rattle.layout.proofs.Fits.{part-length}
-use Rattle.bitmap.specs.Clear.{clear_in, clear_in_byte, clear_of}
-use Rattle.bitmap.specs.Pieces.{piece_in}
+use Rattle.bitmap.specs.Clear.{clear_of}
+use Rattle.layout_records.specs.Bits.{clear_in, clear_in_byte}
+use Rattle.layout_records.specs.Bits.{piece_in}
 use Rattle.bitmap.proofs.Ranges.{one_if, one_more, same_sums}
 
 -- a range behind another

@@ -18,8 +18,9 @@ use Rattle.layout.specs.Geometry.{bitmap_blocks, inode_bitmap_at}
 use Rattle.layout.specs.Holds.{Holds}
 use Rattle.layout.specs.Owners.{is_marked_inode, is_used}
 use Rattle.layout.specs.Parts.{Parts, bit_at, parts_of}
-use Rattle.bitmap.specs.Bits.{IsClearIn, IsClearOf, bit_in}
-use Rattle.bitmap.specs.Pieces.{piece_in}
+use Rattle.bitmap.specs.Bits.{IsClearIn, IsClearOf}
+use Rattle.layout_records.specs.Bits.{bit_in}
+use Rattle.layout_records.specs.Bits.{piece_in}
 
 pub in_piece : (blocks : Image) (first piece bit : ℕ) → bit < 4096
     → bit_in (piece_in blocks first piece) bit ≡ bit_at blocks first (4096 * piece + bit)

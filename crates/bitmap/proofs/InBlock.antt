@@ -6,8 +6,8 @@ use Rattle.std.proofs.lemmas.Bool.{cases_eq, cases_lt}
 use Rattle.std.proofs.lemmas.List.{get_or-append-add, get_or_append_left, get_or-drop}
 use Rattle.std.proofs.lemmas.List.{get_or-take, length-take-le}
 use Rattle.objects.specs.Spliced.{spliced}
-use Rattle.bitmap.specs.Bits.{bit_in}
-use Rattle.bitmap.proofs.OneBit.{differs, equal}
+use Rattle.layout_records.specs.Bits.{bit_in}
+use Rattle.layout_records.proofs.OneBit.{differs, equal}
 
 module _ (content piece : List ℕ) (offset : ℕ) (room : offset + length piece ≤ length content) where
   before : length (take offset content) ≡ offset

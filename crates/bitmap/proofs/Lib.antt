@@ -2,11 +2,9 @@ pub mod Ranges
 pub mod MapSums
 pub mod Held
 pub mod FreeBits
-pub mod Ones
 pub mod Chunks
 pub mod Asked
 pub mod OfResults
-pub mod OneBit
 pub mod InBlock
 pub mod PutBits
 pub mod MarkParts

@@ -12,9 +12,10 @@ use Rattle.layout.proofs.Fits.{part-length}
 use Rattle.layout.proofs.Written.{elsewhere, here}
 use Rattle.layout.proofs.WrittenBytes.{dropped, spliced-bytes, taken}
 use Rattle.txn.specs.Window.{object_at}
-use Rattle.bitmap.specs.Bits.{HasBit, PutsBit, bit_in}
+use Rattle.bitmap.specs.Bits.{PutsBit}
+use Rattle.layout_records.specs.Bits.{HasBit, bit_in}
 use Rattle.bitmap.proofs.InBlock.{in_block}
-use Rattle.bitmap.proofs.OneBit.{differs, equal}
+use Rattle.layout_records.proofs.OneBit.{differs, equal}
 
 -- a bit of the bitmap is one of its block
 as_in : (image : Image) (first bit : ℕ)

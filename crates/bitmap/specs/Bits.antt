@@ -5,27 +5,19 @@ use Rattle.limits.specs.declared.TheConstants.{BITS_PER_BLOCK}
 use Rattle.disk.specs.Crash.{Image}
 use Rattle.nfs_types.specs.Fits.{AreBytes}
 use Rattle.layout.specs.declared.geometry.Geometry.{Geometry}
+use Rattle.layout.specs.declared.grid.TheConstants.{PIECE_BITS}
 use Rattle.layout.specs.Parts.{bit_at, parts_of, put}
-
--- a bit of bytes: the least bit of a byte comes first
-abbrev pub bit_in : List ℕ → ℕ → Bool
-bit_in bytes bit = nat_eq (get_or bytes (bit / 8) 0 / 2 ^ (bit % 8) % 2) 1
+use Rattle.layout_records.specs.Bits.{bit_in}
 
 -- a bit of a piece that is clear, or none is
 abbrev pub IsClearIn : List ℕ → Option ℕ → Type 0
-IsClearIn bytes (Some bit) = (bit < 4096) × (bit_in bytes bit ≡ false)
-IsClearIn bytes None = (bit : ℕ) → bit < 4096 → bit_in bytes bit ≡ true
+IsClearIn bytes (Some bit) = (bit < PIECE_BITS) × (bit_in bytes bit ≡ false)
+IsClearIn bytes None = (bit : ℕ) → bit < PIECE_BITS → bit_in bytes bit ≡ true
 
 -- a bit of a bitmap that is clear, or none is
 abbrev pub IsClearOf : Image → ℕ → ℕ → Option ℕ → Type 0
 IsClearOf blocks first count (Some bit) = (bit < BITS_PER_BLOCK * count) × (bit_at blocks first bit ≡ false)
 IsClearOf blocks first count None = (bit : ℕ) → bit < BITS_PER_BLOCK * count → bit_at blocks first bit ≡ true
-
--- bytes with another value of one bit
-pub record HasBit (bit : ℕ) (is : Bool) (old new : List ℕ) : Type 0 where
-  pub len : length new ≡ length old
-  pub bytes : AreBytes old → AreBytes new
-  pub bits : (other : ℕ) → bit_in new other ≡ cond (nat_eq other bit) is (bit_in old other)
 
 -- blocks with another value of one bit of the bitmap that begins with a block
 pub record PutsBit (first bit : ℕ) (is : Bool) (old new : Image) : Type 0 where

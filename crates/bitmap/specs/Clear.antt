@@ -1,17 +1,9 @@
--- How many bits are clear: of bytes, and of the blocks of a bitmap.
+-- How many bits are clear of the blocks of a bitmap.
 use Rattle.std.specs.Prelude.{ℕ, ◌*◌, ◌/◌, ◌%◌, ◌^◌, not, List, nat_eq, count_by}
 use Rattle.std.specs.List.{range_with_len, sum_by}
 use Rattle.limits.specs.declared.TheConstants.{BITS_PER_BLOCK}
 use Rattle.disk.specs.Crash.{Image}
 use Rattle.layout.specs.Parts.{bit_at}
-
--- the clear bits of a byte
-abbrev pub clear_in_byte : ℕ → ℕ
-clear_in_byte byte = count_by (λ bit. not (nat_eq (byte / 2 ^ bit % 2) 1)) (range_with_len 0 8)
-
--- the clear bits of bytes
-abbrev pub clear_in : List ℕ → ℕ
-clear_in bytes = sum_by clear_in_byte bytes
 
 -- the clear bits of a bitmap that begins with this block and has so many
 abbrev pub clear_of : Image → ℕ → ℕ → ℕ

@@ -10,27 +10,22 @@ ghost use Rattle.inode.specs.Over.{IsPause, MayStop};
 ghost use Rattle.inode.specs.Read.{NoneStand, Saw};
 ghost use Rattle.inode.specs.Snap.{IsNew};
 ghost use Rattle.layout.specs.Places.{is_data};
-ghost use Rattle.bitmap.specs.Bits.{IsClearIn, IsClearOf, bit_in};
+ghost use Rattle.layout.specs.declared.grid.TheConstants.{PIECE_BITS, PIECE_BYTES, PIECES_PER_BLOCK};
+ghost use Rattle.layout_records.specs.Bits.{piece_in};
+ghost use Rattle.bitmap.specs.Bits.{IsClearIn, IsClearOf};
 ghost use Rattle.bitmap.specs.NewBlock.{HasTaken, IsNewBlock};
-ghost use Rattle.bitmap.specs.Pieces.{IsAskedObject, piece_in};
+ghost use Rattle.bitmap.specs.Pieces.{IsAskedObject};
 
-use crate::pieces::{PIECE_BITS, PIECES_PER_BLOCK, piece_addr};
 use inode::{Snap, Stop, bytes_at};
+use layout::{PIECE_BITS, PIECES_PER_BLOCK};
+use layout_records::{is_set, piece_addr};
 use limits::FIRST_HOME_BLOCK;
-
-// Whether a bit of bytes is set: the least bit of a byte comes first.
-fn is_set(bytes: &[u8], bit: usize) -> bool
-    requires { bit < 8 * length bytes.now }
-    ensures { result ≡ bit_in bytes.now bit }
-{
-    bytes[bit / 8] >> (bit % 8) & 1 == 1
-}
 
 // A clear bit of a piece, if it has one.
 fn clear_bit(bytes: &[u8]) -> Option<u32>
-    requires { length bytes.now ≡ 512 }
+    requires { length bytes.now ≡ PIECE_BYTES }
     ensures is { IsClearIn bytes.now result }
-    ensures few { IfSome result (λ bit. bit < 4096) }
+    ensures few { IfSome result (λ bit. bit < PIECE_BITS) }
 {
     'bits: for bit in 0..PIECE_BITS {
         if !is_set(bytes, bit as usize) {
@@ -43,8 +38,8 @@ fn clear_bit(bytes: &[u8]) -> Option<u32>
 // A clear bit of a piece of the bitmap that begins with this block, if it has one.
 fn clear_in_piece(snap: &Snap, first: u32, piece: u32) -> Result<Option<u32>, Stop>
     requires from { FIRST_HOME_BLOCK ≤ first }
-    requires to { first + piece / 8 < table_at snap.now.geometry.blocks snap.now.geometry.inodes }
-    ensures few { IfOk result (λ found. IfSome found (λ bit. bit < 4096)) }
+    requires to { first + piece / PIECES_PER_BLOCK < table_at snap.now.geometry.blocks snap.now.geometry.inodes }
+    ensures few { IfOk result (λ found. IfSome found (λ bit. bit < PIECE_BITS)) }
     ensures ok { IfOk result (λ found. (blocks : Image) → Saw blocks snap.now
         → IsClearIn (piece_in blocks first piece) found) }
     ensures err { IfErr result (λ stop. IsNew snap.now stop) }

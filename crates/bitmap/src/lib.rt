@@ -2,7 +2,6 @@
 //! each; and their bits, set and cleared.
 #![tactic(auto)]
 
-mod counting;
 mod finding;
 mod laws;
 mod marking;

@@ -5,25 +5,14 @@ ghost use Rattle.disk.specs.Crash.{Image};
 ghost use Rattle.layout.specs.Geometry.{table_at};
 ghost use Rattle.inode.specs.Over.{IsPause, MayStop};
 ghost use Rattle.drafts.specs.Drafted.{Shows, image_of, spent};
-ghost use Rattle.bitmap.specs.Bits.{HasBit, MarksBlock, MarksNumber, PutsBit};
+ghost use Rattle.bitmap.specs.Bits.{MarksBlock, MarksNumber, PutsBit};
 
-use crate::pieces::{PIECE_BITS, piece_addr};
 use drafts::Draft;
 use inode::{Stop, bytes_at};
+use layout::PIECE_BITS;
+use layout_records::{piece_addr, put_bit};
 use limits::FIRST_HOME_BLOCK;
 use std::alloc::Global;
-
-// Gives one bit of bytes a value: the least bit of a byte comes first.
-fn put_bit(bytes: &mut [u8], bit: usize, is: bool)
-    requires { bit < 8 * length bytes.old }
-    ensures { HasBit bit is bytes.old bytes.new }
-{
-    if is {
-        bytes[bit / 8] |= 1 << (bit % 8);
-    } else {
-        bytes[bit / 8] &= !(1 << (bit % 8));
-    }
-}
 
 // Gives a bit of the bitmap that begins with this block a value.
 fn mark(alloc: Global, draft: &mut Draft, first: u32, bit: u32, is: bool) -> Result<(), Stop>

@@ -8,40 +8,21 @@ ghost use Rattle.model.specs.Tree.{Tree, free};
 ghost use Rattle.procedures.specs.FsStat.{unused_numbers};
 ghost use Rattle.inode.specs.Read.{NoneStand, Saw};
 ghost use Rattle.inode.specs.Snap.{IsNew};
-ghost use Rattle.bitmap.specs.Clear.{clear_in, clear_of};
-ghost use Rattle.bitmap.specs.Pieces.{IsAskedObject, piece_in};
+ghost use Rattle.layout.specs.declared.grid.TheConstants.{PIECE_BITS, PIECES_PER_BLOCK};
+ghost use Rattle.layout_records.specs.Bits.{clear_in, piece_in};
+ghost use Rattle.bitmap.specs.Clear.{clear_of};
+ghost use Rattle.bitmap.specs.Pieces.{IsAskedObject};
 
-use crate::counting::clear_in;
-use disk::BlockNo;
 use inode::{Snap, Stop, bytes_at};
+use layout::PIECES_PER_BLOCK;
+use layout_records::{clear_in, piece_addr};
 use limits::FIRST_HOME_BLOCK;
-use objects::Addr;
-
-const PIECE_BYTES: usize = 512;
-
-pub(crate) const PIECE_BITS: u32 = 4096;
-
-pub(crate) const PIECES_PER_BLOCK: u32 = 8;
-
-// Where a piece of the bitmap lies that begins with this block.
-pub(crate) fn piece_addr(first: u32, piece: u32) -> Addr
-    requires { first + piece / 8 < 4096 }
-    ensures block { result.block.0 ≡ first + piece / 8 }
-    ensures offset { result.offset ≡ 512 * (piece % 8) }
-    ensures len { result.len ≡ 512 }
-{
-    Addr {
-        block: BlockNo(first + piece / PIECES_PER_BLOCK),
-        offset: PIECE_BYTES * (piece % PIECES_PER_BLOCK) as usize,
-        len: PIECE_BYTES,
-    }
-}
 
 // How many bits are clear in a piece.
 fn clear_at(snap: &Snap, first: u32, piece: u32) -> Result<u32, Stop>
     requires from { FIRST_HOME_BLOCK ≤ first }
-    requires to { first + piece / 8 < table_at snap.now.geometry.blocks snap.now.geometry.inodes }
-    ensures few { IfOk result (λ clear. clear ≤ 4096) }
+    requires to { first + piece / PIECES_PER_BLOCK < table_at snap.now.geometry.blocks snap.now.geometry.inodes }
+    ensures few { IfOk result (λ clear. clear ≤ PIECE_BITS) }
     ensures ok { IfOk result (λ clear. (blocks : Image) → Saw blocks snap.now
         → clear ≡ clear_in (piece_in blocks first piece)) }
     ensures err { IfErr result (λ stop. IsNew snap.now stop) }

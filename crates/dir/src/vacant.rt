@@ -5,7 +5,6 @@ ghost use Rattle.disk.specs.Crash.{Image};
 ghost use Rattle.model.specs.Tree.{Tree};
 ghost use Rattle.procedures.specs.Places.{least_free_slot};
 ghost use Rattle.layout.specs.Decode.{directory_in, span_of};
-ghost use Rattle.layout.specs.Fields.{is_zeros};
 ghost use Rattle.layout.specs.Parts.{content_in};
 ghost use Rattle.inode.specs.Over.{IsPause, MayStop};
 ghost use Rattle.dir.specs.Slots.{IsDirectoryOf, block_slot, slot_at};
@@ -16,13 +15,6 @@ use inode::{Snap, Stop};
 use layout::{Inode, Slot};
 use limits::{MOST_SPAN, SLOTS_PER_BLOCK};
 
-// Whether each byte is zero.
-fn is_zeros(bytes: &[u8]) -> bool
-    ensures { result ≡ is_zeros bytes.now }
-{
-    bytes.iter().all(|byte| *byte == 0)
-}
-
 // The first free slot of a block, where the block's slots are numbered from one on.
 fn free_in_block(block: &[u8], first: u32) -> Option<u32>
     requires len { length block.now ≡ BLOCK_BYTES }
@@ -31,7 +23,7 @@ fn free_in_block(block: &[u8], first: u32) -> Option<u32>
         → IsFirstFree (block_slot inodes first block.now) first (first + SLOTS_PER_BLOCK) result }
 {
     'slots: for slot in first..first + SLOTS_PER_BLOCK {
-        if is_zeros(Slot::bytes_in(block, slot - first)) {
+        if Slot::is_free(Slot::bytes_in(block, slot - first)) {
             return Some(slot);
         }
     }

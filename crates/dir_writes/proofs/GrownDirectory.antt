@@ -53,7 +53,8 @@ use Rattle.file_writes.specs.Filling.{Fills, HasMapped, IsPiece, grown_size, map
 use Rattle.file_writes.proofs.MappedFile as mapped
 use Rattle.file_writes.proofs.OneNumber.{all_still, is_some}
 use Rattle.file_writes.proofs.PieceWritten.{not_zero, or_data}
-use Rattle.dir_writes.specs.Growing.{IsGrowth, first_slot}
+use Rattle.layout.specs.SlotForm.{first_slot}
+use Rattle.dir_writes.specs.Growing.{IsGrowth}
 use Rattle.dir_writes.proofs.EnteredName.{entered, gains}
 use Rattle.dir_writes.proofs.Lost.{IsOnce}
 use Rattle.dir_writes.proofs.NumbersMore.{names_direct, names_more, none_behind, some_before}

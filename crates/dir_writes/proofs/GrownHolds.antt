@@ -25,7 +25,8 @@ use Rattle.file_writes.proofs.MappedFile.{long_content}
 use Rattle.file_writes.proofs.PieceWritten.{not_zero}
 use Rattle.file_writes.proofs.Stored.{content_are, named_are, zeros_are}
 use Rattle.dir_writes.specs.Entering.{with_name}
-use Rattle.dir_writes.specs.Growing.{IsGrowth, first_slot}
+use Rattle.layout.specs.SlotForm.{first_slot}
+use Rattle.dir_writes.specs.Growing.{IsGrowth}
 use Rattle.dir_writes.proofs.GrownDirectory as grown
 use Rattle.dir_writes.proofs.StoredGrowth.{both_hold, both_read, one_holds, one_read}
 use Rattle.dir_writes.proofs.UsedBytes.{used_are, zero_bytes}

@@ -7,41 +7,21 @@ ghost use Rattle.model.specs.Node.{Node};
 ghost use Rattle.model.specs.Tree.{Tree, free, node_at, with_node};
 ghost use Rattle.procedures.specs.Changes.{with_entry};
 ghost use Rattle.files.specs.Changing.{CanEnter, adds};
-ghost use Rattle.layout.specs.declared.slot.TheConstants.{SLOT_BYTES};
 ghost use Rattle.layout.specs.Decode.{inode_at, span_of};
-ghost use Rattle.layout.specs.SlotForm.{used_bytes};
 ghost use Rattle.inode.specs.Over.{IsPause, MayStop};
 ghost use Rattle.dir.specs.Slots.{IsDirectoryOf};
 ghost use Rattle.drafts.specs.Drafted.{IsDraft, image_of, spent};
 ghost use Rattle.dir_writes.specs.Entering.{entry_in, with_name};
-ghost use Rattle.dir_writes.specs.Growing.{HoldsWith, IsGrowth, first_slot};
+ghost use Rattle.dir_writes.specs.Growing.{HoldsWith, IsGrowth};
 
 use crate::growing::grow;
 use crate::slotting::put_slot;
 use drafts::Draft;
 use inode::{Stop, held};
-use layout::{Inode, InodeKind, SLOT_BYTES};
+use layout::{Inode, InodeKind, Slot};
+use layout_records::first_slot;
 use limits::{BLOCK_BYTES, MOST_SPAN, NAME_BYTES, SLOTS_PER_BLOCK};
-use std::alloc::{AllocError, Global};
-
-// The bytes before the name in a slot.
-const SLOT_HEAD: usize = 8;
-
-// The bytes of a slot in which a name lies.
-fn named_slot(alloc: Global, number: u32, name: &[u8]) -> Result<Vec<u8>, AllocError>
-    requires { length name.now ≤ NAME_BYTES }
-    ensures bytes { IfOk result (λ bytes. bytes.items
-        ≡ used_bytes (record { number = number; name = name.now })) }
-    ensures len { IfOk result (λ bytes. length bytes.items ≡ SLOT_BYTES) }
-{
-    let mut bytes = Vec::new(alloc);
-    bytes.extend_from_slice(&number.to_le_bytes())?;
-    bytes.extend_from_slice(&(name.len() as u32).to_le_bytes())?;
-    bytes.extend_from_slice(name)?;
-    let rest = vec![in alloc; 0; SLOT_BYTES - SLOT_HEAD - name.len()]?;
-    bytes.extend_from_slice(&rest)?;
-    Ok(bytes)
-}
+use std::alloc::Global;
 
 // Whether a slot is one of those that a directory spans.
 fn is_spanned(inode: &Inode, slot: u32) -> bool
@@ -77,21 +57,8 @@ fn enter_within(
         → IsDirectoryOf draft.old.there (image_of blocks draft.old) tree number inode.now
         → slot < SLOTS_PER_BLOCK * span_of inode.now → IsPause stop) }
 {
-    let bytes = named_slot(alloc, entry_number, name)?;
+    let bytes = Slot::named(alloc, entry_number, name)?;
     put_slot(alloc, draft, inode, slot, &bytes)
-}
-
-// The block of a directory in whose first slot a name lies, and in no other.
-fn first_block(alloc: Global, number: u32, name: &[u8]) -> Result<Vec<u8>, AllocError>
-    requires { length name.now ≤ NAME_BYTES }
-    ensures bytes { IfOk result (λ bytes. bytes.items
-        ≡ first_slot (record { number = number; name = name.now })) }
-    ensures len { IfOk result (λ bytes. length bytes.items ≡ BLOCK_BYTES) }
-{
-    let mut bytes = named_slot(alloc, number, name)?;
-    let rest = vec![in alloc; 0; BLOCK_BYTES - SLOT_BYTES]?;
-    bytes.extend_from_slice(&rest)?;
-    Ok(bytes)
 }
 
 // The index of the block that a directory takes for a name in this slot: None where the slot isn't the first
@@ -138,7 +105,7 @@ fn enter_behind(
     ensures pause { IfErr result (λ stop. (blocks : Image) (tree : Tree) → IsDraft draft.old blocks tree
         → IsDirectoryOf draft.old.there (image_of blocks draft.old) tree number inode.now → IsPause stop) }
 {
-    let bytes = first_block(alloc, entry_number, name)?;
+    let bytes = first_slot(alloc, entry_number, name)?;
     grow(alloc, draft, number, inode, index, bytes)
 }
 

@@ -12,13 +12,15 @@ ghost use Rattle.inode.specs.Over.{IsPause, MayStop};
 ghost use Rattle.dir.specs.Slots.{IsDirectoryOf};
 ghost use Rattle.drafts.specs.Drafted.{IsDraft, image_of, spent};
 ghost use Rattle.dir_writes.specs.Entering.{entry_in, with_name};
-ghost use Rattle.dir_writes.specs.Growing.{HoldsWith, IsGrowth, first_slot};
+ghost use Rattle.layout.specs.SlotForm.{first_slot};
+ghost use Rattle.dir_writes.specs.Growing.{HoldsWith, IsGrowth};
 
 use bitmap::take_block;
 use drafts::Draft;
-use file_writes::{led_far, naming, sized, store, store_far, with_piece};
+use file_writes::{led_far, naming, sized, store, store_far};
 use inode::{Stop, data_block};
 use layout::Inode;
+use layout_records::with_number;
 use limits::{BLOCK_BYTES, DIRECT_INDEXES};
 use std::alloc::Global;
 
@@ -105,8 +107,7 @@ fn grow_far(
     };
     match take_block(alloc, draft) {
         Ok(Some(block)) => {
-            let place = 4 * (index - DIRECT_INDEXES);
-            let numbers = with_piece(alloc, &old, place, &block.to_le_bytes())?;
+            let numbers = with_number(alloc, &old, index - DIRECT_INDEXES, block)?;
             let same = sized(inode, size_with(index));
             match store_far(
                 alloc,
@@ -163,9 +164,8 @@ fn grow_first(
     };
     match take_block(alloc, draft) {
         Ok(Some(far)) => {
-            let place = 4 * (index - DIRECT_INDEXES);
             let zeros = [0; BLOCK_BYTES];
-            let numbers = with_piece(alloc, &zeros, place, &block.to_le_bytes())?;
+            let numbers = with_number(alloc, &zeros, index - DIRECT_INDEXES, block)?;
             let led = led_far(inode, size_with(index), far);
             match store_far(alloc, draft, number, far, numbers, block, bytes, &led) {
                 Ok(()) => Ok(led),

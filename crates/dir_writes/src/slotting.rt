@@ -3,7 +3,6 @@ ghost use Rattle.std.specs.Prelude.{◌≡◌, ◌+◌, ◌*◌, ◌<◌, ◌≤
 ghost use Rattle.limits.specs.declared.TheConstants.{BLOCK_BYTES, SLOTS_PER_BLOCK};
 ghost use Rattle.disk.specs.Crash.{Image};
 ghost use Rattle.model.specs.Tree.{Tree};
-ghost use Rattle.objects.specs.Spliced.{spliced};
 ghost use Rattle.layout.specs.declared.slot.TheConstants.{SLOT_BYTES};
 ghost use Rattle.layout.specs.Decode.{span_of};
 ghost use Rattle.layout.specs.Parts.{content_in};
@@ -16,25 +15,11 @@ ghost use Rattle.dir_writes.specs.Slotting.{IsSlotted, IsSlottedIn};
 use disk::BlockNo;
 use drafts::Draft;
 use inode::{Snap, Stop, block_number, data_block};
-use layout::{Inode, SLOT_BYTES};
+use layout::Inode;
+use layout_records::with_slot;
 use limits::{FILE_INDEXES, SLOTS_PER_BLOCK};
 use objects::Addr;
-use std::alloc::{AllocError, Global};
-
-// A block with these bytes in a slot.
-fn with_slot(alloc: Global, block: &[u8], slot: u32, bytes: &[u8]) -> Result<Vec<u8>, AllocError>
-    requires len { length block.now ≡ BLOCK_BYTES }
-    requires slot { slot < SLOTS_PER_BLOCK }
-    requires bytes { length bytes.now ≡ SLOT_BYTES }
-    ensures { IfOk result (λ made. made.items ≡ spliced block.now (SLOT_BYTES * slot) bytes.now) }
-{
-    let from = SLOT_BYTES * slot as usize;
-    let mut made = Vec::new(alloc);
-    made.extend_from_slice(&block[..from])?;
-    made.extend_from_slice(bytes)?;
-    made.extend_from_slice(&block[from + SLOT_BYTES..])?;
-    Ok(made)
-}
+use std::alloc::Global;
 
 // The block of a directory in which a slot lies, and its bytes with these in the slot.
 fn slotted_block(

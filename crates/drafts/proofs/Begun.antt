@@ -16,8 +16,8 @@ use Rattle.inode.specs.Read.{Saw}
 use Rattle.inode.specs.Snap.{MayWrite, is_seen, same_addr}
 use Rattle.inode.proofs.AllTests.{all_three}
 use Rattle.drafts.specs.Drafted.{Drafted, IsAfter, IsDraft, IsKept}
-use Rattle.drafts.specs.OnGrid.{is_on_grid, is_part}
-use Rattle.drafts.proofs.OnGrid.{is_object, on_grid}
+use Rattle.layout_records.specs.OnGrid.{is_on_grid, is_part}
+use Rattle.layout_records.proofs.OnGrid.{is_object, on_grid}
 
 abbrev of_image : Geometry → ObjectBytes → Bool
 of_image g object = is_on_grid g object.addr

@@ -7,6 +7,5 @@ pub mod OtherWrites
 pub mod Stops
 pub mod PutThere
 pub mod FewBlocks
-pub mod OnGrid
 pub mod Begun
 pub mod Kept

@@ -5,6 +5,7 @@ use Rattle.limits.specs.declared.TheConstants.{BLOCK_BYTES}
 use Rattle.disk.specs.Crash.{Image}
 use Rattle.objects.specs.declared.addr.Addr.{Addr}
 use Rattle.model.specs.Tree.{Tree}
+use Rattle.layout.specs.declared.grid.TheConstants.{PIECE_BYTES}
 use Rattle.layout.specs.Holds.{Holds}
 use Rattle.layout.specs.Objects.{IsObject}
 use Rattle.txn.specs.Object.{ObjectBytes}
@@ -50,7 +51,7 @@ pub record IsDraft (draft : Drafted) (blocks : Image) (tree : Tree) : Type 0 whe
 
 -- an inode or a data block, and no part of a bitmap
 abbrev pub is_spent : ObjectBytes → Bool
-is_spent object = not (nat_eq object.addr.len 512)
+is_spent object = not (nat_eq object.addr.len PIECE_BYTES)
 
 -- how many inodes and data blocks were written
 abbrev pub spent : Drafted → ℕ

@@ -1,4 +1,3 @@
-pub mod OnGrid
 pub mod Drafted
 pub mod Laid
 pub mod Attributes

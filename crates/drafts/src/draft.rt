@@ -4,23 +4,23 @@ ghost use Rattle.std.specs.Prelude.{vec_len, vec_capacity, IfErr, IfOk, OnOk};
 ghost use Rattle.limits.specs.declared.TheConstants.{BLOCK_BYTES, CHANGED_BLOCKS};
 ghost use Rattle.disk.specs.Crash.{Image};
 ghost use Rattle.model.specs.Tree.{Tree};
+ghost use Rattle.layout.specs.declared.grid.TheConstants.{PIECE_BYTES};
 ghost use Rattle.layout.specs.Holds.{Holds};
 ghost use Rattle.layout.specs.Objects.{IsObject};
 ghost use Rattle.layout.specs.Parts.{with_bytes};
 ghost use Rattle.inode.specs.declared.stop.Stop.{Stop};
 ghost use Rattle.inode.specs.Over.{IsPause, MayStop};
 ghost use Rattle.inode.specs.Read.{Saw};
-ghost use Rattle.inode.specs.Snap.{MayWrite, is_claimed, is_seen};
+ghost use Rattle.inode.specs.Snap.{MayWrite, is_seen};
 ghost use Rattle.txn.specs.Group.{blocks_of};
 ghost use Rattle.txn.specs.Object.{ObjectBytes};
 ghost use Rattle.drafts.specs.Drafted.{IsDraft, MOST_SPENT, Shows, image_of, spent};
-ghost use Rattle.drafts.specs.OnGrid.{is_on_grid};
+ghost use Rattle.layout_records.specs.OnGrid.{is_on_grid};
 ghost use Rattle.drafts.specs.Laid.{laid};
 
-use crate::grid::is_on_grid;
-use disk::BlockNo;
 use inode::{Snap, Stop};
 use layout::Geometry;
+use layout_records::is_on_grid;
 use limits::BLOCK_BYTES;
 use objects::Addr;
 use std::alloc::{AllocError, Global};
@@ -74,13 +74,6 @@ impl<'a> Draft<'a> {
         &self.there
     }
 
-    /// Whether a block was claimed, so that it may be written without having been read.
-    pub fn has_claim(&self, block: BlockNo) -> bool
-        ensures { result ≡ is_claimed block self.now.seen.claims.items }
-    {
-        self.seen.has_claim(block)
-    }
-
     /// Writes an object of the image. One that was neither read nor claimed as a whole block is asked for.
     pub fn put(&mut self, addr: Addr, bytes: Vec<u8>) -> Result<(), Stop>
         requires len { length bytes.items ≡ addr.len }
@@ -91,7 +84,7 @@ impl<'a> Draft<'a> {
             ≡ with_bytes (image_of blocks self.old) addr.block.0 addr.offset bytes.items) }
         ensures seen { self.new.seen ≡ self.old.seen }
         ensures geometry { self.new.there.geometry ≡ self.old.there.geometry }
-        ensures spent { spent self.new ≤ spent self.old + cond (nat_eq addr.len 512) 0 1 }
+        ensures spent { spent self.new ≤ spent self.old + cond (nat_eq addr.len PIECE_BYTES) 0 1 }
         ensures err { IfErr result (λ stop. MayStop self.old.seen stop) }
         ensures pause { IfErr result (λ stop. IsPause stop) }
     {

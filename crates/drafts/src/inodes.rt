@@ -10,7 +10,6 @@ ghost use Rattle.drafts.specs.Drafted.{Shows, image_of, spent};
 use crate::Draft;
 use inode::Stop;
 use layout::Inode;
-use limits::INODE_BYTES;
 use std::alloc::Global;
 
 impl<'a> Draft<'a> {
@@ -53,7 +52,7 @@ impl<'a> Draft<'a> {
         if number >= geometry.inodes {
             return Err(Stop::Io);
         }
-        let bytes = vec![in alloc; 0; INODE_BYTES]?;
+        let bytes = Inode::free(alloc)?;
         self.put(geometry.inode_addr(number), bytes)?;
         Ok(())
     }

@@ -2,7 +2,6 @@
 #![tactic(auto)]
 
 mod draft;
-mod grid;
 mod inodes;
 mod setting;
 

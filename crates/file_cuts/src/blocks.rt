@@ -1,8 +1,7 @@
 //! The blocks of a file that is cut.
-ghost use Rattle.std.specs.Prelude.{◌≡◌, ◌+◌, ◌*◌, ◌++◌, ◌≤◌, length, true, IfErr, IfOk, OnOk};
+ghost use Rattle.std.specs.Prelude.{◌≡◌, ◌+◌, ◌++◌, ◌≤◌, length, true, IfErr, IfOk, OnOk};
 ghost use Rattle.limits.specs.declared.TheConstants.{BLOCK_BYTES, INDIRECT_INDEXES};
 ghost use Rattle.disk.specs.Crash.{Image};
-ghost use Rattle.layout.specs.Fields.{number_bytes};
 ghost use Rattle.layout.specs.InodeForm.{is_data_block_or_none};
 ghost use Rattle.model.specs.Tree.{Tree};
 ghost use Rattle.inode.specs.Over.{IsPause, MayStop};
@@ -14,6 +13,7 @@ ghost use Rattle.file_cuts.specs.CutBlocks.{HasNumbers, HasZeros};
 use disk::BlockNo;
 use drafts::Draft;
 use inode::{Stop, data_block};
+use layout::Numbers;
 use limits::BLOCK_BYTES;
 use objects::Addr;
 use std::alloc::{AllocError, Global};
@@ -60,18 +60,6 @@ pub(crate) fn zero_from(
     draft.put(Addr::whole(BlockNo(number)), bytes)
 }
 
-// The bytes of numbers, 4 each.
-fn bytes_of(alloc: Global, numbers: &[u32]) -> Result<Vec<u8>, AllocError>
-    ensures len { IfOk result (λ bytes. length bytes.items ≡ 4 * length numbers.now) }
-    ensures is { IfOk result (λ bytes. bytes.items ≡ number_bytes numbers.now) }
-{
-    let mut bytes = Vec::new(alloc);
-    for number in numbers {
-        bytes.extend_from_slice(&number.to_le_bytes())?;
-    }
-    Ok(bytes)
-}
-
 /// Writes the numbers in a block, if there is one.
 pub(crate) fn put_numbers(
     alloc: Global,
@@ -96,6 +84,6 @@ pub(crate) fn put_numbers(
     if number == 0 {
         return Ok(());
     }
-    let bytes = bytes_of(alloc, numbers)?;
+    let bytes = Numbers::spelled(alloc, numbers)?;
     draft.put(Addr::whole(BlockNo(number)), bytes)
 }

@@ -14,26 +14,10 @@ ghost use Rattle.drafts.specs.Drafted.{Shows, image_of, spent};
 use disk::BlockNo;
 use drafts::Draft;
 use inode::{Snap, Stop, data_block};
+use layout_records::with_piece;
 use limits::BLOCK_BYTES;
 use objects::Addr;
-use std::alloc::{AllocError, Global};
-
-/// These bytes with others in the place of those from an offset on.
-pub fn with_piece(
-    alloc: Global,
-    bytes: &[u8],
-    from: usize,
-    piece: &[u8],
-) -> Result<Vec<u8>, AllocError>
-    requires { from + length piece.now ≤ length bytes.now }
-    ensures { IfOk result (λ new. new.items ≡ spliced bytes.now from piece.now) }
-{
-    let mut new = Vec::new(alloc);
-    new.extend_from_slice(&bytes[..from])?;
-    new.extend_from_slice(piece)?;
-    new.extend_from_slice(&bytes[from + piece.len()..])?;
-    Ok(new)
-}
+use std::alloc::Global;
 
 /// The bytes of the block of a number, zeros where there is none, with a piece in them.
 pub(crate) fn filled(

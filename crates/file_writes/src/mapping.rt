@@ -8,12 +8,12 @@ ghost use Rattle.inode.specs.Over.{IsPause, MayStop, number_at};
 ghost use Rattle.drafts.specs.Drafted.{IsDraft, image_of, spent};
 ghost use Rattle.file_writes.specs.Written.{IsWrite, node_written};
 
-use crate::blocks::with_piece;
 use crate::inodes::{led_far, naming, sized, store, store_far};
 use bitmap::take_block;
 use drafts::Draft;
 use inode::{Stop, data_block};
 use layout::Inode;
+use layout_records::with_number;
 use limits::{BLOCK_BYTES, DIRECT_INDEXES};
 use std::alloc::Global;
 
@@ -123,8 +123,7 @@ pub(crate) fn map_far(
     };
     match take_block(alloc, draft) {
         Ok(Some(block)) => {
-            let place = 4 * (index - DIRECT_INDEXES);
-            let numbers = with_piece(alloc, &old, place, &block.to_le_bytes())?;
+            let numbers = with_number(alloc, &old, index - DIRECT_INDEXES, block)?;
             let same = sized(inode, size);
             let indirect = inode.indirect;
             match store_far(alloc, draft, number, indirect, numbers, block, bytes, &same) {
@@ -175,9 +174,8 @@ pub(crate) fn map_first(
     };
     match take_block(alloc, draft) {
         Ok(Some(far)) => {
-            let place = 4 * (index - DIRECT_INDEXES);
             let zeros = [0; BLOCK_BYTES];
-            let numbers = with_piece(alloc, &zeros, place, &block.to_le_bytes())?;
+            let numbers = with_number(alloc, &zeros, index - DIRECT_INDEXES, block)?;
             let led = led_far(inode, size, far);
             match store_far(alloc, draft, number, far, numbers, block, bytes, &led) {
                 Ok(()) => Ok(true),

@@ -13,10 +13,6 @@ use Rattle.layout.specs.Fields.{numbers_at}
 use Rattle.layout.specs.InodeForm.{is_data_block_or_none, is_sound_kind, is_sound_file, is_sound_map}
 use Rattle.layout.specs.InodeForm.{is_sound_link, names_first}
 use Rattle.layout.specs.Parts.{content_in}
-use Rattle.inode.specs.declared.snap.Snap.{Snap}
-use Rattle.inode.specs.declared.stop.Stop.{Stop}
-use Rattle.inode.specs.declared.stop.Stop.TheVariants as stop
-use Rattle.inode.specs.Read.{Saw, NamesOthers, NoneStand}
 use Rattle.inode.proofs.AllTests.{all_three, all_five, all_two}
 use Rattle.inode.proofs.InodeThere.{is_sound, is_of_kind, indirect_is, indirect_long}
 
@@ -49,24 +45,3 @@ module _ (g : Geometry) (content : Image) (inode : Inode) (some : nat_eq inode.i
       (names_first 1 inode.direct) (nat_eq inode.indirect 0)
       (all_two _ (is_none inode.verifier) three.2).0 in
       let clash : true ≡ false = sym rules.4 ∙ some in cc
-
-pub none_name_others : (snap : Snap) (number : ℕ) (inode : Inode) (why : Stop)
-    → number < snap.geometry.inodes
-    → ((blocks : Image) → Saw blocks snap → inode_at snap.geometry blocks number ≡ Ok (Some inode))
-    → NamesOthers snap inode.indirect why → NoneStand snap why
-none_name_others snap number inode (stop.Need addr) less there names = tt
-none_name_others snap number inode stop.NoMemory less there names = tt
-none_name_others snap number inode (stop.Claim block) less there names = tt
-none_name_others snap number inode stop.Io less there names = λ blocks tree holds saw.
-    let read : inode_at snap.geometry blocks number ≡ Ok (Some inode) = there blocks saw in
-    let told = names blocks saw
-    (indirect_long snap.geometry blocks tree number inode holds less read) in
-    let passed = far_pass snap.geometry (content_in snap.geometry blocks) inode told.0 inode.kind
-    (is_sound snap.geometry blocks tree number inode holds less read)
-    (is_of_kind snap.geometry blocks tree number inode holds less read) in
-    let same : list_all (is_data_block_or_none snap.geometry)
-    (numbers_at INDIRECT_INDEXES 0 (blocks inode.indirect)) ≡ true =
-    ap (λ block. list_all (is_data_block_or_none snap.geometry)
-    (numbers_at INDIRECT_INDEXES 0 block))
-    (sym (indirect_is snap.geometry blocks tree number inode holds less read told.0)) ∙ passed in
-    let clash : true ≡ false = sym same ∙ told.1 in cc

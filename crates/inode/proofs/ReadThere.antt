@@ -47,17 +47,6 @@ whole_there blocks indirect addr bytes block offset len there long =
     sym there ∙ (λ i. take (len i) (drop (offset i) (blocks (block i))))
     ∙ take_all BLOCK_BYTES (blocks indirect) (omega (arith, long))
 
--- what an indirect block that was read keeps
-pub held_there : (blocks : Image) (indirect mapped : ℕ) (addr : Addr) (bytes numbers : List ℕ)
-    → addr.block.0 ≡ indirect → addr.offset ≡ 0 → addr.len ≡ BLOCK_BYTES → object_at blocks addr ≡ bytes
-    → length (blocks indirect) ≡ BLOCK_BYTES
-    → nat_eq indirect 0 ≡ false → numbers ≡ numbers_at INDIRECT_INDEXES 0 bytes → mapped ≡ count_of numbers
-    → mapped + 1 ≡ cond (nat_eq indirect 0) 0 (count_of (numbers_at INDIRECT_INDEXES 0 (blocks indirect)) + 1)
-held_there blocks indirect mapped addr bytes numbers block offset len there long some numbers_are kept_is =
-    let same : bytes ≡ blocks indirect = whole_there blocks indirect addr bytes block offset len there long in
-    ap (λ k. k + 1) (kept_is ∙ ap count_of (numbers_are ∙ ap (numbers_at INDIRECT_INDEXES 0) same))
-    ∙ sym (ap (λ b. cond b 0 (count_of (numbers_at INDIRECT_INDEXES 0 (blocks indirect)) + 1)) some)
-
 -- an inode that was read, where it isn't free
 pub was_read : (g : Geometry) (objects : List ObjectBytes) (number : ℕ) (addr : Addr)
     → IsInodeAddr g number addr → (bytes : List ℕ) → WasRead objects addr bytes → (found : Option Inode)

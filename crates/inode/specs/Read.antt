@@ -42,19 +42,12 @@ pub record WasReadInode (g : Geometry) (objects : List ObjectBytes) (number : �
     pub read : WasRead objects addr bytes
     pub is_inode : read_inode g bytes ≡ Ok (Some inode)
 
--- a plan stops for the inode of a number, for a whole block, and for what the file of a handle asks for
+-- a plan stops for the inode of a number
 abbrev pub IsAskedInode : Geometry → ℕ → Stop → Type 0
 IsAskedInode g number (stop.Need addr) = IsInodeAddr g number addr
 IsAskedInode g number (stop.Claim block) = ⊥
 IsAskedInode g number stop.Io = Unit {0}
 IsAskedInode g number stop.NoMemory = Unit {0}
-
-abbrev pub IsAskedWhole : ℕ → Stop → Type 0
-IsAskedWhole number (stop.Need addr) = (block : BlockNo) × (block.0 ≡ number) × (number ≢ 0)
-    × IsWhole block addr
-IsAskedWhole number (stop.Claim block) = ⊥
-IsAskedWhole number stop.Io = Unit {0}
-IsAskedWhole number stop.NoMemory = Unit {0}
 
 -- these blocks have what was read
 abbrev pub AreAsRead : Image → List ObjectBytes → Type 0
@@ -71,14 +64,3 @@ NoneStand snap stop.Io = (blocks : Image) (tree : Tree) → Holds snap.geometry 
 NoneStand snap stop.NoMemory = Unit {0}
 NoneStand snap (stop.Need addr) = Unit {0}
 NoneStand snap (stop.Claim block) = Unit {0}
-
--- the plan failed as the indirect block of this number names what is no data block
-abbrev pub NamesOthers : Snap → ℕ → Stop → Type 0
-NamesOthers snap indirect stop.Io = (blocks : Image) → Saw blocks snap
-    → length (blocks indirect) ≡ BLOCK_BYTES
-    → (nat_eq indirect 0 ≡ false)
-    × (list_all (is_data_block_or_none snap.geometry)
-    (numbers_at INDIRECT_INDEXES 0 (blocks indirect)) ≡ false)
-NamesOthers snap indirect stop.NoMemory = Unit {0}
-NamesOthers snap indirect (stop.Need addr) = Unit {0}
-NamesOthers snap indirect (stop.Claim block) = Unit {0}

@@ -1,6 +1,6 @@
 //! What is in regular files and in links.
 ghost use Rattle.std.specs.Prelude.{[], ◌≡◌, ◌+◌, ◌-◌, ◌%◌, ◌<◌, ◌≤◌, ◌++◌, ℕ, true, take, drop, length, IfOk, IfErr, OnOk};
-ghost use Rattle.limits.specs.declared.TheConstants.{BLOCK_BYTES, LARGEST_FILE};
+ghost use Rattle.limits.specs.declared.TheConstants.{BLOCK_BYTES, FILE_INDEXES, LARGEST_FILE};
 ghost use Rattle.disk.specs.Crash.{Image};
 ghost use Rattle.model.specs.Tree.{Tree};
 ghost use Rattle.layout.specs.declared.inode.InodeKind.TheVariants as kinds;
@@ -64,6 +64,35 @@ fn piece_len(at: u64, end: u64) -> usize
     }
 }
 
+// Asks for the block at an index of a file, if it has one.
+fn ask_block(snap: &Snap, inode: &Inode, index: usize) -> Result<(), Stop>
+    requires { index < FILE_INDEXES }
+    ensures err { IfErr result (λ stop. MayStop snap.now stop) }
+    ensures pause { IfErr result (λ stop. (blocks : Image) (tree : Tree) (file : ℕ)
+        → HasInode snap.now blocks tree file inode.now → IsPause stop) }
+{
+    let number = block_number(snap, inode, index)?;
+    if number != 0 {
+        data_block(snap, number)?;
+    }
+    Ok(())
+}
+
+// Asks for the blocks of a file from one place to another, so that its bytes are copied only once all are there.
+fn ask_between(snap: &Snap, inode: &Inode, start: u64, end: u64) -> Result<(), Stop>
+    requires { end ≤ LARGEST_FILE }
+    ensures err { IfErr result (λ stop. MayStop snap.now stop) }
+    ensures pause { IfErr result (λ stop. (blocks : Image) (tree : Tree) (file : ℕ)
+        → HasInode snap.now blocks tree file inode.now → IsPause stop) }
+{
+    let first = (start / BLOCK_BYTES as u64) as usize;
+    let past = ((end + BLOCK_BYTES as u64 - 1) / BLOCK_BYTES as u64) as usize;
+    'indexes: for index in first..past {
+        ask_block(snap, inode, index)?;
+    }
+    Ok(())
+}
+
 // The bytes of a file's blocks from one place to another.
 fn bytes_between(
     alloc: Global,
@@ -81,7 +110,8 @@ fn bytes_between(
     ensures pause { IfErr result (λ stop. (blocks : Image) (tree : Tree) (file : ℕ)
         → HasInode snap.now blocks tree file inode.now → IsPause stop) }
 {
-    let mut bytes = Vec::new(alloc);
+    ask_between(snap, inode, start, end)?;
+    let mut bytes = Vec::with_capacity(alloc, (end - start) as usize)?;
     let mut at = start;
     'pieces: while at < end {
         let len = piece_len(at, end);

@@ -11,6 +11,6 @@ mod stop;
 pub use bytes::{piece, target};
 pub use inodes::{file_kind, held, used_of};
 pub use map::{block_number, data_block};
-pub use read::{bytes_at, inode_of, used_by};
+pub use read::{bytes_at, inode_of};
 pub use snap::Snap;
 pub use stop::Stop;

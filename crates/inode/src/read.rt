@@ -1,24 +1,16 @@
 //! What lies in an image's blocks, once it was read.
-ghost use Rattle.std.specs.Prelude.{◌≡◌, ◌≢◌, true, ◌+◌, ◌<◌, ◌≤◌, length, cond, nat_eq, Ok, IfErr, IfOk};
-ghost use Rattle.std.specs.Prelude.{IfSome};
-ghost use Rattle.std.specs.List.{list_all};
-ghost use Rattle.limits.specs.declared.TheConstants.{BLOCK_BYTES, INDIRECT_INDEXES};
+ghost use Rattle.std.specs.Prelude.{◌≡◌, ◌<◌, length, Ok, IfErr, IfOk, IfSome};
 ghost use Rattle.disk.specs.Crash.{Image};
 ghost use Rattle.layout.specs.Decode.{inode_at};
-ghost use Rattle.layout.specs.Fields.{numbers_at, count_of};
-ghost use Rattle.layout.specs.InodeForm.{is_data_block_or_none};
 ghost use Rattle.txn.specs.Window.{object_at};
 ghost use Rattle.inode.specs.Snap.{IsNew};
-ghost use Rattle.inode.specs.Read.{WasRead, WasReadInode, IsAskedInode, IsAskedWhole};
-ghost use Rattle.inode.specs.Read.{Saw, NoneStand, NamesOthers};
+ghost use Rattle.inode.specs.Read.{WasRead, WasReadInode, IsAskedInode, Saw, NoneStand};
 ghost use Rattle.inode.specs.declared.stop.Stop.TheVariants as stop;
 
 use crate::snap::Snap;
 use crate::stop::Stop;
-use disk::BlockNo;
-use layout::{Inode, Numbers};
+use layout::Inode;
 use objects::Addr;
-use std::alloc::Global;
 
 /// The bytes at an address, once they were read.
 pub fn bytes_at(snap: &Snap, addr: Addr) -> Result<&[u8], Stop>
@@ -33,31 +25,6 @@ pub fn bytes_at(snap: &Snap, addr: Addr) -> Result<&[u8], Stop>
     match snap.get(addr) {
         Some(object) => Ok(object.bytes()),
         None => Err(Stop::Need(addr)),
-    }
-}
-
-/// How many blocks the indirect block of this number maps, and itself.
-pub fn used_by(alloc: Global, snap: &Snap, indirect: u32) -> Result<u32, Stop>
-    ensures ok { IfOk result (λ used. used ≤ INDIRECT_INDEXES + 1) }
-    ensures used { IfOk result (λ used. (blocks : Image) → Saw blocks snap.now
-        → length (blocks indirect) ≡ BLOCK_BYTES
-        → used ≡ cond (nat_eq indirect 0) 0
-        (count_of (numbers_at INDIRECT_INDEXES 0 (blocks indirect)) + 1)) }
-    ensures places { IfOk result (λ used. (blocks : Image) → Saw blocks snap.now
-        → length (blocks indirect) ≡ BLOCK_BYTES → indirect ≢ 0
-        → list_all (is_data_block_or_none snap.now.geometry) (numbers_at INDIRECT_INDEXES 0 (blocks indirect))
-        ≡ true) }
-    ensures err { IfErr result (λ stop. IsNew snap.now stop) }
-    ensures io { IfErr result (λ stop. NamesOthers snap.now indirect stop) }
-    ensures asks { IfErr result (λ stop. IsAskedWhole indirect stop) }
-{
-    if indirect == 0 {
-        return Ok(0);
-    }
-    let bytes = bytes_at(snap, Addr::whole(BlockNo(indirect)))?;
-    match Numbers::read(alloc, &snap.geometry, bytes)? {
-        Ok(numbers) => Ok(numbers.mapped() + 1),
-        Err(_) => Err(Stop::Io),
     }
 }
 

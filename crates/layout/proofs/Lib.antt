@@ -12,8 +12,6 @@ pub mod Spelled
 pub mod Fits
 pub mod Written
 pub mod WrittenBytes
-pub mod Retouched
-pub mod ChangedInode
 pub mod Mapped
 pub mod Used
 pub mod FreshHomes

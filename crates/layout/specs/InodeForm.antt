@@ -210,30 +210,3 @@ pub record IsInode (g : Geometry) (bytes : List ℕ) (inode : Inode) : Type 0 wh
 abbrev pub IsInTable : Geometry → List ℕ → Option Inode → Type 0
 IsInTable g bytes None = bytes ≡ replicate INODE_BYTES 0
 IsInTable g bytes (Some inode) = IsInode g bytes inode
-
--- what of an inode is no matter of its blocks, its kind or its links, nor of how its file was made
-pub record Touch : Type 0 where
-  pub mode : ℕ
-  pub uid : ℕ
-  pub gid : ℕ
-  pub atime : Moment
-  pub mtime : Moment
-  pub ctime : Moment
-
-abbrev pub touched : Inode → Touch → Inode
-touched inode t = record inode {
-  mode = t.mode;
-  uid = t.uid;
-  gid = t.gid;
-  atime = t.atime;
-  mtime = t.mtime;
-  ctime = t.ctime;
-}
-
-pub record SoundTouch (t : Touch) : Type 0 where
-  pub mode : t.mode ≤ MODE_BITS
-  pub uid : t.uid < 2 ^ 32
-  pub gid : t.gid < 2 ^ 32
-  pub atime : SoundTime t.atime
-  pub mtime : SoundTime t.mtime
-  pub ctime : SoundTime t.ctime

@@ -1,10 +1,11 @@
 -- The slot of a directory: a name and the number of the file that it names.
-use Rattle.std.specs.Prelude.{◌≡◌, ℕ, ◌+◌, ◌-◌, ◌^◌, ◌<◌, ◌≤◌, Bool, cond, ◌&&◌, List, ◌++◌, length, nat_eq}
+use Rattle.std.specs.Prelude.{◌≡◌, ℕ, ◌+◌, ◌-◌, ◌*◌, ◌^◌, ◌<◌, ◌≤◌, Bool, cond, ◌&&◌, List, ◌++◌, length, nat_eq}
 use Rattle.std.specs.Prelude.{nat_le}
 use Rattle.std.specs.Prelude.{nat_lt, take, drop, replicate, Option, Some, None, Result, Ok, Err}
 use Rattle.std.specs.Cmp.Lexicographic.{slice_cmp}
 use Rattle.std.specs.Ordering.{is_eq, nat_cmp}
-use Rattle.limits.specs.declared.TheConstants.{NAME_BYTES}
+use Rattle.limits.specs.declared.TheConstants.{BLOCK_BYTES, NAME_BYTES}
+use Rattle.objects.specs.Spliced.{spliced}
 use Rattle.layout.specs.declared.fault.LayoutFault.{LayoutFault}
 use Rattle.layout.specs.declared.fault.LayoutFault.TheVariants.{Range}
 use Rattle.layout.specs.declared.slot.Slot.{Slot}
@@ -45,6 +46,14 @@ abbrev pub used_bytes : Slot → List ℕ
 used_bytes slot =
     four_bytes slot.number ++ four_bytes (length slot.name) ++ slot.name
     ++ replicate (SLOT_BYTES - NAME_AT - length slot.name) 0
+
+-- a block of a directory in whose first slot a name lies, and in no other
+abbrev pub first_slot : Slot → List ℕ
+first_slot slot = used_bytes slot ++ replicate (BLOCK_BYTES - SLOT_BYTES) 0
+
+-- a block of a directory with these bytes in a slot
+abbrev pub with_slot : List ℕ → ℕ → List ℕ → List ℕ
+with_slot block slot bytes = spliced block (SLOT_BYTES * slot) bytes
 
 -- it names an inode of an image of so many, and its name has a lawful length
 pub record SoundSlot (inodes : ℕ) (slot : Slot) : Type 0 where

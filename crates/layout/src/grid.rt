@@ -6,6 +6,15 @@ ghost use Rattle.objects.specs.declared.addr.Addr.{Addr};
 ghost use Rattle.layout.specs.declared.geometry.Geometry.{Geometry};
 ghost use Rattle.layout.specs.Objects.{IsObject};
 
+/// The bytes of a piece of a bitmap, as it is read and written at once.
+pub const PIECE_BYTES: usize = 512;
+
+/// The bits of a piece of a bitmap.
+pub const PIECE_BITS: u32 = 4096;
+
+/// The pieces of a block of a bitmap.
+pub const PIECES_PER_BLOCK: u32 = 8;
+
 /// The objects of an image lie behind the log and within the image.
 pub fn objects_lie_at_home()
     ensures { (g : Geometry) (addr : Addr) → IsObject g addr

@@ -1,5 +1,5 @@
 //! Inodes: what the disk has of a file in 128 bytes.
-ghost use Rattle.std.specs.Prelude.{◌≡◌, ◌≤◌, length, IfOk, IfErr, Option};
+ghost use Rattle.std.specs.Prelude.{◌≡◌, ◌≤◌, length, replicate, IfOk, IfErr, Option};
 ghost use Rattle.limits.specs.declared.TheConstants.{INODE_BYTES};
 ghost use Rattle.layout.specs.InodeForm.{read_inode, IsInTable};
 
@@ -69,22 +69,19 @@ impl Inode {
         Ok(bytes)
     }
 
+    /// The bytes of a free inode: nothing but zeros.
+    pub fn free(alloc: Global) -> Result<Vec<u8>, AllocError>
+        ensures { IfOk result (λ bytes. bytes.items ≡ replicate INODE_BYTES 0) }
+    {
+        vec![in alloc; 0; INODE_BYTES]
+    }
+
     /// How many blocks it names directly.
     pub fn directly_used(&self) -> u32
         ensures few { result ≤ DIRECT_INDEXES }
         ensures count { result ≡ count_of self.now.direct }
     {
         count_mapped(&self.direct)
-    }
-
-    /// The inode with another mode, changed at the moment.
-    pub fn with_mode(&self, mode: u32, moment: Moment) -> Inode
-        ensures { result ≡ record (self.now) { mode = mode; ctime = moment } }
-    {
-        let mut inode = *self;
-        inode.mode = mode;
-        inode.ctime = moment;
-        inode
     }
 }
 

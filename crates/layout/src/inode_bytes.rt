@@ -44,8 +44,8 @@ fn put_verifier(bytes: &mut Vec<u8>, verifier: Option<Verifier>) -> Result<(), A
     }
 }
 
-// Adds numbers of 4 bytes.
-fn put_numbers(bytes: &mut Vec<u8>, numbers: &[u32]) -> Result<(), AllocError>
+/// Adds numbers of 4 bytes.
+pub(crate) fn put_numbers(bytes: &mut Vec<u8>, numbers: &[u32]) -> Result<(), AllocError>
     ensures bytes { OnOk result (bytes.new.items ≡ bytes.old.items ++ number_bytes numbers.now) }
     ensures len { OnOk result (length bytes.new.items ≡ length bytes.old.items + 4 * length numbers.now) }
 {

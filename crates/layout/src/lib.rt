@@ -25,10 +25,12 @@ pub use fresh::{
 };
 pub use fresh_image::FreshImage;
 pub use geometry::{Geometry, GeometryFault};
-pub use grid::{objects_are_one_or_apart, objects_lie_at_home};
+pub use grid::{
+    PIECE_BITS, PIECE_BYTES, PIECES_PER_BLOCK, objects_are_one_or_apart, objects_lie_at_home,
+};
 pub use inode::{Inode, InodeKind};
-pub use laws::{a_changed_mode_stands, a_touched_inode_stands, blocks_stand_for_one_tree};
-pub use numbers::Numbers;
+pub use laws::blocks_stand_for_one_tree;
+pub use numbers::{NUMBER_BYTES, Numbers};
 pub use slot::{SLOT_BYTES, Slot};
 pub use spellings::{
     a_block_is_one_super_block, a_slot_is_its_bytes, a_super_block_has_one_spelling,

@@ -1,16 +1,20 @@
 //! Indirect blocks: the numbers of the blocks that an inode doesn't name itself.
-ghost use Rattle.std.specs.Prelude.{◌≡◌, ◌<◌, ◌≤◌, true, false, get_or, length, IfOk, IfErr};
+ghost use Rattle.std.specs.Prelude.{◌≡◌, ◌*◌, ◌<◌, ◌≤◌, true, false, get_or, length, IfOk, IfErr};
 ghost use Rattle.std.specs.List.{list_all};
 ghost use Rattle.limits.specs.declared.TheConstants.{BLOCK_BYTES, INDIRECT_INDEXES};
-ghost use Rattle.layout.specs.Fields.{numbers_at, count_of};
+ghost use Rattle.layout.specs.Fields.{numbers_at, number_bytes, count_of};
 ghost use Rattle.layout.specs.InodeForm.{is_data_block_or_none};
 
 use crate::fields::four_at;
+use crate::inode_bytes::put_numbers;
 use crate::inode_rules::are_data_blocks_or_none;
 use crate::{Geometry, LayoutFault};
 use limits::{BLOCK_BYTES, INDIRECT_INDEXES};
 use std::alloc::{AllocError, Global};
 use std::marker::Model;
+
+/// The bytes of a number in an indirect block.
+pub const NUMBER_BYTES: usize = 4;
 
 /// The numbers of an indirect block, 0 where no block is mapped.
 #[derive(Drop)]
@@ -49,7 +53,7 @@ impl Numbers {
     {
         let mut numbers = Vec::with_capacity(alloc, INDIRECT_INDEXES)?;
         'indexes: for index in 0..INDIRECT_INDEXES {
-            numbers.push(four_at(bytes, 4 * index))?;
+            numbers.push(four_at(bytes, NUMBER_BYTES * index))?;
         }
         if !are_data_blocks_or_none(geometry, &numbers) {
             return Ok(Err(LayoutFault::Range));
@@ -63,7 +67,17 @@ impl Numbers {
         requires index { index < INDIRECT_INDEXES }
         ensures { result ≡ get_or (numbers_at INDIRECT_INDEXES 0 bytes.now) index 0 }
     {
-        four_at(bytes, 4 * index)
+        four_at(bytes, NUMBER_BYTES * index)
+    }
+
+    /// The bytes of an indirect block with these numbers.
+    pub fn spelled(alloc: Global, numbers: &[u32]) -> Result<Vec<u8>, AllocError>
+        ensures bytes { IfOk result (λ bytes. bytes.items ≡ number_bytes numbers.now) }
+        ensures len { IfOk result (λ bytes. length bytes.items ≡ NUMBER_BYTES * length numbers.now) }
+    {
+        let mut bytes = Vec::new(alloc);
+        put_numbers(&mut bytes, numbers)?;
+        Ok(bytes)
     }
 
     /// How many blocks it maps.

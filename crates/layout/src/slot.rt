@@ -1,11 +1,11 @@
 //! Slots: what the disk has of a name in a directory in 128 bytes.
 ghost use Rattle.std.specs.Prelude.{◌≡◌, ◌*◌, ◌<◌, ◌≤◌, length, take, drop, IfOk, IfErr, Option};
 ghost use Rattle.limits.specs.declared.TheConstants.{BLOCK_BYTES, NAME_BYTES, SLOTS_PER_BLOCK};
-ghost use Rattle.layout.specs.Fields.{four_at};
-ghost use Rattle.layout.specs.SlotForm.{is_sound_slot, number_under, read_slot, IsInDirectory};
+ghost use Rattle.layout.specs.Fields.{four_at, is_zeros};
+ghost use Rattle.layout.specs.SlotForm.{is_sound_slot, number_under, read_slot, used_bytes, IsInDirectory};
 
 use crate::LayoutFault;
-use crate::fields::{four_at, is_zeros};
+use crate::fields::{four_at, is_zeros, put_four};
 use limits::{BLOCK_BYTES, NAME_BYTES, SLOTS_PER_BLOCK};
 use nfs_types::Octets;
 use std::alloc::{AllocError, Global};
@@ -55,6 +55,29 @@ impl Slot {
         let (_, behind) = block.split_at(SLOT_BYTES * slot as usize);
         let (bytes, _) = behind.split_at(SLOT_BYTES);
         bytes
+    }
+
+    /// The bytes of a slot in which a name lies.
+    pub fn named(alloc: Global, number: u32, name: &[u8]) -> Result<Vec<u8>, AllocError>
+        requires { length name.now ≤ NAME_BYTES }
+        ensures bytes { IfOk result (λ bytes. bytes.items
+            ≡ used_bytes (record { number = number; name = name.now })) }
+        ensures len { IfOk result (λ bytes. length bytes.items ≡ SLOT_BYTES) }
+    {
+        let mut bytes = Vec::with_capacity(alloc, SLOT_BYTES)?;
+        put_four(&mut bytes, number)?;
+        put_four(&mut bytes, name.len() as u32)?;
+        bytes.extend_from_slice(name)?;
+        let rest = vec![in alloc; 0; SLOT_BYTES - NAME_AT - name.len()]?;
+        bytes.extend_from_slice(&rest)?;
+        Ok(bytes)
+    }
+
+    /// Whether a slot is free: nothing but zeros.
+    pub fn is_free(bytes: &[u8]) -> bool
+        ensures { result ≡ is_zeros bytes.now }
+    {
+        is_zeros(bytes)
     }
 
     /// The number that a slot has under a name: None where it is free or has another name. It is refused

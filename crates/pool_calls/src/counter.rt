@@ -7,7 +7,7 @@ use std::sync::ledger::{Book, Ledger, Share};
 
 /// A ledger whose parts a type may name.
 pub trait Whole: Ledger {
-    /// Its parts.
+    /// Its parts, where who names the ledger says so.
     ghost all: { ℕ };
 }
 

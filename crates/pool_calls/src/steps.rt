@@ -17,12 +17,12 @@ pub fn step_logger<C: Change, G: Whole>(
     counter: &mut Counter<G>,
     seat: &mut IoSeat<G>,
 ) -> Turn
-    requires { G.all ≡ G.parts }
     ensures step { HasTurned may_log core.old seat.old.io seat.old.answer result core.new seat.new.io
         seat.new.answer }
     ensures numbered { seat.old.io ≡ None → IfSome seat.new.io (λ handed.
-        number_of handed ≡ length counter.old.count.items + 1) }
-    ensures counted { length counter.new.count.items ≡ seat.new.calls.amount }
+        number_of handed ≡ seat.old.calls.amount + 1) }
+    ensures counted { G.all ≡ G.parts → (length counter.old.count.items ≡ seat.old.calls.amount)
+        × (length counter.new.count.items ≡ seat.new.calls.amount) }
     ensures taken { seat.new.taken ≡ seat.old.taken }
 {
     let IoSeat {
@@ -30,6 +30,7 @@ pub fn step_logger<C: Change, G: Whole>(
         answer,
         calls,
         taken: _,
+        number,
     } = seat;
     counter.book.audit(calls);
     match io.take() {
@@ -40,8 +41,9 @@ pub fn step_logger<C: Change, G: Whole>(
             match core.log_next() {
                 None => Turn::Idle,
                 Some(next) => {
-                    let handed = handed_out(DeviceIo::Log(next), &counter.count);
+                    let handed = handed_out(DeviceIo::Log(next), number);
                     counter.add(calls);
+                    *number = number.and(&(), &());
                     *answer = None;
                     put(io, handed);
                     Turn::Moved
@@ -67,12 +69,12 @@ pub fn step_installer<C: Change, G: Whole>(
     counter: &mut Counter<G>,
     seat: &mut IoSeat<G>,
 ) -> Turn
-    requires { G.all ≡ G.parts }
     ensures step { HasTurned may_install core.old seat.old.io seat.old.answer result core.new seat.new.io
         seat.new.answer }
     ensures numbered { seat.old.io ≡ None → IfSome seat.new.io (λ handed.
-        number_of handed ≡ length counter.old.count.items + 1) }
-    ensures counted { length counter.new.count.items ≡ seat.new.calls.amount }
+        number_of handed ≡ seat.old.calls.amount + 1) }
+    ensures counted { G.all ≡ G.parts → (length counter.old.count.items ≡ seat.old.calls.amount)
+        × (length counter.new.count.items ≡ seat.new.calls.amount) }
     ensures taken { seat.new.taken ≡ seat.old.taken }
 {
     let IoSeat {
@@ -80,6 +82,7 @@ pub fn step_installer<C: Change, G: Whole>(
         answer,
         calls,
         taken: _,
+        number,
     } = seat;
     counter.book.audit(calls);
     match io.take() {
@@ -90,8 +93,9 @@ pub fn step_installer<C: Change, G: Whole>(
             match core.inst_next() {
                 None => Turn::Idle,
                 Some(next) => {
-                    let handed = handed_out(DeviceIo::Install(next), &counter.count);
+                    let handed = handed_out(DeviceIo::Install(next), number);
                     counter.add(calls);
+                    *number = number.and(&(), &());
                     *answer = None;
                     put(io, handed);
                     Turn::Moved
@@ -111,14 +115,14 @@ pub fn step_installer<C: Change, G: Whole>(
     }
 }
 
-// A call of the number that comes after so many.
-fn handed_out(io: DeviceIo, before: &Log<(), ()>) -> HandedOut
+// A call of the number that comes after this one.
+fn handed_out(io: DeviceIo, number: &Log<(), ()>) -> HandedOut
     ensures io { result.io ≡ io }
-    ensures number { number_of result ≡ length before.now.items + 1 }
+    ensures number { number_of result ≡ length number.now.items + 1 }
 {
     HandedOut {
         io,
-        count: before.and(&(), &()),
+        count: number.and(&(), &()),
     }
 }
 
@@ -154,6 +158,7 @@ pub fn give_up<C: Change, G: Whole>(core: &mut Core<C>, seat: IoSeat<G>)
         answer,
         calls: _,
         taken: _,
+        number: _,
     } = seat;
     if let Some(handed) = io {
         give_back(core, handed, answer == Some(Ok(())));
@@ -175,6 +180,7 @@ pub fn make_call<G: Whole, P: Port, T: Gate>(seat: &mut IoSeat<G>, port: &mut P,
         answer,
         calls: _,
         taken,
+        number: _,
     } = seat;
     let Some(out) = io.as_ref() else {
         return false;

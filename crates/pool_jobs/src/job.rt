@@ -17,3 +17,22 @@ pub struct Job {
     pub(crate) message: Snapshot<Bytes>,
     pub ghost spelled: { SpellsJob message.value xid credential call },
 }
+
+impl Job {
+    ghost use Rattle.std.specs.Prelude.{◌≡◌};
+
+    /// Who calls, and what.
+    pub fn into_parts(self) -> (Credential, Call)
+        ensures { result ≡ (self.credential, self.call) }
+    {
+        let Job {
+            key: _,
+            number: _,
+            xid: _,
+            credential,
+            call,
+            message: _,
+        } = self;
+        (credential, call)
+    }
+}

@@ -1,9 +1,10 @@
 -- What a plan stops for is an object of the image.
-use Rattle.std.proofs.Common.{◌≡◌, ℕ, ◌<◌, ap, ◌∙◌, refl, subst, List, true, false}
+use Rattle.std.proofs.Common.{◌≡◌, ℕ, ◌<◌, sym, ap, ◌∙◌, refl, subst, List, true, false}
 use Rattle.std.proofs.Common.{arith, Ok, Err, Bool, cond, ◌&&◌, Option, Some, None, nat_eq}
 use Rattle.std.specs.List.{list_all}
 use Rattle.std.proofs.lemmas.Bool.Decides.{nat_tests}
-use Rattle.disk.specs.declared.block.BlockNo.{BlockNo}
+use Rattle.limits.specs.declared.TheConstants.{BLOCK_BYTES}
+use Rattle.objects.specs.declared.addr.Addr.{Addr}
 use Rattle.layout.specs.declared.fault.LayoutFault.TheVariants.{Range}
 use Rattle.layout.specs.declared.geometry.Geometry.{Geometry}
 use Rattle.layout.specs.declared.inode.Inode.{Inode}
@@ -17,7 +18,7 @@ use Rattle.layout.proofs.AllNumbers.{map_is}
 use Rattle.inode.specs.declared.snap.Snap.{Snap}
 use Rattle.inode.specs.declared.stop.Stop.{Stop}
 use Rattle.inode.specs.declared.stop.Stop.TheVariants.{Need, Claim, Io, NoMemory}
-use Rattle.inode.specs.Read.{IsAskedInode, IsAskedWhole, WasReadInode}
+use Rattle.inode.specs.Read.{IsAskedInode, WasReadInode}
 use Rattle.inode.proofs.AllTests.{all_two}
 use Rattle.inode.proofs.InodeThere.{data_of}
 use Rattle.procs.specs.Asks.{IsAsked}
@@ -69,13 +70,7 @@ asks_inode snap number within (Claim block) at = absurd at
 asks_inode snap number within Io at = tt
 asks_inode snap number within NoMemory at = tt
 
-pub asks_indirect : (snap : Snap) (number : ℕ) (one : Inode)
-    → WasReadInode snap.geometry snap.objects.items number one → (why : Stop) → IsAskedWhole one.indirect why
-    → IsAsked snap why
-asks_indirect snap number one read (Need addr) at =
-    let lies = names_data snap.geometry one (read_sound snap.geometry read.bytes one read.is_inode) at.2 in
-    let same : addr.block.0 ≡ one.indirect = ap (λ (b : BlockNo). b.0) at.3.0 ∙ at.1 in
-    whole (ap (is_data snap.geometry) same ∙ lies) at.3.1 at.3.2
-asks_indirect snap number one read (Claim block) at = absurd at
-asks_indirect snap number one read Io at = tt
-asks_indirect snap number one read NoMemory at = tt
+pub far_data : (snap : Snap) (number : ℕ) (one : Inode) → WasReadInode snap.geometry snap.objects.items number one
+    → (one.indirect ≡ 0 → ⊥) → is_data snap.geometry one.indirect ≡ true
+far_data snap number one read some =
+    names_data snap.geometry one (read_sound snap.geometry read.bytes one read.is_inode) some

@@ -1,6 +1,6 @@
 -- What was read shows that the layout doesn't refuse the file of a handle.
 use Rattle.std.proofs.Common.{rules, ◌≡◌, ◌≢◌, ℕ, ◌^◌, ◌<◌, inl, inr, sym, ap, ◌∙◌, subst, true, false}
-use Rattle.std.proofs.Common.{◌&&◌, nat_eq, not, refl, List, [], length, Option, Some, None, Result, Ok, Err, arith}
+use Rattle.std.proofs.Common.{◌&&◌, nat_eq, not, refl, List, [], length, Option, Some, None, Result, Ok, Err, IfOk, arith}
 use Rattle.std.specs.List.{list_all}
 use Rattle.std.proofs.lemmas.Bool.{eq-eqb}
 use Rattle.limits.specs.declared.TheConstants.{BLOCK_BYTES, INDIRECT_INDEXES}
@@ -22,8 +22,16 @@ use Rattle.procs.specs.declared.next.Plan.{Plan}
 use Rattle.procs.specs.declared.next.Plan.TheVariants as plan
 use Rattle.inode.specs.declared.snap.Snap.{Snap}
 use Rattle.procs.specs.Outcome.{Outcome}
-use Rattle.procs.specs.Refused.{IsDoneWith, IsIoWhereRefused, IsRefusedFile, NamesNoData, NoneRefusedIn}
+use Rattle.procs.specs.Refused.{IsDoneWith, IsIoWhereRefused, IsRefusedBy, IsRefusedFile, NamesNoData}
+use Rattle.procs.specs.Refused.{NoneRead, NoneRefused, NoneRefusedIn, first_handle}
 use Rattle.procs.proofs.FewAsked.{some_same}
+use Rattle.procs.proofs.AskedFor.{far_data}
+use Rattle.objects.specs.declared.addr.Addr.{Addr}
+use Rattle.nfs_types.specs.declared.handle.Handle.{Handle}
+use Rattle.layout.specs.Places.{is_data}
+use Rattle.inode.specs.Read.{WasRead, WasReadInode}
+use Rattle.inspection.specs.Refused.{IsRefused, refused_block, refused_numbers}
+use Rattle.inspection.proofs.Seen.{seen_of}
 
 pub number_read : (number : ℕ) (stamp : Stamp) → number < 2 ^ 32
     → number_in (handle_bytes number stamp) ≡ number
@@ -83,15 +91,58 @@ module _ (g : Geometry) (blocks : Image) (handle : List ℕ) (number : ℕ) (sta
           ∙ some.2 ∙ stamp_is)
     ]
 
-    pub not_found : (length (blocks inode.indirect) ≡ BLOCK_BYTES → inode.indirect ≢ 0
-        → list_all (is_data_block_or_none g) (numbers_at INDIRECT_INDEXES 0 (blocks inode.indirect)) ≡ true) → ⊥
-    not_found places = elim refused.why [
+    pub names_no_data : (NamesNoData g blocks inode → ⊥) → ⊥
+    names_no_data none = elim refused.why [
       | inl fault ↦ err_ok (Some inode) (sym fault ∙ at_is (Ok (Some inode)) read)
-      | inr some ↦ (let names : NamesNoData g blocks inode =
-          subst (NamesNoData g blocks) (some_same some.0 inode
-          (sym some.1 ∙ at_is (Ok (Some inode)) read)) some.3 in
-          never (sym (places names.whole names.some) ∙ names.refused))
+      | inr some ↦
+          none
+          (subst (NamesNoData g blocks) (some_same some.0 inode (sym some.1 ∙ at_is (Ok (Some inode)) read)) some.3)
     ]
+
+-- an indirect block that names no data, with its inode, was read and is refused
+pub far_refused : (snap : Snap) (blocks : Image) (number : ℕ) (inode : Inode) (addr : Addr) (bytes : List ℕ)
+    → number < snap.geometry.inodes → WasReadInode snap.geometry snap.objects.items number inode
+    → inode_at snap.geometry blocks number ≡ Ok (Some inode) → is_data snap.geometry inode.indirect ≡ true
+    → addr.block.0 ≡ inode.indirect → addr.offset ≡ 0 → addr.len ≡ BLOCK_BYTES
+    → WasRead snap.objects.items addr bytes → NamesNoData snap.geometry blocks inode → IsRefused snap blocks
+far_refused snap blocks number inode addr bytes less inode_read is lies block offset len far_read names = record {
+  number = number;
+  addr = inode_read.addr;
+  at =
+      record { less = less; block = inode_read.at.block; offset = inode_read.at.offset; len = inode_read.at.len };
+  read =
+      seen_of inode_read.addr inode_read.read.object snap.objects.items inode_read.read.there inode_read.read.at;
+  file = refused_block inode is (refused_numbers (record {
+    lies = lies;
+    addr = addr;
+    block = block;
+    offset = offset;
+    len = len;
+    read = seen_of addr far_read.object snap.objects.items far_read.there far_read.at;
+    whole = names.whole;
+  }) names.refused);
+}
+
+-- an inode that was read and has an indirect block has a data block there
+pub no_data_none : (snap : Snap) (blocks : Image) (number : ℕ) (inode : Inode)
+    → WasReadInode snap.geometry snap.objects.items number inode → is_data snap.geometry inode.indirect ≡ false
+    → NamesNoData snap.geometry blocks inode → ⊥
+no_data_none snap blocks number inode read not names =
+    never (sym (far_data snap number inode read names.some) ∙ not)
+
+-- ---- what comes of all results
+
+pub for_all : {A B : Type 0} {P : Type 0} (r : Result A B) → P → IfOk r (λ done. P)
+for_all (Ok a) p = p
+for_all (Err b) p = tt
+
+pub none_in : (asked : Call) (snap : Snap) (handle : Handle) → first_handle asked ≡ Some handle
+    → NoneRefused snap handle.bytes → NoneRefusedIn snap asked
+none_in asked snap handle is none = λ blocks saw refused.
+    none blocks saw (subst (IsRefusedBy snap.geometry blocks) is refused)
+
+pub none_without : (asked : Call) (snap : Snap) → first_handle asked ≡ None → NoneRefusedIn snap asked
+none_without asked snap is = λ blocks saw refused. subst (IsRefusedBy snap.geometry blocks) is refused
 
 -- ---- the test of stamps
 
@@ -104,9 +155,12 @@ stamps_differ a b e is =
 
 -- ---- plans
 
-pub io_by_none : (asked : Call) (snap : Snap) (next : Plan) → NoneRefusedIn snap asked
+pub io_by_none : (asked : Call) (snap : Snap) (next : Plan) → NoneRefusedIn snap asked × NoneRead snap
     → IsIoWhereRefused asked snap next
-io_by_none asked snap (plan.Done done) none = λ blocks saw refused. absurd (none blocks saw refused)
+io_by_none asked snap (plan.Done done) none = λ blocks saw refused. elim refused [
+  | inl first ↦ absurd (none.0 blocks saw first)
+  | inr read ↦ absurd (none.1 blocks saw read)
+]
 io_by_none asked snap (plan.Need addr) none = tt
 io_by_none asked snap (plan.Claim block) none = tt
 io_by_none asked snap plan.NoMemory none = tt

@@ -1,4 +1,4 @@
--- When the layout refuses what a call's file has.
+-- When the layout refuses what a call's first handle names, or something that was read for the call.
 use Rattle.std.specs.Prelude.{◌≡◌, ◌≢◌, ℕ, ◌<◌, ◌⊎◌, false, List, [], Option, Some, None, Ok, Err, length}
 use Rattle.std.specs.List.{list_all}
 use Rattle.limits.specs.declared.TheConstants.{BLOCK_BYTES, HANDLE_BYTES, INDIRECT_INDEXES}
@@ -20,6 +20,7 @@ use Rattle.procs.specs.declared.next.Plan.TheVariants as plan
 use Rattle.inode.specs.declared.snap.Snap.{Snap}
 use Rattle.procs.specs.Outcome.{Outcome}
 use Rattle.inode.specs.Read.{Saw}
+use Rattle.inspection.specs.Refused.{IsRefused}
 
 -- the inode has an indirect block, and this names what is no data block
 pub record NamesNoData (g : Geometry) (blocks : Image) (inode : Inode) : Type 0 where
@@ -78,10 +79,16 @@ NoneRefused snap handle = (blocks : Image) → Saw blocks snap → IsRefusedFile
 abbrev pub NoneRefusedIn : Snap → Call → Type 0
 NoneRefusedIn snap call = (blocks : Image) → Saw blocks snap → IsRefusedIn snap.geometry blocks call → ⊥
 
--- where blocks that have what was read are refused a plan ends in IO, with nothing told and nothing written
+-- in these blocks the layout refuses nothing that was read
+abbrev pub NoneRead : Snap → Type 0
+NoneRead snap = (blocks : Image) → Saw blocks snap → IsRefused snap blocks → ⊥
+
+-- Where the layout refuses the file of a call's first handle, or any object that was read for the call, in blocks
+-- that have what was read, a plan ends in IO, with nothing told and nothing written.
 abbrev pub IsIoWhereRefused : Call → Snap → Plan → Type 0
 IsIoWhereRefused call snap (plan.Done done) = (blocks : Image) → Saw blocks snap
-    → IsRefusedIn snap.geometry blocks call → (done.reply ≡ refused Io call) × (done.written ≡ [])
+    → IsRefusedIn snap.geometry blocks call ⊎ IsRefused snap blocks
+    → (done.reply ≡ refused Io call) × (done.written ≡ [])
 IsIoWhereRefused call snap (plan.Need addr) = Unit {0}
 IsIoWhereRefused call snap (plan.Claim block) = Unit {0}
 IsIoWhereRefused call snap plan.NoMemory = Unit {0}

@@ -3,11 +3,12 @@ ghost use Rattle.std.specs.Prelude.{◌≡◌, Some, None, IfErr, IfNone, IfOk, 
 ghost use Rattle.inode.specs.Read.{NoneStand};
 ghost use Rattle.inode.specs.Snap.{IsNew};
 ghost use Rattle.procs.specs.Asks.{IsAsked};
-ghost use Rattle.procs.specs.Refused.{NoneRefused, first_handle};
+ghost use Rattle.procs.specs.Refused.{NoneRead, NoneRefused, first_handle};
 
-use inode::{Snap, Stop, inode_of, used_by};
+use disk::BlockNo;
+use inode::{Snap, Stop, bytes_at, inode_of};
 use nfs_types::{Call, Handle};
-use std::alloc::Global;
+use objects::Addr;
 
 /// The handle of a call that is looked at first, if it has one.
 pub(crate) fn first_handle(call: &Call) -> Option<&Handle>
@@ -39,13 +40,13 @@ pub(crate) fn first_handle(call: &Call) -> Option<&Handle>
     }
 }
 
-/// Asks for the inode that a handle names and for its indirect block, if there are any, and stops for IO where the
-/// layout refuses one of them.
-pub(crate) fn read_file(alloc: Global, snap: &Snap, handle: &Handle) -> Result<(), Stop>
+/// Asks for the inode that a handle names and for its indirect block, if there are any. Where the layout refuses
+/// nothing that was read, neither of these is refused behind it.
+pub(crate) fn read_file(snap: &Snap, handle: &Handle) -> Result<(), Stop>
     ensures err { IfErr result (λ stop. IsNew snap.now stop) }
     ensures io { IfErr result (λ stop. NoneStand snap.now stop) }
     ensures asks { IfErr result (λ stop. IsAsked snap.now stop) }
-    ensures sound { IfOk result (λ _. NoneRefused snap.now handle.now.bytes) }
+    ensures sound { IfOk result (λ _. NoneRead snap.now → NoneRefused snap.now handle.now.bytes) }
 {
     let Some((number, stamp)) = handle.parts() else {
         return Ok(());
@@ -59,6 +60,8 @@ pub(crate) fn read_file(alloc: Global, snap: &Snap, handle: &Handle) -> Result<(
     if inode.stamp != stamp {
         return Ok(());
     }
-    used_by(alloc, snap, inode.indirect)?;
+    if snap.geometry.is_data(inode.indirect) {
+        bytes_at(snap, Addr::whole(BlockNo(inode.indirect)))?;
+    }
     Ok(())
 }

@@ -5,7 +5,7 @@ ghost use Rattle.inode.specs.Snap.{IsNew};
 ghost use Rattle.procs.specs.Asks.{IsAsked};
 ghost use Rattle.procs.specs.Finished.{EndsFrom};
 ghost use Rattle.procs.specs.Planned.{IsPlanFor, IsStepPlan};
-ghost use Rattle.procs.specs.Refused.{IsDoneWith, IsIoWhereRefused, NoneRefusedIn};
+ghost use Rattle.procs.specs.Refused.{IsDoneWith, IsIoWhereRefused, NoneRead, NoneRefusedIn};
 ghost use Rattle.procs.specs.Steps.{IsStepOf, NoneStandFor};
 
 use crate::changing::change_call;
@@ -16,6 +16,7 @@ use crate::reading::{first_handle, read_file};
 use crate::refused::refused_reply;
 use crate::telling::{tell_call, told};
 use inode::{Snap, Stop};
+use inspection::{is_refused, what_is_refused_is_in_no_tree};
 use nfs_types::{Call, Ctx, Status};
 use std::alloc::Global;
 
@@ -54,7 +55,7 @@ fn answer(alloc: Global, ctx: &Ctx, call: &Call, snap: &Snap) -> Result<Draft, S
     }
 }
 
-// The same, where the file of the call's first handle is read before.
+// The same, where nothing that was read is refused, and the file of the call's first handle is read before.
 fn work(alloc: Global, ctx: &Ctx, call: &Call, snap: &Snap) -> Result<Draft, Stop>
     requires { has_rules call.now ≡ true }
     ensures ok { IfOk result (λ done. EndsFrom snap.now done) }
@@ -62,10 +63,14 @@ fn work(alloc: Global, ctx: &Ctx, call: &Call, snap: &Snap) -> Result<Draft, Sto
     ensures err { IfErr result (λ stop. IsNew snap.now stop) }
     ensures asks { IfErr result (λ stop. IsAsked snap.now stop) }
     ensures io { IfErr result (λ stop. NoneStandFor ctx.now call.now snap.now stop) }
-    ensures sound { IfOk result (λ done. NoneRefusedIn snap.now call.now) }
+    ensures sound { IfOk result (λ done. NoneRefusedIn snap.now call.now × NoneRead snap.now) }
 {
+    if is_refused(snap) {
+        what_is_refused_is_in_no_tree();
+        return Err(Stop::Io);
+    }
     match first_handle(call) {
-        Some(handle) => match read_file(alloc, snap, handle) {
+        Some(handle) => match read_file(snap, handle) {
             Ok(()) => answer(alloc, ctx, call, snap),
             Err(stop) => Err(stop),
         },
@@ -87,8 +92,8 @@ fn finish(ctx: &Ctx, call: &Call, snap: &Snap, draft: Draft) -> Plan
 }
 
 /// What a call needs next, or what comes of it, by what was read so far. It asks for one object at a time,
-/// and begins anew each time. An object that the layout refuses makes it IO, with nothing told and nothing
-/// written. Where blocks stand for a tree what comes of the call is a step of the sequential server, so that
+/// and begins anew each time. Any object that was read and that the layout refuses makes it IO, with nothing
+/// told and nothing written. Where blocks stand for a tree what comes of the call is a step of the sequential server, so that
 /// it is never IO there.
 pub fn plan(alloc: Global, ctx: &Ctx, call: &Call, snap: &Snap) -> Plan
     requires { has_rules call.now ≡ true }

@@ -1,7 +1,7 @@
 -- Each step of a worker that is alone is one that may be made.
 use Rattle.std.proofs.Common.{◌≡◌, ◌∙◌, ◌↔◌, refl, sym, ap, subst, true≢false, ℕ, ◌+◌, ◌^◌, ◌≤◌, arith, Bool}
 use Rattle.std.proofs.Common.{true, false, ◌||◌, nat_eq, nat_le, IsTrue, Option, Some, None, List, [], ◌∷◌}
-use Rattle.std.proofs.Common.{length, map, All}
+use Rattle.std.proofs.Common.{◌<◌, length, map, All, IfSome}
 use Rattle.std.proofs.Common.{Ok, Err}
 use Rattle.std.specs.Prelude.{IsSomeAnd}
 use Rattle.std.specs.List.{list_any}
@@ -37,7 +37,7 @@ use Rattle.txn.specs.declared.outcomes.Commit.TheVariants as commit
 use Rattle.txn.specs.declared.outcomes.Want.{Want}
 use Rattle.txn.specs.declared.outcomes.Want.TheVariants as want
 use Rattle.txn_law.specs.Commit.{IsReadBy, Planned}
-use Rattle.txn_law.specs.Core.{CoreState}
+use Rattle.txn_law.specs.Core.{CoreState, IsOut}
 use Rattle.txn_law.specs.Fetch.{Fetch}
 use Rattle.txn_law.specs.Group.{blocks_of}
 use Rattle.txn_law.specs.Leaves.{in_memory}
@@ -129,7 +129,7 @@ module _ (o : Setting) (told : Told) (worker : ℕ) (base : Image) (store : Stor
     (run : IsRunningOver o base store fetches boot first entries last)
     (is_told : IsTold o told store) (inodes : o.geometry.inodes ≡ store.core.inodes)
     (tx : ℕ) (seen : Seen)
-    (fetched : List Addr) (has : HasOfCall tx store.core seen) (loaded : AreLoadedFor store.core tx fetched)
+    (fetched : List Addr) (is_out : IsOut store.core tx) (has : HasOfCall tx store.core seen) (loaded : AreLoadedFor store.core tx fetched)
     (one_geometry : (g h : Geometry) → g.blocks ≡ h.blocks → g.inodes ≡ h.inodes → g ≡ h) where
   abbrev begun : Begun
   begun = begun_of (Some tx) (Some seen) fetched
@@ -165,8 +165,10 @@ module _ (o : Setting) (told : Told) (worker : ℕ) (base : Image) (store : Stor
     wish_may new (want.NoMemory back) is off = tt
     wish_may new (want.Busy back) is off = absurd (true≢false off)
     wish_may new (want.Loading back) is off = absurd (true≢false off)
-    wish_may new (want.Outside back) is off = absurd (is.1 (subst (λ (n : ℕ). IsHomeOn n addr.block) has.blocks
-        (at_home seen.geometry addr asks)))
+    wish_may new (want.Outside back) is off = absurd (is.1 (record {
+      out = is_out;
+      home = subst (λ (n : ℕ). IsHomeOn n addr.block) has.blocks (at_home seen.geometry addr asks);
+    }))
     wish_may new (want.Fetch back io) is off = not_loaded is.2.absent
 
     pub wanted_may : (new : CoreState) (answer : Want) → IsWanted store.core tx addr modes.Exclusive answer new
@@ -190,8 +192,11 @@ module _ (o : Setting) (told : Told) (worker : ℕ) (base : Image) (store : Stor
     claim_may new (claim.Busy back) is off = absurd (true≢false off)
     claim_may new (claim.Loading back) is off = absurd (true≢false off)
     claim_may new (claim.Outside back) is off =
-        absurd (is.1 (subst (λ (n : ℕ). IsHomeOn n addr.block) has.blocks
-        (at_home seen.geometry addr (claimed_object seen.geometry block addr claims whole))))
+        absurd (is.1 (record {
+          out = is_out;
+          home = subst (λ (n : ℕ). IsHomeOn n addr.block) has.blocks
+              (at_home seen.geometry addr (claimed_object seen.geometry block addr claims whole));
+        }))
 
     pub claimed_may : (new : CoreState) (answer : Claim) → IsClaimed store.core tx addr answer new
         → is_kept_off (Some (step.Claimed block (claim_wish answer))) ≡ false
@@ -271,7 +276,8 @@ module _ (o : Setting) (told : Told) (number : ℕ) (base : Image) (store : Stor
     (run : IsRunningOver o base store fetches boot first entries last)
     (is_told : IsTold o told store) (inodes : o.geometry.inodes ≡ store.core.inodes)
     (worker : State) (new : Side)
-    (one_geometry : (g h : Geometry) → g.blocks ≡ h.blocks → g.inodes ≡ h.inodes → g ≡ h) where
+    (one_geometry : (g h : Geometry) → g.blocks ≡ h.blocks → g.inodes ≡ h.inodes → g ≡ h)
+    (is_out : IfSome worker.begun.tx (IsOut store.core)) where
   abbrev old : Side
   old = side worker store.core
 
@@ -308,7 +314,14 @@ module _ (o : Setting) (told : Told) (number : ℕ) (base : Image) (store : Stor
     broken_is ∙ none.0,
     subst (λ (n : ℕ). 2 ^ 64 ≤ n + 1) (sym is_told.begun) (let spent = none.1 in omega (arith, spent)),
   )
-  not_begun_may fault.NoMemory none = absurd none
+  not_begun_may fault.NoMemory none = (
+    broken_is ∙ none.0,
+    subst (λ (n : ℕ). n + 1 < 2 ^ 64) (sym is_told.begun) none.1,
+  )
+
+  -- its transaction is out
+  out_in : (tx : ℕ) → worker.begun.tx ≡ Some tx → IsOut store.core tx
+  out_in tx tx_is = subst (λ (o : Option ℕ). IfSome o (IsOut store.core)) tx_is is_out
 
   -- it goes by a plan
   from_plan : (job : Job) (tx : ℕ) (snap : Snap) (made : Step) → worker.work.job ≡ Some job
@@ -326,7 +339,7 @@ module _ (o : Setting) (told : Told) (number : ℕ) (base : Image) (store : Stor
   wanted_so tx addr made tx_is is has plans loads stands off =
       from_plan is.job tx is.snap _ is.job_is tx_is is.snap_is
       (wanted_may o told number base store fetches boot first last entries run is_told inodes tx
-      (seen_of is.snap) worker.asked.fetched
+      (seen_of is.snap) worker.asked.fetched (out_in tx tx_is)
       (has_of worker store.core is.job tx (seen_of is.snap) is.job_is tx_is is.snap_is plans)
       (some_of (λ n. AreLoadedFor store.core n worker.asked.fetched) worker.begun.tx tx tx_is loads)
       one_geometry addr is.plan.1 is.plan.0 new.core has.answer has.core off)
@@ -337,7 +350,7 @@ module _ (o : Setting) (told : Told) (number : ℕ) (base : Image) (store : Stor
   claimed_so tx block made tx_is is has plans loads stands off =
       from_plan is.job tx is.snap _ is.job_is tx_is is.snap_is
       (claimed_may o told number base store fetches boot first last entries run is_told inodes tx
-      (seen_of is.snap) worker.asked.fetched
+      (seen_of is.snap) worker.asked.fetched (out_in tx tx_is)
       (has_of worker store.core is.job tx (seen_of is.snap) is.job_is tx_is is.snap_is plans)
       (some_of (λ n. AreLoadedFor store.core n worker.asked.fetched) worker.begun.tx tx tx_is loads)
       one_geometry block is.plan.1 is.plan.0 has.core.0 has.core.1 new.core has.answer has.core.2 off)
@@ -426,9 +439,21 @@ module _ (o : Setting) (told : Told) (number : ℕ) (base : Image) (store : Stor
         has.settled_is);
   }
 
-  pub step_may : (made : Option Step) → GoesOn worker.phase old made new → IsCoreAtWork worker store.core
+  step_may_out : (made : Option Step) → GoesOn worker.phase old made new → IsCoreAtWork worker store.core
       → IsWorkerAt boot entries worker → MayFrom (progress_of worker) made
-  step_may made goes at worker_at = by_cases old new May may_cases worker.phase made goes
+  step_may_out made goes at worker_at = by_cases old new May may_cases worker.phase made goes
       at.alone.plans at.loads worker_at.stands
       (never_kept_off old new run.since.over.tidy at.alone.out at.alone.fetches worker.phase made
       at.with.sound.fetch at.alone.plans goes)
+
+pub step_may : (o : Setting) (told : Told) (number : ℕ) (base : Image) (store : StoreSide)
+    (fetches : List Fetch) (boot : ℕ) (first last : Tree) (entries : List Entry)
+    (run : IsRunningOver o base store fetches boot first entries last) (is_told : IsTold o told store)
+    (inodes : o.geometry.inodes ≡ store.core.inodes) (worker : State) (new : Side)
+    (one_geometry : (g h : Geometry) → g.blocks ≡ h.blocks → g.inodes ≡ h.inodes → g ≡ h) (made : Option Step)
+    → GoesOn worker.phase (side worker store.core) made new → IsCoreAtWork worker store.core
+    → IsWorkerAt boot entries worker → IsStepOfWork o told number (progress_of worker) made
+step_may o told number base store fetches boot first last entries run is_told inodes worker new one_geometry made
+    goes at worker_at =
+    step_may_out o told number base store fetches boot first last entries run is_told inodes worker new
+    one_geometry at.with.core_of.out made goes at worker_at

@@ -115,7 +115,7 @@ module _ (o : Setting) (told : Told) (number : ℕ) (store : StoreSide) (is_told
   begun_told job one has = record {
     log = is_told.log ∙ ap (λ (c : CoreState). log_told o.position c.log store.logging store.installing)
         (sym has.core);
-    begun = ap (λ (n : ℕ). n + 1) is_told.begun ∙ sym (ap (λ (c : CoreState). c.begun) has.core ∙ has.next);
+    begun = ap (λ (n : ℕ). n + 1) is_told.begun ∙ sym (ap (λ (c : CoreState). c.begun) has.core);
   }
 
   module _ (before : IsLawful store.core.log) (after : IsLawful new.core.log)

@@ -7,9 +7,9 @@ use Rattle.inode.specs.Over.{MayStop}
 use Rattle.inode.specs.Read.{Saw}
 use Rattle.inode.specs.Snap.{IsNew}
 use Rattle.drafts.specs.Drafted.{Shows, image_of}
-use Rattle.bitmap.specs.Bits.{HasBit}
+use Rattle.layout_records.specs.Bits.{HasBit}
 use Rattle.bitmap.proofs.Asked.{is_object}
-use Rattle.bitmap.proofs.OneBit.{written_back}
+use Rattle.layout_records.proofs.OneBit.{written_back}
 use Rattle.bitmap.proofs.PutBits.{puts}
 use Rattle.bitmap.proofs.marking.mark.Goals as goal
 

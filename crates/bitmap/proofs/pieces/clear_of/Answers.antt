@@ -1,7 +1,7 @@
 use Rattle.std.proofs.Common.{◌≡◌, ℕ, suc, ◌+◌, ◌*◌, ap, ◌∙◌, sum_by, arith}
 use Rattle.std.specs.List.{range_with_len}
-use Rattle.bitmap.specs.Clear.{clear_in}
-use Rattle.bitmap.specs.Pieces.{piece_in}
+use Rattle.layout_records.specs.Bits.{clear_in}
+use Rattle.layout_records.specs.Bits.{piece_in}
 use Rattle.bitmap.proofs.Chunks.{clear_pieces}
 use Rattle.bitmap.proofs.Ranges.{one_more}
 use Rattle.bitmap.proofs.pieces.clear_of.Goals as goal

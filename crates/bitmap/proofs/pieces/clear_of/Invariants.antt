@@ -2,8 +2,8 @@ use Rattle.std.proofs.Common.{◌≡◌, ◌≤◌, ◌*◌, sum_by}
 use Rattle.std.specs.List.{range_with_len}
 use Rattle.disk.specs.Crash.{Image}
 use Rattle.inode.specs.Read.{Saw}
-use Rattle.bitmap.specs.Clear.{clear_in}
-use Rattle.bitmap.specs.Pieces.{piece_in}
+use Rattle.layout_records.specs.Bits.{clear_in}
+use Rattle.layout_records.specs.Bits.{piece_in}
 use Rattle.bitmap.proofs.pieces.clear_of.Given as goal
 
 abbrev pub invariant-loop-piece : goal.invariant-loop-piece

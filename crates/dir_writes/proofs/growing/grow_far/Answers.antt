@@ -13,8 +13,7 @@ use Rattle.drafts.proofs.PutThere.{moved_draft, over_of}
 use Rattle.bitmap.specs.NewBlock.{HasTaken}
 use Rattle.bitmap.proofs.NewBlocks.{none_taken}
 use Rattle.file_writes.specs.Filling.{mapping}
-use Rattle.file_writes.proofs.FarNumbers.{le_four}
-use Rattle.dir_writes.specs.Growing.{first_slot}
+use Rattle.layout.specs.SlotForm.{first_slot}
 use Rattle.dir_writes.proofs.GrownDirectory.{takes_one}
 use Rattle.dir_writes.proofs.GrownHolds.{far_grows}
 use Rattle.dir_writes.proofs.growing.grow_far.Goals as goal
@@ -45,10 +44,9 @@ returns-in-Ok-store_far-clause-ok c = λ blocks tree node name number draft grow
     let old : c.deref.result.now ≡ content_in g base far = c.deref.ensures.value ∙ c.in_ok-old-in-Ok.ensures.items ∙ was in
     let place : 4 * (c.args.index - DIRECT_INDEXES) ≡ 4 * (span_of inode - DIRECT_INDEXES) =
     ap (λ k. 4 * (k - DIRECT_INDEXES)) at in
-    let four : c.to_le_bytes.result ≡ four_bytes b = le_four b c.to_le_bytes.result c.to_le_bytes.ensures in
     let names = spliced (content_in g base far) (4 * (span_of inode - DIRECT_INDEXES)) (four_bytes b) in
     let named : numbers ≡ names =
-    c.in_ok-numbers-in-Ok-Some.ensures ∙ (λ i. spliced (old i) (place i) (four i)) in
+    c.in_ok-numbers-in-Ok-Some.ensures.made ∙ (λ i. spliced (old i) (place i) (four_bytes b)) in
     let size_is : c.size_with.result ≡ size = c.size_with.ensures ∙ ap (λ k. BLOCK_BYTES * (k + 1)) at in
     let same : c.sized-same.result ≡ new = c.sized-same.ensures ∙ ap (λ k. mapping inode k inode.direct far) size_is in
     let image = with_inode g (with_bytes (with_bytes middle far 0 names) b 0 block) n new in

@@ -11,8 +11,7 @@ use Rattle.drafts.proofs.PutThere.{moved_draft}
 use Rattle.bitmap.specs.NewBlock.{HasTaken}
 use Rattle.bitmap.proofs.NewBlocks.{none_taken}
 use Rattle.file_writes.specs.Filling.{mapping}
-use Rattle.file_writes.proofs.FarNumbers.{le_four}
-use Rattle.dir_writes.specs.Growing.{first_slot}
+use Rattle.layout.specs.SlotForm.{first_slot}
 use Rattle.dir_writes.proofs.GrownDirectory.{first_far, takes_one, takes_two}
 use Rattle.dir_writes.proofs.GrownHolds.{first_grows}
 use Rattle.dir_writes.proofs.growing.grow_first.Goals as goal
@@ -46,10 +45,9 @@ returns-in-Ok-clause-ok c = λ blocks tree node name number draft grows bytes_is
     let seen = c.in-Ok-Some-take_block.ensures.shows blocks shown in
     let place : 4 * (c.args.index - DIRECT_INDEXES) ≡ 4 * (span_of inode - DIRECT_INDEXES) =
     ap (λ k. 4 * (k - DIRECT_INDEXES)) at in
-    let four : c.to_le_bytes.result ≡ four_bytes b = le_four b c.to_le_bytes.result c.to_le_bytes.ensures in
     let names = spliced (replicate BLOCK_BYTES 0) (4 * (span_of inode - DIRECT_INDEXES)) (four_bytes b) in
     let named : numbers ≡ names =
-    c.in_ok-numbers-in-Ok-Some-take_block.ensures ∙ (λ i. spliced (replicate BLOCK_BYTES 0) (place i) (four i)) in
+    c.in_ok-numbers-in-Ok-Some-take_block.ensures.made ∙ (λ i. spliced (replicate BLOCK_BYTES 0) (place i) (four_bytes b)) in
     let size_is : c.size_with.result ≡ size = c.size_with.ensures ∙ ap (λ k. BLOCK_BYTES * (k + 1)) at in
     let led : c.led_far-led.result ≡ new = c.led_far-led.ensures ∙ ap (λ k. mapping inode k inode.direct far) size_is in
     let image = with_inode g (with_bytes (with_bytes middle far 0 names) b 0 block) n new in

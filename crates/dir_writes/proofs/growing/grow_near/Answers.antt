@@ -9,7 +9,7 @@ use Rattle.drafts.proofs.PutThere.{moved_draft}
 use Rattle.bitmap.specs.NewBlock.{HasTaken}
 use Rattle.bitmap.proofs.NewBlocks.{none_taken}
 use Rattle.file_writes.specs.Filling.{mapping}
-use Rattle.dir_writes.specs.Growing.{first_slot}
+use Rattle.layout.specs.SlotForm.{first_slot}
 use Rattle.dir_writes.proofs.GrownDirectory.{takes_one}
 use Rattle.dir_writes.proofs.GrownHolds.{near_grows}
 use Rattle.dir_writes.proofs.growing.grow_near.Goals as goal

@@ -25,5 +25,5 @@ returns-clause-numbers c =
     (λ q low. (before.long q low, are q low)) (omega (arith, count, all))
     (images blocks ∙ (λ i. with_bytes image (ap (λ (k : BlockNo). k.0) c.whole.ensures.value.0 i)
     (c.whole.ensures.value.1 i) c.in_ok-bytes.bytes.items))
-    c.args.numbers.now c.in_ok-bytes.ensures.is)
+    c.args.numbers.now c.in_ok-bytes.ensures.bytes)
     c.put.ensures.shows c.put.ensures.image

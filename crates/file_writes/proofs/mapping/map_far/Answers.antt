@@ -13,7 +13,7 @@ use Rattle.bitmap.specs.NewBlock.{HasTaken}
 use Rattle.bitmap.proofs.NewBlocks.{none_taken}
 use Rattle.file_writes.specs.Filling.{Fills, mapping}
 use Rattle.file_writes.proofs.Cases.{block_named_far}
-use Rattle.file_writes.proofs.FarNumbers.{le_four, named_count}
+use Rattle.file_writes.proofs.FarNumbers.{named_count}
 use Rattle.file_writes.proofs.PieceWritten.{long_content, not_zero}
 use Rattle.file_writes.proofs.Stored.{content_are, named_are, stored_far}
 use Rattle.file_writes.proofs.MappedFile.{as_mapped}
@@ -45,9 +45,8 @@ returns-in-Ok-store_far-clause-ok c =
     let place : 4 * (c.args.index - DIRECT_INDEXES) ≡ 4 * (offset / BLOCK_BYTES - DIRECT_INDEXES) =
     ap (λ k. 4 * (k - DIRECT_INDEXES)) at in
     let old : c.deref.result.now ≡ content_in g base far = c.deref.ensures.value ∙ c.in_ok-old-in-Ok.ensures.items ∙ was in
-    let four : c.to_le_bytes.result ≡ four_bytes b = le_four b c.to_le_bytes.result c.to_le_bytes.ensures in
     let named : numbers ≡ spliced (content_in g base far) (4 * (offset / BLOCK_BYTES - DIRECT_INDEXES)) (four_bytes b) =
-    c.in_ok-numbers-in-Ok-Some.ensures ∙ (λ i. spliced (old i) (place i) (four i)) in
+    c.in_ok-numbers-in-Ok-Some.ensures.made ∙ (λ i. spliced (old i) (place i) (four_bytes b)) in
     let image = with_bytes (with_bytes middle far 0 numbers) b 0 bytes in
     let written : with_inode c.take_block.new.draft.there.geometry image n c.sized-same.result
     ≡ with_inode g image n new =

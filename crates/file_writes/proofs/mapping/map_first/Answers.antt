@@ -12,7 +12,7 @@ use Rattle.bitmap.specs.NewBlock.{HasTaken}
 use Rattle.bitmap.proofs.NewBlocks.{none_taken}
 use Rattle.file_writes.specs.Filling.{Fills, mapping}
 use Rattle.file_writes.proofs.Cases.{block_named_first}
-use Rattle.file_writes.proofs.FarNumbers.{le_four, named_count}
+use Rattle.file_writes.proofs.FarNumbers.{named_count}
 use Rattle.file_writes.proofs.MappedFile.{as_mapped}
 use Rattle.file_writes.proofs.Stored.{named_are, stored_far, zeros_are}
 use Rattle.file_writes.proofs.mapping.map_first.Goals as goal
@@ -60,9 +60,8 @@ returns-in-Ok-clause-ok c =
     let seen = c.in-Ok-Some-take_block.ensures.shows blocks shown in
     let place : 4 * (c.args.index - DIRECT_INDEXES) ≡ 4 * (offset / BLOCK_BYTES - DIRECT_INDEXES) =
     ap (λ k. 4 * (k - DIRECT_INDEXES)) at in
-    let four : c.to_le_bytes.result ≡ four_bytes b = le_four b c.to_le_bytes.result c.to_le_bytes.ensures in
     let named : numbers ≡ spliced (replicate BLOCK_BYTES 0) (4 * (offset / BLOCK_BYTES - DIRECT_INDEXES)) (four_bytes b) =
-    c.in_ok-numbers-in-Ok-Some-take_block.ensures ∙ (λ i. spliced (replicate BLOCK_BYTES 0) (place i) (four i)) in
+    c.in_ok-numbers-in-Ok-Some-take_block.ensures.made ∙ (λ i. spliced (replicate BLOCK_BYTES 0) (place i) (four_bytes b)) in
     let image = with_bytes (with_bytes middle far 0 numbers) b 0 bytes in
     let written : with_inode c.take_block-2.new.draft.there.geometry image n c.led_far-led.result
     ≡ with_inode g image n new =

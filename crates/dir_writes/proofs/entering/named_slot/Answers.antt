@@ -1,7 +1,0 @@
-use Rattle.std.proofs.Common.{rules}
-use Rattle.layout.specs.Fields.{four_bytes}
-use Rattle.dir_writes.proofs.entering.named_slot.Goals as goal
-
-pub returns-clause-bytes : goal.returns-clause-bytes
-unfolding four_bytes
-returns-clause-bytes c = search rules

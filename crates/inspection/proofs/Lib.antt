@@ -1,0 +1,4 @@
+pub mod Tests
+pub mod Seen
+pub mod NoTree
+pub mod Files

@@ -1,0 +1,16 @@
+use Rattle.std.proofs.Common.{◌≡◌, ◌∙◌, sym, false, true}
+use Rattle.inspection.specs.Refused.{refused_numbers, refused_slots}
+use Rattle.inspection.proofs.blocks.has_refused_block.Goals as goal
+
+pub returns-in-Directory-clause-some : goal.returns-in-Directory-clause-some
+returns-in-Directory-clause-some c = λ is blocks are.
+    let at = c.is_refused_directory.ensures.some is blocks are in
+    refused_slots c.in-Directory.is at.0 at.1 at.2
+
+pub returns-in-Directory-clause-none : goal.returns-in-Directory-clause-none
+returns-in-Directory-clause-none c = λ is blocks are refused. elim refused [
+  | refused_numbers read others ↦
+      (let clash : true ≡ false =
+      sym (c.is_refused_far.ensures.none c.if-is_refused_far.false blocks are read) ∙ others in cc)
+  | refused_slots kind index less at ↦ c.is_refused_directory.ensures.none is blocks index are less at
+]

@@ -1,0 +1,151 @@
+//! The blocks of a file, as far as they were read.
+ghost use Rattle.std.specs.Prelude.{ℕ, ◌≡◌, ◌<◌, length, true, false, IfNone, IfSome};
+ghost use Rattle.std.specs.List.{list_all};
+ghost use Rattle.limits.specs.declared.TheConstants.{BLOCK_BYTES, FILE_INDEXES, INDIRECT_INDEXES};
+ghost use Rattle.disk.specs.Crash.{Image};
+ghost use Rattle.layout.specs.Decode.{span_of};
+ghost use Rattle.layout.specs.Fields.{numbers_at};
+ghost use Rattle.layout.specs.InodeForm.{is_data_block_or_none};
+ghost use Rattle.inode.specs.Read.{Saw};
+ghost use Rattle.inspection.specs.Refused.{AreRead, HasRefusedBlock, HasRefusedSlot, IsRefusedAt, Names};
+ghost use Rattle.inspection.specs.Refused.{WasReadBlock};
+
+use disk::BlockNo;
+use inode::Snap;
+use layout::{Geometry, Inode, InodeKind, Numbers, Slot};
+use limits::{BLOCK_BYTES, DIRECT_INDEXES, FILE_INDEXES, INDIRECT_INDEXES, SLOTS_PER_BLOCK};
+use objects::Addr;
+
+// The bytes of a data block, if it was read.
+fn read_block(snap: &Snap, number: u32) -> Option<&[u8]>
+    ensures len { IfSome result (λ bytes. length bytes.now ≡ BLOCK_BYTES) }
+    ensures read { IfSome result (λ bytes. (blocks : Image) → AreRead snap.now blocks
+        → WasReadBlock snap.now blocks number) }
+    ensures is { IfSome result (λ bytes. (blocks : Image) → Saw blocks snap.now
+        → WasReadBlock snap.now blocks number → bytes.now ≡ blocks number) }
+    ensures none { IfNone result ((blocks : Image) → WasReadBlock snap.now blocks number → ⊥) }
+{
+    if !snap.geometry.is_data(number) {
+        return None;
+    }
+    match snap.get(Addr::whole(BlockNo(number))) {
+        Some(object) => Some(object.bytes()),
+        None => None,
+    }
+}
+
+// Whether an indirect block names what is no data block.
+fn names_others(geometry: &Geometry, block: &[u8]) -> bool
+    requires { length block.now ≡ BLOCK_BYTES }
+    ensures some { result ≡ true
+        → list_all (is_data_block_or_none geometry.now) (numbers_at INDIRECT_INDEXES 0 block.now) ≡ false }
+    ensures none { result ≡ false
+        → list_all (is_data_block_or_none geometry.now) (numbers_at INDIRECT_INDEXES 0 block.now) ≡ true }
+{
+    'indexes: for index in 0..INDIRECT_INDEXES {
+        let number = Numbers::at(block, index);
+        if number != 0 && !geometry.is_data(number) {
+            return true;
+        }
+    }
+    false
+}
+
+// Whether the layout refuses a slot of a block.
+fn has_refused_slot(inodes: u32, block: &[u8]) -> bool
+    requires { length block.now ≡ BLOCK_BYTES }
+    ensures some { result ≡ true → HasRefusedSlot inodes block.now }
+    ensures none { result ≡ false → HasRefusedSlot inodes block.now → ⊥ }
+{
+    'slots: for slot in 0..SLOTS_PER_BLOCK {
+        match Slot::number_under(inodes, Slot::bytes_in(block, slot), &[]) {
+            Ok(_) => {}
+            Err(_) => return true,
+        }
+    }
+    false
+}
+
+// The number of the block at an index of a file, if what names it was read.
+fn named_at(snap: &Snap, inode: &Inode, index: usize) -> Option<u32>
+    requires { index < FILE_INDEXES }
+    ensures some { IfSome result (λ number. (blocks : Image) → AreRead snap.now blocks
+        → Names snap.now blocks inode.now index number) }
+    ensures one { IfSome result (λ number. (blocks : Image) (other : ℕ) → Saw blocks snap.now
+        → Names snap.now blocks inode.now index other → other ≡ number) }
+    ensures none { IfNone result ((blocks : Image) (number : ℕ) → Names snap.now blocks inode.now index number → ⊥) }
+{
+    if index < DIRECT_INDEXES {
+        return Some(inode.direct[index]);
+    }
+    match read_block(snap, inode.indirect) {
+        Some(block) => Some(Numbers::at(block, index - DIRECT_INDEXES)),
+        None => None,
+    }
+}
+
+// Whether the layout refuses a slot of a block that was read of a directory.
+fn is_refused_at(snap: &Snap, inode: &Inode, index: usize) -> bool
+    requires { index < FILE_INDEXES }
+    ensures some { result ≡ true → (blocks : Image) → AreRead snap.now blocks
+        → IsRefusedAt snap.now blocks inode.now index }
+    ensures none { result ≡ false → (blocks : Image) → Saw blocks snap.now
+        → IsRefusedAt snap.now blocks inode.now index → ⊥ }
+{
+    match named_at(snap, inode, index) {
+        Some(number) => match read_block(snap, number) {
+            Some(block) => has_refused_slot(snap.geometry.inodes, block),
+            None => false,
+        },
+        None => false,
+    }
+}
+
+// The same of all blocks that it spans.
+fn is_refused_directory(snap: &Snap, inode: &Inode) -> bool
+    ensures some { result ≡ true → (blocks : Image) → AreRead snap.now blocks
+        → (index : ℕ) × (index < span_of inode.now) × IsRefusedAt snap.now blocks inode.now index }
+    ensures none { result ≡ false → (blocks : Image) (index : ℕ) → Saw blocks snap.now
+        → index < span_of inode.now → IsRefusedAt snap.now blocks inode.now index → ⊥ }
+{
+    let span = inode.size / BLOCK_BYTES as u64;
+    'indexes: for index in 0..FILE_INDEXES {
+        if index as u64 >= span {
+            return false;
+        }
+        if is_refused_at(snap, inode, index) {
+            return true;
+        }
+    }
+    false
+}
+
+// Whether an indirect block was read, and names what is no data block.
+fn is_refused_far(snap: &Snap, inode: &Inode) -> bool
+    ensures some { result ≡ true → (blocks : Image) → AreRead snap.now blocks
+        → HasRefusedBlock snap.now blocks inode.now }
+    ensures none { result ≡ false → (blocks : Image) → Saw blocks snap.now → WasReadBlock snap.now blocks inode.now.indirect
+        → list_all (is_data_block_or_none snap.now.geometry) (numbers_at INDIRECT_INDEXES 0 (blocks inode.now.indirect))
+        ≡ true }
+{
+    match read_block(snap, inode.indirect) {
+        Some(block) => names_others(&snap.geometry, block),
+        None => false,
+    }
+}
+
+/// Whether the layout refuses a block of a file, as far as its blocks were read.
+pub(crate) fn has_refused_block(snap: &Snap, inode: &Inode) -> bool
+    ensures some { result ≡ true → (blocks : Image) → AreRead snap.now blocks
+        → HasRefusedBlock snap.now blocks inode.now }
+    ensures none { result ≡ false → (blocks : Image) → Saw blocks snap.now
+        → HasRefusedBlock snap.now blocks inode.now → ⊥ }
+{
+    if is_refused_far(snap, inode) {
+        return true;
+    }
+    match inode.kind {
+        InodeKind::Directory => is_refused_directory(snap, inode),
+        InodeKind::Regular | InodeKind::Link => false,
+    }
+}

@@ -1,0 +1,61 @@
+//! The inodes that were read, and their files.
+ghost use Rattle.std.specs.Prelude.{ℕ, ◌≡◌, length, true, false};
+ghost use Rattle.limits.specs.declared.TheConstants.{INODE_BYTES};
+ghost use Rattle.disk.specs.Crash.{Image};
+ghost use Rattle.layout.specs.Decode.{inode_at};
+ghost use Rattle.layout.specs.InodeForm.{read_inode};
+ghost use Rattle.layout_records.specs.OnGrid.{IsInodeAt};
+ghost use Rattle.txn.specs.Window.{IsAsRead};
+ghost use Rattle.inode.specs.Read.{Saw};
+ghost use Rattle.inspection.specs.Refused.{AreRead, IsRefused, IsRefusedFile};
+
+use crate::blocks::has_refused_block;
+use inode::Snap;
+use layout::Inode;
+use layout_records::inode_number;
+use txn::Object;
+
+// Whether the layout refuses the bytes of an inode, or a block that was read of its file.
+fn is_refused_inode(snap: &Snap, bytes: &[u8]) -> bool
+    requires { length bytes.now ≡ INODE_BYTES }
+    ensures some { result ≡ true → (blocks : Image) (number : ℕ) → AreRead snap.now blocks
+        → inode_at snap.now.geometry blocks number ≡ read_inode snap.now.geometry bytes.now
+        → IsRefusedFile snap.now blocks number }
+    ensures none { result ≡ false → (blocks : Image) (number : ℕ) → Saw blocks snap.now
+        → inode_at snap.now.geometry blocks number ≡ read_inode snap.now.geometry bytes.now
+        → IsRefusedFile snap.now blocks number → ⊥ }
+{
+    match Inode::read(&snap.geometry, bytes) {
+        Ok(Some(inode)) => has_refused_block(snap, &inode),
+        Ok(None) => false,
+        Err(_) => true,
+    }
+}
+
+// The same of an object, if it is an inode.
+fn is_refused_object(snap: &Snap, object: &Object) -> bool
+    ensures some { result ≡ true → (blocks : Image) → AreRead snap.now blocks → IsAsRead blocks object.now
+        → (number : ℕ) × IsInodeAt snap.now.geometry number object.now.addr × IsRefusedFile snap.now blocks number }
+    ensures none { result ≡ false → (blocks : Image) (number : ℕ) → Saw blocks snap.now
+        → IsAsRead blocks object.now → IsInodeAt snap.now.geometry number object.now.addr
+        → IsRefusedFile snap.now blocks number → ⊥ }
+{
+    match inode_number(&snap.geometry, object.addr()) {
+        Some(_) => is_refused_inode(snap, object.bytes()),
+        None => false,
+    }
+}
+
+/// Whether the layout refuses something that was read: an inode, or an indirect block or a slot of a file whose
+/// inode was read.
+pub fn is_refused(snap: &Snap) -> bool
+    ensures some { result ≡ true → (blocks : Image) → AreRead snap.now blocks → IsRefused snap.now blocks }
+    ensures none { result ≡ false → (blocks : Image) → Saw blocks snap.now → IsRefused snap.now blocks → ⊥ }
+{
+    for object in &snap.objects {
+        if is_refused_object(snap, object) {
+            return true;
+        }
+    }
+    false
+}

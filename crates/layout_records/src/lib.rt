@@ -1,0 +1,13 @@
+//! Records in the blocks in which they lie: the objects of an image by their addresses, the bits of the bitmaps,
+//! and blocks in which a slot or a number is another.
+#![tactic(auto)]
+
+mod bits;
+mod counting;
+mod grid;
+mod within;
+
+pub use bits::{is_set, piece_addr, put_bit};
+pub use counting::clear_in;
+pub use grid::{inode_number, is_on_grid};
+pub use within::{first_slot, with_number, with_piece, with_slot};
