@@ -310,6 +310,21 @@ def test_it_ends_after_so_many_connections_with_all_settled(place):
     same("what the next opening reads", read.data, b"hello")
 
 
+def test_a_device_that_fails_is_told_to_each_client_and_at_the_end(place):
+    image = place.image()
+    # Block 0 can be written, and so the image opened; the log can't.
+    server = Server(place, image, connections=2, file_limit=4096)
+    clients = [server.client() for _ in range(2)]
+    same("the mode", clients[0].attributes(ROOT).mode, NEW_MODE)
+    clients[0].refuse(nfs.IO, nfs.SETATTR, ROOT, nfs.new_attributes(mode=0o700), None)
+    for client in clients:
+        client.refuse(nfs.IO, nfs.GETATTR, ROOT)
+        same("NULL", wire.record(client.reply(wire.null_call(9))), wire.null_reply(9))
+        client.close()
+    server.end(1, b"nfsd: 6 Device\n")
+    place.attributes(image, NEW_MODE, MADE, "the next server")
+
+
 def test_the_example_of_serve_prints_same(place):
     ran = place.run([], command=["bash", os.path.join(place.top, "examples/serve")], env={**os.environ, "NFSD": place.program})
     expect("examples/serve", ran, 0, FORMATTED + b"same\n", b"")

@@ -25,9 +25,9 @@ class Server:
     """The program's `serve` over an image, on a port of this machine that is free. It ends after so many connections, or is
     killed with its case."""
 
-    def __init__(self, place, image, connections=0, workers=4):
+    def __init__(self, place, image, connections=0, workers=4, **how):
         words = ["serve", image, "--listen", f"{LOCAL}:0", "--workers", str(workers), "--connections", str(connections)]
-        self.ran = place.start(words, bufsize=0)
+        self.ran = place.start(words, bufsize=0, **how)
         line = b""
         while not line.endswith(b"\n"):
             line += read_exactly(self.ran.stdout, 1, f"the address that is listened to, behind {line!r}")
