@@ -1,0 +1,103 @@
+//! Seats whose changes wait to be settled. They cost no thread.
+ghost use Rattle.std.specs.Prelude.{◌≡◌, ◌<◌, ◌≤◌, ◌++◌, ◌∷◌, [], ℕ, All, Contains, max, IsTrue, IsFalse, OnErr, IfOk, IfSome, IfNone};
+
+use std::alloc::{AllocError, Global};
+use std::sync::{Mutex, Wait};
+
+/// A seat that waits until a place is settled.
+#[derive(Clone, Copy, Debug, PartialEq, Eq)]
+pub struct Parked {
+    pub place: u64,
+    pub seat: usize,
+}
+
+/// The place up to which all is settled, as far as was told, and the seats that wait for one behind it.
+#[derive(Drop)]
+pub struct Waiting {
+    settled: u64,
+    parked: Vec<Parked>,
+}
+
+impl Waiting {
+    /// No seat waits.
+    pub fn new(alloc: Global, settled: u64) -> Waiting
+        ensures settled { result.settled ≡ settled }
+        ensures parked { result.parked.items ≡ [] }
+    {
+        Waiting {
+            settled,
+            parked: Vec::new(alloc),
+        }
+    }
+
+    /// Parks a seat, and answers whether it did: one whose place is settled goes on at once.
+    pub fn park(&mut self, seat: Parked) -> Result<bool, AllocError>
+        ensures settled { self.new.settled ≡ self.old.settled }
+        ensures parks { IfOk result (λ parked. IsTrue parked → (self.old.settled < seat.place)
+            × (self.new.parked.items ≡ self.old.parked.items ++ seat ∷ [])) }
+        ensures goes_on { IfOk result (λ parked. IsFalse parked → (seat.place ≤ self.old.settled)
+            × (self.new.parked.items ≡ self.old.parked.items)) }
+        ensures kept { OnErr result (self.new.parked.items ≡ self.old.parked.items) }
+    {
+        if seat.place <= self.settled {
+            return Ok(false);
+        }
+        self.parked.push(seat)?;
+        Ok(true)
+    }
+
+    /// Tells up to which place all is settled. What was told before stays told.
+    pub fn raise(&mut self, settled: u64)
+        ensures settled { self.new.settled ≡ max self.old.settled settled }
+        ensures parked { self.new.parked ≡ self.old.parked }
+    {
+        self.settled = self.settled.max(settled);
+    }
+
+    /// Takes out a seat whose place is settled, if one is.
+    pub fn take(&mut self) -> Option<usize>
+        ensures settled { self.new.settled ≡ self.old.settled }
+        ensures taken { IfSome result (λ seat. (place : ℕ) × (place ≤ self.old.settled)
+            × Contains self.old.parked.items (record { place = place; seat = seat })) }
+        ensures none { IfNone result (All (λ p. self.old.settled < p.place) self.old.parked.items) }
+        ensures kept { IfNone result (self.new.parked ≡ self.old.parked) }
+    {
+        for at in 0..self.parked.len() {
+            if self.parked[at].place <= self.settled {
+                return Some(self.parked.swap_remove(at).seat);
+            }
+        }
+        None
+    }
+}
+
+/// The seats whose changes wait to be settled.
+#[derive(Drop)]
+pub struct Parking {
+    waiting: Mutex<Waiting>,
+}
+
+impl Parking {
+    /// No seat waits.
+    pub fn new(alloc: Global, settled: u64) -> Parking {
+        Parking {
+            waiting: Mutex::new(Waiting::new(alloc, settled)),
+        }
+    }
+
+    /// Parks a seat, and answers whether it did. One whose place is settled goes on at once, and so does one for
+    /// which there is no memory.
+    pub fn park<R: Wait>(&self, rt: &R, seat: Parked) -> bool {
+        matches!(self.waiting.lock(rt).park(seat), Ok(true))
+    }
+
+    /// Tells up to which place all is settled.
+    pub fn raise<R: Wait>(&self, rt: &R, settled: u64) {
+        self.waiting.lock(rt).raise(settled);
+    }
+
+    /// Takes out a seat whose place is settled, if one is.
+    pub fn take<R: Wait>(&self, rt: &R) -> Option<usize> {
+        self.waiting.lock(rt).take()
+    }
+}
