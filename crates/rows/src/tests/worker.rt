@@ -124,10 +124,7 @@ fn a_worker_driven_by_hand_answers(rt: HostRuntime) -> Result<(), Fail> {
 
 // What GETATTR of the root is answered by a worker that begins its transaction of one core, and makes its next
 // steps with another.
-fn told_by_another<D: CrashDisk>(
-    alloc: Global,
-    disk: &mut D,
-) -> Result<Option<CallAnswer>, Fail> {
+fn told_by_another<D: CrashDisk>(alloc: Global, disk: &mut D) -> Result<Option<CallAnswer>, Fail> {
     let mut core = core_of(alloc, disk)?;
     let mut other = core_of(alloc, disk)?;
     let (credential, call) = asked(alloc, &GETATTR)?;
