@@ -2,7 +2,7 @@
 
 import struct
 
-from cases import wire
+from cases import images, nfs, wire
 from cases.running import MADE, NEW_MODE, contents, expect, same
 
 BLOCK_BYTES = 4096
@@ -200,3 +200,42 @@ def test_the_last_log_position_is_used_once(place):
     wanted = [done, wire.reply(5, wire.words(10006, 0, 0)), wire.getattr_reply(3, CHANGED_MODE, MADE, SECOND)]
     expect("once", place.once(image, calls), 0, b"".join(wanted), b"")
     place.attributes(image, CHANGED_MODE, SECOND)
+
+
+def test_what_the_layout_refuses_is_io_with_nothing_told_and_nothing_written(place):
+    far = images.regular((8 * BLOCK_BYTES, b"far"))
+    names = {b"a": images.regular(), b"below": images.directory({}), b"far": far, b"z": images.regular()}
+    image = images.Image(images.directory(names))
+    root, a, below = image.root.handle(), names[b"a"].handle(), names[b"below"].handle()
+    # The root's one block is the first of the data, and its last name lies in the fourth slot.
+    last = 128 * 3
+
+    def inode_of(file):
+        return image.table + file.number // 32, 128 * (file.number % 32)
+
+    def indirect_of(file):
+        block, at = inode_of(file)
+        return struct.unpack_from("<I", image.content[block], at + 120)[0]
+
+    unchanged, caller = nfs.Change(None, None), nfs.credential(0, 0)
+    find, remove = (nfs.LOOKUP, (root, b"a"), (None,)), (nfs.REMOVE, (root, b"a"), (unchanged,))
+    make = nfs.CREATE, (root, b"new", (nfs.GUARDED, nfs.new_attributes())), (unchanged,)
+    of_names = [find, remove, make, (nfs.READDIR, (root, 0, bytes(8), 4096), (None,))]
+    into = [(nfs.RENAME, (root, b"a", below, b"b"), (unchanged,) * 2), (nfs.LINK, (a, below, b"b"), (None, unchanged))]
+    read = nfs.READ, (far.handle(), 0, 1), (None,)
+    rows = {
+        "a byte behind a name, past the one that is looked for": (image.data, last + 127, b"\1", of_names),
+        "a name of a number past the last": (image.data, last, struct.pack("<I", image.inodes), of_names),
+        "a free slot that isn't zeros": (image.data, 128 * 31 + 8, b"x", of_names),
+        "the inode behind a name": (*inode_of(names[b"a"]), b"\3", [find, remove]),
+        "the inode of a second handle": (*inode_of(names[b"below"]), b"\3", into),
+        "an indirect block that names no data": (indirect_of(far), 0, b"\1\0\0\0", [read]),
+    }
+    for what, (block, at, data, calls) in rows.items():
+        path = image.write(place.path("refused"))
+        put(path, block, at, data)
+        before = contents(path)[514 * BLOCK_BYTES :]
+        stream = b"".join(it.call(xid, caller, *given) for xid, (it, given, _) in enumerate(calls))
+        wanted = [wire.reply(xid, it.refused(nfs.IO, *told)) for xid, (it, _, told) in enumerate(calls)]
+        expect(what, place.once(path, stream), 0, b"".join(wanted), b"")
+        same(f"{what}: what is at home", contents(path)[514 * BLOCK_BYTES :], before)

@@ -80,14 +80,14 @@ def test_the_plain_program_tells_times_apart(place):
     told += [wire.setattr_reply(3, 449, MADE, 2000, 2003), wire.getattr_reply(4, 449, MADE, 2003)]
     stream += [wire.setattr_call(5, 450)]
     told += [wire.setattr_reply(5, 450, MADE, 2003, 2009)]
-    expect("a clock that rises", answer(place, b"".join(stream), [*COUNTS, "3"]), 0, b"".join(told), b"")
+    expect("a rise of three seconds", answer(place, b"".join(stream), [*COUNTS, "3"]), 0, b"".join(told), b"")
     # None is later than the last second of 32 bits.
     last = 2**32 - 1
     stream = [wire.setattr_call(it, 448) for it in range(3)]
     times = [MADE, last - 1, last, last]
     told = [wire.setattr_reply(it, 448, MADE, times[it], times[it + 1]) for it in range(3)]
     given = [*COUNTS[:3], str(last - 1), "1"]
-    expect("a clock at its end", answer(place, b"".join(stream), given), 0, b"".join(told), b"")
+    expect("a rise past the last second", answer(place, b"".join(stream), given), 0, b"".join(told), b"")
 
 
 def test_the_plain_program_ends_with_2_where_its_arguments_ask_for_nothing(place):

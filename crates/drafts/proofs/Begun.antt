@@ -1,5 +1,5 @@
 -- A draft in which nothing is written yet.
-use Rattle.std.proofs.Common.{◌≡◌, ◌<◌, ℕ, sym, ap, ◌∙◌, refl, subst, Bool, true, false, cond, ◌&&◌, ◌||◌, List, [], ◌∷◌}
+use Rattle.std.proofs.Common.{◌≡◌, ◌<◌, sym, ◌∙◌, refl, subst, Bool, true, false, cond, ◌||◌, List, [], ◌∷◌}
 use Rattle.std.proofs.Common.{filter, nat_eq, Contains, All}
 use Rattle.std.proofs.lemmas.Bool.{eqb-true}
 use Rattle.std.proofs.lemmas.List.Elements.{All-contains, All-contains_itself, All-filter, All-nil, filter_passes}
@@ -10,12 +10,11 @@ use Rattle.layout.specs.declared.geometry.Geometry.{Geometry}
 use Rattle.layout.specs.Holds.{Holds}
 use Rattle.layout.specs.Objects.{IsObject}
 use Rattle.txn.specs.Object.{ObjectBytes}
-use Rattle.txn.specs.Window.{with_objects}
 use Rattle.inode.specs.declared.snap.Snap.{Snap}
 use Rattle.inode.specs.Read.{Saw}
 use Rattle.inode.specs.Snap.{MayWrite, is_seen, same_addr}
 use Rattle.inode.proofs.AllTests.{all_three}
-use Rattle.drafts.specs.Drafted.{Drafted, IsAfter, IsDraft, IsKept}
+use Rattle.drafts.specs.Drafted.{IsAfter, IsDraft, IsKept}
 use Rattle.layout_records.specs.OnGrid.{is_on_grid, is_part}
 use Rattle.layout_records.proofs.OnGrid.{is_object, on_grid}
 

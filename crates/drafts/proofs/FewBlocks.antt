@@ -1,5 +1,5 @@
 -- What a draft writes lies in few blocks.
-use Rattle.std.proofs.Common.{◌≡◌, ℕ, zero, suc, if◌then◌else◌, ◌+◌, ◌*◌, ◌<◌, ◌≤◌, sym, ap, ◌∙◌, refl, subst, Bool, true, false, cond, not}
+use Rattle.std.proofs.Common.{◌≡◌, ℕ, zero, suc, if◌then◌else◌, ◌+◌, ◌<◌, ◌≤◌, sym, ap, ◌∙◌, refl, subst, Bool, true, false, cond, not}
 use Rattle.std.proofs.Common.{◌||◌, List, [], ◌∷◌, ◌++◌, length, length-append, map, filter, nat_eq, count_by, inl, inr, All, arith}
 use Rattle.std.specs.Cmp.{nat_eq_equiv}
 use Rattle.std.specs.List.{IsDistinct, list_any, range_with_len}
@@ -13,7 +13,7 @@ use Rattle.std.proofs.lemmas.Map.Made.{length-le_from_is_member}
 use Rattle.limits.specs.declared.TheConstants.{CHANGED_BLOCKS, FIRST_HOME_BLOCK}
 use Rattle.disk.specs.declared.block.BlockNo.{BlockNo}
 use Rattle.layout.specs.declared.geometry.Geometry.{Geometry}
-use Rattle.layout.specs.Geometry.{bitmap_blocks, table_at}
+use Rattle.layout.specs.Geometry.{table_at}
 use Rattle.layout.specs.Objects.{IsObject, inode, bits, whole}
 use Rattle.txn.specs.Group.{blocks_after, blocks_of, is_among}
 use Rattle.txn.specs.Object.{ObjectBytes}

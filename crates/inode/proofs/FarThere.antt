@@ -1,6 +1,6 @@
 -- An indirect block that names what is no data block is in no blocks that hold the files of a tree.
-use Rattle.std.proofs.Common.{◌≡◌, ℕ, ◌<◌, sym, ap, ◌∙◌, Bool, true, false, cond, List, [], ◌∷◌}
-use Rattle.std.proofs.Common.{◌++◌, nat_eq, nat_le, replicate, Some, Ok, is_none}
+use Rattle.std.proofs.Common.{◌≡◌, ℕ, sym, ap, ◌∙◌, Bool, true, false, cond, List, [], ◌∷◌}
+use Rattle.std.proofs.Common.{◌++◌, nat_eq, nat_le, replicate, is_none}
 use Rattle.std.specs.List.{list_all}
 use Rattle.limits.specs.declared.TheConstants.{INDIRECT_INDEXES, TARGET_BYTES}
 use Rattle.disk.specs.Crash.{Image}
@@ -8,13 +8,11 @@ use Rattle.layout.specs.declared.geometry.Geometry.{Geometry}
 use Rattle.layout.specs.declared.inode.Inode.{Inode}
 use Rattle.layout.specs.declared.inode.InodeKind.{InodeKind}
 use Rattle.layout.specs.declared.inode.InodeKind.TheVariants.{Regular, Directory, Link}
-use Rattle.layout.specs.Decode.{inode_at, numbers_of, IsMapped, IsOfKind}
+use Rattle.layout.specs.Decode.{numbers_of, IsMapped, IsOfKind}
 use Rattle.layout.specs.Fields.{numbers_at}
 use Rattle.layout.specs.InodeForm.{is_data_block_or_none, is_sound_kind, is_sound_file, is_sound_map}
 use Rattle.layout.specs.InodeForm.{is_sound_link, names_first}
-use Rattle.layout.specs.Parts.{content_in}
 use Rattle.inode.proofs.AllTests.{all_three, all_five, all_two}
-use Rattle.inode.proofs.InodeThere.{is_sound, is_of_kind, indirect_is, indirect_long}
 
 -- a test that all pass is passed by the last ones
 last_pass : (test : ℕ → Bool) (xs ys : List ℕ) → list_all test (xs ++ ys) ≡ true → list_all test ys ≡ true

@@ -1,12 +1,11 @@
 -- An inode that was read is the one of the blocks, and one that is refused lies in no blocks that hold a
 -- tree.
 use Rattle.std.proofs.Common.{◌≡◌, ℕ, ◌<◌, sym, ap, ◌∙◌, subst, cond, List, take, drop, Option, Some, None}
-use Rattle.std.proofs.Common.{IfSome, Ok, Err, ◌+◌, length}
-use Rattle.std.proofs.Common.{nat_eq, false, arith}
+use Rattle.std.proofs.Common.{IfSome, Ok, Err, length}
+use Rattle.std.proofs.Common.{arith}
 use Rattle.std.proofs.lemmas.Bool.{lt-ltb}
-use Rattle.limits.specs.declared.TheConstants.{BLOCK_BYTES, INDIRECT_INDEXES, INODE_BYTES}
+use Rattle.limits.specs.declared.TheConstants.{BLOCK_BYTES, INODE_BYTES}
 use Rattle.std.proofs.lemmas.List.{take_all}
-use Rattle.layout.specs.Fields.{numbers_at, count_of}
 use Rattle.disk.specs.Crash.{Image}
 use Rattle.objects.specs.declared.addr.Addr.{Addr}
 use Rattle.model.specs.Tree.{Tree}

@@ -1,20 +1,16 @@
 -- What was read of an image's blocks, and why a reading stops.
-use Rattle.std.specs.Prelude.{◌≡◌, ◌≢◌, ℕ, Contains, List, Some, Ok, true, false, nat_eq, length}
-use Rattle.std.specs.List.{list_all}
-use Rattle.limits.specs.declared.TheConstants.{BLOCK_BYTES, INDIRECT_INDEXES, INODE_BYTES}
+use Rattle.std.specs.Prelude.{◌≡◌, ℕ, Contains, List, Some, Ok, true}
+use Rattle.limits.specs.declared.TheConstants.{INODE_BYTES}
 use Rattle.disk.specs.Crash.{Image}
-use Rattle.disk.specs.declared.block.BlockNo.{BlockNo}
 use Rattle.objects.specs.declared.addr.Addr.{Addr}
 use Rattle.model.specs.Tree.{Tree}
 use Rattle.layout.specs.declared.geometry.Geometry.{Geometry}
 use Rattle.layout.specs.declared.inode.Inode.{Inode}
-use Rattle.layout.specs.Fields.{numbers_at}
-use Rattle.layout.specs.InodeForm.{is_data_block_or_none, read_inode}
+use Rattle.layout.specs.InodeForm.{read_inode}
 use Rattle.layout.specs.Places.{inode_block, inode_offset}
 use Rattle.layout.specs.Holds.{Holds}
 use Rattle.txn.specs.Object.{ObjectBytes}
 use Rattle.txn.specs.Window.{IsAsRead}
-use Rattle.txn.specs.Wishes.{IsWhole}
 use Rattle.inode.specs.declared.snap.Snap.{Snap}
 use Rattle.inode.specs.declared.stop.Stop.{Stop}
 use Rattle.inode.specs.declared.stop.Stop.TheVariants as stop

@@ -1,15 +1,13 @@
 -- The blocks of a file that were read.
-use Rattle.std.proofs.Common.{◌≡◌, ℕ, ◌-◌, ◌<◌, ◌≤◌, ◌∙◌, sym, ap, subst, true, false, get_or, Option, Some, None, Result, Ok, Err}
+use Rattle.std.proofs.Common.{◌≡◌, ℕ, ◌-◌, ◌<◌, ◌≤◌, ◌∙◌, sym, ap, subst, get_or, Option, Some, None, Result, Ok, Err}
 use Rattle.std.proofs.Common.{arith}
 use Rattle.limits.specs.declared.TheConstants.{DIRECT_INDEXES, FILE_INDEXES}
 use Rattle.disk.specs.Crash.{Image}
 use Rattle.layout.specs.declared.fault.LayoutFault.{LayoutFault}
 use Rattle.layout.specs.declared.inode.Inode.{Inode}
-use Rattle.layout.specs.declared.inode.InodeKind.{InodeKind}
-use Rattle.layout.specs.declared.inode.InodeKind.TheVariants.{Regular, Directory, Link}
 use Rattle.layout.specs.Decode.{inode_at}
 use Rattle.inode.specs.declared.snap.Snap.{Snap}
-use Rattle.inspection.specs.Refused.{HasRefusedBlock, IsRefusedAt, IsRefusedFile, Names, WasReadBlock, far, near}
+use Rattle.inspection.specs.Refused.{HasRefusedBlock, IsRefusedFile, Names, WasReadBlock, far, near}
 use Rattle.inspection.specs.Refused.{far_numbers, refused_block, refused_inode}
 
 module _ (snap : Snap) (blocks : Image) (inode : Inode) (index : ℕ) where

@@ -1,6 +1,6 @@
 -- Blocks in which the layout refuses something that was read hold the files of no tree.
-use Rattle.std.proofs.Common.{◌≡◌, ℕ, ◌+◌, ◌-◌, ◌*◌, ◌<◌, ◌≤◌, sym, ap, ◌∙◌, subst, true, false, cond, length, take}
-use Rattle.std.proofs.Common.{drop, get_or, replicate, Some, Ok, Err, IsOk, Result, nat_eq, arith}
+use Rattle.std.proofs.Common.{◌≡◌, ℕ, ◌+◌, ◌-◌, ◌*◌, ◌<◌, sym, ap, ◌∙◌, true, false, cond, take}
+use Rattle.std.proofs.Common.{drop, replicate, Ok, Err, IsOk, Result, nat_eq, arith}
 use Rattle.std.proofs.lemmas.Bool.Decides.{nat_tests}
 use Rattle.std.specs.List.{list_all}
 use Rattle.limits.specs.declared.TheConstants.{BLOCK_BYTES, DIRECT_INDEXES, INDIRECT_INDEXES, SLOTS_PER_BLOCK}
@@ -9,7 +9,7 @@ use Rattle.model.specs.Tree.{Tree}
 use Rattle.layout.specs.declared.geometry.Geometry.{Geometry}
 use Rattle.layout.specs.declared.inode.Inode.{Inode}
 use Rattle.layout.specs.declared.slot.TheConstants.{SLOT_BYTES}
-use Rattle.layout.specs.Decode.{inode_at, span_of}
+use Rattle.layout.specs.Decode.{span_of}
 use Rattle.layout.specs.Fields.{numbers_at}
 use Rattle.layout.specs.Holds.{Holds}
 use Rattle.layout.specs.InodeForm.{is_data_block_or_none}
@@ -27,7 +27,7 @@ use Rattle.inode.proofs.Placed.{direct_at, far_there, some_far}
 use Rattle.inode.proofs.ReadThere.{no_fault}
 use Rattle.dir.specs.Slots.{IsDirectoryOf, slot_at}
 use Rattle.dir.proofs.SlotBlocks as slots
-use Rattle.inspection.specs.Refused.{HasRefusedBlock, IsRefused, IsRefusedAt, IsRefusedFile, Names, WasReadBlock}
+use Rattle.inspection.specs.Refused.{HasRefusedBlock, IsRefused, IsRefusedAt, Names}
 use Rattle.inspection.specs.Refused.{far, near, refused_block, refused_inode, refused_numbers, refused_slots}
 
 differs : (a b : ℕ) → (a ≡ b → ⊥) → nat_eq a b ≡ false

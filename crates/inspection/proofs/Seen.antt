@@ -1,5 +1,5 @@
 -- What was read, by its address.
-use Rattle.std.proofs.Common.{◌≡◌, ℕ, ◌∙◌, sym, ap, refl, subst, Bool, true, false, ◌||◌, ◌&&◌, List, [], ◌∷◌, Contains}
+use Rattle.std.proofs.Common.{◌≡◌, ℕ, ◌∙◌, sym, ap, refl, Bool, true, false, ◌||◌, ◌&&◌, List, [], ◌∷◌, Contains}
 use Rattle.std.proofs.Common.{nat_eq, length, get_or, zero, suc, ◌<◌, arith}
 use Rattle.std.proofs.lemmas.Bool.{eq-eqb}
 use Rattle.std.specs.List.{list_any}
@@ -8,8 +8,6 @@ use Rattle.limits.specs.declared.TheConstants.{BLOCK_BYTES}
 use Rattle.disk.specs.Crash.{Image}
 use Rattle.objects.specs.declared.addr.Addr.{Addr}
 use Rattle.layout.specs.declared.geometry.Geometry.{Geometry}
-use Rattle.layout.specs.Places.{is_data}
-use Rattle.layout.proofs.OnGrid.{data_within}
 use Rattle.layout_records.specs.OnGrid.{IsInodeAt}
 use Rattle.txn.specs.Object.{ObjectBytes}
 use Rattle.inode.specs.declared.snap.Snap.{Snap}

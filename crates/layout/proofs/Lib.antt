@@ -16,6 +16,7 @@ pub mod Mapped
 pub mod Used
 pub mod FreshHomes
 pub mod Respelled
+pub mod ZeroWords
 pub mod ReadBytes
 pub mod Refused
 pub mod SlotBytes

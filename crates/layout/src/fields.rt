@@ -34,8 +34,22 @@ pub(crate) fn eight_at(bytes: &[u8], offset: usize) -> u64
     ])
 }
 
-/// Whether each byte is zero.
+/// Whether each byte is zero: they are looked at eight at a time.
 pub(crate) fn is_zeros(bytes: &[u8]) -> bool
+    ensures { result ≡ is_zeros bytes.now }
+{
+    let words = bytes.len() / 8;
+    'words: for word in 0..words {
+        if eight_at(bytes, 8 * word) != 0 {
+            return false;
+        }
+    }
+    let (_, rest) = bytes.split_at(8 * words);
+    are_zero(rest)
+}
+
+// The same, one by one.
+fn are_zero(bytes: &[u8]) -> bool
     ensures { result ≡ is_zeros bytes.now }
 {
     bytes.iter().all(|byte| *byte == 0)

@@ -1,8 +1,9 @@
-//! Laws on an image that was just made.
-ghost use Rattle.std.specs.Prelude.{ℕ, ◌<◌, ◌^◌};
+//! Laws on an image that was just made, and on the tree that blocks stand for.
+ghost use Rattle.std.specs.Prelude.{ℕ, ◌≡◌, ◌<◌, ◌^◌};
 ghost use Rattle.disk.specs.Crash.{Image};
 ghost use Rattle.model.specs.Format.{format_tree};
 ghost use Rattle.model.specs.Sound.{SoundTime};
+ghost use Rattle.model.specs.Tree.{Tree};
 ghost use Rattle.nfs_types.specs.declared.ctx.Moment.{Moment};
 ghost use Rattle.layout.specs.declared.geometry.Geometry.{Geometry};
 ghost use Rattle.layout.specs.Fresh.{HasFreshHomes, IsFresh, fresh};
@@ -29,4 +30,10 @@ pub fn there_is_a_fresh_image()
 pub fn a_super_block_is_its_bytes()
     ensures { (s : Super) → IsLawful s.geometry.blocks s.geometry.inodes → s.boot < 2 ^ 64
         → IsSuper (super_bytes s) s }
+{}
+
+/// Two trees that the same blocks stand for are equal.
+pub fn blocks_stand_for_one_tree()
+    ensures { (g : Geometry) (blocks : Image) (one other : Tree) → Stands g blocks one → Stands g blocks other
+        → one ≡ other }
 {}

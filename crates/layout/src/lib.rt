@@ -12,7 +12,6 @@ mod inode;
 mod inode_bytes;
 mod inode_fields;
 mod inode_rules;
-mod laws;
 mod numbers;
 mod slot;
 mod spellings;
@@ -21,7 +20,8 @@ mod version;
 
 pub use fault::LayoutFault;
 pub use fresh::{
-    a_fresh_image_stands_for_the_format_tree, a_super_block_is_its_bytes, there_is_a_fresh_image,
+    a_fresh_image_stands_for_the_format_tree, a_super_block_is_its_bytes,
+    blocks_stand_for_one_tree, there_is_a_fresh_image,
 };
 pub use fresh_image::FreshImage;
 pub use geometry::{Geometry, GeometryFault};
@@ -29,7 +29,6 @@ pub use grid::{
     PIECE_BITS, PIECE_BYTES, PIECES_PER_BLOCK, objects_are_one_or_apart, objects_lie_at_home,
 };
 pub use inode::{Inode, InodeKind};
-pub use laws::blocks_stand_for_one_tree;
 pub use numbers::{NUMBER_BYTES, Numbers};
 pub use slot::{SLOT_BYTES, Slot};
 pub use spellings::{

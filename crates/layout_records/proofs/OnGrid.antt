@@ -1,7 +1,6 @@
 -- The test of addresses says which are those of objects.
 use Rattle.std.proofs.Common.{◌≡◌, ℕ, suc, ◌+◌, ◌-◌, ◌*◌, ◌/◌, ◌%◌, ◌<◌, ◌≤◌, sym, ap, ◌∙◌, refl, Bool, true, false, cond, ◌&&◌}
-use Rattle.std.proofs.Common.{◌||◌, nat_eq, nat_le, nat_lt, inl, inr, arith, List, [], ◌∷◌, filter, Contains, subst}
-use Rattle.std.specs.List.{list_any}
+use Rattle.std.proofs.Common.{nat_eq, nat_le, nat_lt, inl, inr, arith}
 use Rattle.std.proofs.lemmas.Bool.{cases_eq, eq-eqb, eqb-true}
 use Rattle.std.proofs.lemmas.Bool.Decides.{leb_tells, nat_tests}
 use Rattle.limits.specs.declared.TheConstants.{BLOCK_BYTES, FIRST_HOME_BLOCK, INODES_PER_BLOCK, INODE_BYTES}

@@ -26,4 +26,4 @@ pub record IsAnswered (asked : Asked) (unread rest first written : Option (List 
   pub data_blocks : ℕ
   pub has_data : HasData asked.blocks asked.inodes (Some data_blocks)
   pub last : Session
-  pub done : IsDone (fresh data_blocks asked.inodes asked.made asked.clock) last unread rest first written
+  pub done : IsDone (fresh data_blocks asked.inodes asked.made asked.pace) last unread rest first written

@@ -65,7 +65,7 @@ fn answer_asked<R: Read, W: Write>(
     ensures senseless { result ≡ SENSELESS → HasData asked.blocks asked.inodes None }
 {
     let mut piece = [0; PIECE_BYTES];
-    match PlainSession::new(alloc, asked.blocks, asked.inodes, asked.made, asked.clock) {
+    match PlainSession::new(alloc, asked.blocks, asked.inodes, asked.made, asked.pace) {
         Ok(Some(mut session)) => {
             answer_input(alloc, &mut session, reader, writer, &mut piece, MOST_READS)
         }

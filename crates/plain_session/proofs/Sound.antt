@@ -18,16 +18,16 @@ use Rattle.plain_steps.specs.Computed.{is_null}
 use Rattle.plain_session.specs.Answering.{Files, IsCallAnswered, IsNfsReply, IsReply, IsStep, IsUndone, Done}
 use Rattle.plain_session.specs.Answering.{IsVerdictAnswered, SoundFiles, Undone, Unread, at_second, context, next_files}
 use Rattle.plain_session.specs.Counts.{HasData}
-use Rattle.plain_session.specs.declared.answers.Clock.{Clock}
+use Rattle.plain_session.specs.declared.answers.Pace.{Pace}
 use Rattle.plain_session.specs.Serving.{AreAnswered, More, None, fresh_files}
 
 -- where they stay the same, and where a call only took its number
 stays : (before after : Files) → after ≡ before → SoundFiles before → SoundFiles after
 stays before after same sound = subst SoundFiles (sym same) sound
 
--- a clock rises no further than seconds can be told
-rises : (before : Files) → min (before.clock.second + before.clock.rise) (2 ^ 32 - 1) < 2 ^ 32
-rises before = let most = min-le_right (before.clock.second + before.clock.rise) (2 ^ 32 - 1) in omega (arith, most)
+-- a pace rises no further than seconds can be told
+rises : (before : Files) → min (before.pace.second + before.pace.rise) (2 ^ 32 - 1) < 2 ^ 32
+rises before = let most = min-le_right (before.pace.second + before.pace.rise) (2 ^ 32 - 1) in omega (arith, most)
 
 counted : (before after : Files) → after ≡ next_files before before.tree → SoundFiles before → SoundFiles after
 counted before after same sound =
@@ -50,7 +50,7 @@ stepped before after caller call told is sound =
     record {
       tree = tree;
       second =
-          subst (λ (n : ℕ). n < 2 ^ 32) (sym (ap (λ (files : Files). files.clock.second) is.counted)) (rises before);
+          subst (λ (n : ℕ). n < 2 ^ 32) (sym (ap (λ (files : Files). files.pace.second) is.counted)) (rises before);
     }
 
 nfs_replied : (before after : Files) (caller : Credential) (call : Call) (told : Reply) (b : Bool)
@@ -94,9 +94,9 @@ kept before bytes first written left after (More {middle = middle} so_far begins
     (kept before bytes first _ _ middle so_far sound)
 
 -- at first
-pub fresh : (blocks inodes data_blocks made : ℕ) (clock : Clock) → HasData blocks inodes (Some data_blocks)
-    → made < 2 ^ 32 → clock.second < 2 ^ 32 → SoundFiles (fresh_files data_blocks inodes made clock)
-fresh blocks inodes data_blocks made clock has made_small time_small =
+pub fresh : (blocks inodes data_blocks made : ℕ) (pace : Pace) → HasData blocks inodes (Some data_blocks)
+    → made < 2 ^ 32 → pace.second < 2 ^ 32 → SoundFiles (fresh_files data_blocks inodes made pace)
+fresh blocks inodes data_blocks made pace has made_small time_small =
     let lawful = has.0 in
     let blocks_are = has.1 in
     let room = lawful.room in

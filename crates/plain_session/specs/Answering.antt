@@ -16,7 +16,7 @@ use Rattle.nfs_types.specs.declared.reply.Reply.{Reply}
 use Rattle.nfs_types.specs.declared.reply.Reply.TheVariants as reply
 use Rattle.procedures.specs.Step.{step}
 use Rattle.plain_server.specs.Plain.{tree_of}
-use Rattle.plain_session.specs.declared.answers.Clock.{Clock}
+use Rattle.plain_session.specs.declared.answers.Pace.{Pace}
 use Rattle.plain_session.specs.declared.answers.PlainFiles.{PlainFiles}
 use Rattle.plain_steps.specs.Computed.{is_null}
 use Rattle.rpc.specs.Records.{fragment}
@@ -33,20 +33,20 @@ use Rattle.session_wire.specs.declared.message.ReplyBody.TheVariants as body
 abbrev pub at_second : ℕ → Moment
 at_second seconds = record { seconds = seconds; nanoseconds = 0 }
 
--- the clock behind the next call, whose second is the last one that can be told where none is left
-abbrev pub risen : Clock → Clock
-risen clock = record { second = min (clock.second + clock.rise) (2 ^ 32 - 1); rise = clock.rise }
+-- the pace behind the next call, whose second is the last one that can be told where none is left
+abbrev pub risen : Pace → Pace
+risen pace = record { second = min (pace.second + pace.rise) (2 ^ 32 - 1); rise = pace.rise }
 
 -- the files of a session: their tree, when calls come, and how many calls took a number
 pub record Files : Type 0 where
   pub tree : Tree
-  pub clock : Clock
+  pub pace : Pace
   pub transactions : ℕ
 
 abbrev pub files_of : PlainFiles → Files
 files_of files = record {
   tree = tree_of files.tree;
-  clock = files.clock;
+  pace = files.pace;
   transactions = files.transactions;
 }
 
@@ -58,19 +58,19 @@ next_number files = min (files.transactions + 1) (2 ^ 64 - 1)
 abbrev pub context : Files → Credential → Ctx
 context files caller = record {
   credential = caller;
-  moment = at_second files.clock.second;
+  moment = at_second files.pace.second;
   boot = 1;
   transaction = next_number files;
 }
 
 -- the files with this tree behind the next call
 abbrev pub next_files : Files → Tree → Files
-next_files files tree = record { tree = tree; clock = risen files.clock; transactions = next_number files }
+next_files files tree = record { tree = tree; pace = risen files.pace; transactions = next_number files }
 
 -- files that a server may have
 pub record SoundFiles (files : Files) : Type 0 where
   pub tree : Sound files.tree
-  pub second : files.clock.second < 2 ^ 32
+  pub second : files.pace.second < 2 ^ 32
 
 -- A call of NFS can be spelled, and is a step of the sequential server. The files of a session are sound: a
 -- law.

@@ -5,7 +5,7 @@ use Rattle.model.specs.Format.{format_tree}
 use Rattle.plain_session.specs.Answering.{Closes, Files, IsAnswered, at_second, files_of}
 use Rattle.plain_session.specs.Counts.{HasData}
 use Rattle.plain_session.specs.Records.{IsRecord, IsTooLong, NeedsMore}
-use Rattle.plain_session.specs.declared.answers.Clock.{Clock}
+use Rattle.plain_session.specs.declared.answers.Pace.{Pace}
 use Rattle.plain_session.specs.declared.session.PlainSession.{PlainSession}
 use Rattle.plain_session.specs.declared.session.Progress.{Progress}
 use Rattle.plain_session.specs.declared.session.Progress.TheVariants as progress
@@ -23,17 +23,17 @@ session_of session = record {
   is_closed = session.is_closed;
 }
 
--- the files of a fresh image, whose root was made at a second, with calls by a clock
-abbrev pub fresh_files : ℕ → ℕ → ℕ → Clock → Files
-fresh_files data_blocks inodes made clock = record {
+-- the files of a fresh image, whose root was made at a second, with calls by a pace
+abbrev pub fresh_files : ℕ → ℕ → ℕ → Pace → Files
+fresh_files data_blocks inodes made pace = record {
   tree = format_tree (record { data_blocks = data_blocks; inodes = inodes }) (at_second made);
-  clock = clock;
+  pace = pace;
   transactions = 0;
 }
 
-abbrev pub fresh : ℕ → ℕ → ℕ → Clock → Session
-fresh data_blocks inodes made clock = record {
-  files = fresh_files data_blocks inodes made clock;
+abbrev pub fresh : ℕ → ℕ → ℕ → Pace → Session
+fresh data_blocks inodes made pace = record {
+  files = fresh_files data_blocks inodes made pace;
   unread = [];
   is_closed = false;
 }
@@ -94,10 +94,10 @@ pub record Fails (before : Files) (bytes first written : List ℕ) (after : File
   pub cut : IsCutOff middle left after
 
 -- a new session; there is none where no image has these counts
-abbrev pub IsNew : ℕ → ℕ → ℕ → Clock → Option PlainSession → Type 0
-IsNew blocks inodes made clock Nothing = HasData blocks inodes Nothing
-IsNew blocks inodes made clock (Some session) = (data_blocks : ℕ) × HasData blocks inodes (Some data_blocks)
-    × (session_of session ≡ fresh data_blocks inodes made clock)
+abbrev pub IsNew : ℕ → ℕ → ℕ → Pace → Option PlainSession → Type 0
+IsNew blocks inodes made pace Nothing = HasData blocks inodes Nothing
+IsNew blocks inodes made pace (Some session) = (data_blocks : ℕ) × HasData blocks inodes (Some data_blocks)
+    × (session_of session ≡ fresh data_blocks inodes made pace)
 
 -- how a session stands at the end of the input: closed, where it has closed or the end is inside a record
 abbrev pub Ends : Session → Progress → Type 0

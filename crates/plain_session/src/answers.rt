@@ -20,12 +20,12 @@ use xdr::XdrFault;
 /// When calls come: at which second the first one that takes a number, and by how many seconds each is later
 /// than the one before.
 #[derive(Clone, Copy, Debug, PartialEq, Eq)]
-pub struct Clock {
+pub struct Pace {
     pub second: u32,
     pub rise: u32,
 }
 
-impl Clock {
+impl Pace {
     /// The moment of the next call.
     fn moment(&self) -> Moment
         ensures { result ≡ at_second self.now.second }
@@ -36,11 +36,11 @@ impl Clock {
         }
     }
 
-    /// The clock behind the next call. It stays at the last second that can be told.
-    fn risen(&self) -> Clock
+    /// The pace behind the next call. It stays at the last second that can be told.
+    fn risen(&self) -> Pace
         ensures { result ≡ risen self.now }
     {
-        Clock {
+        Pace {
             second: self.second.saturating_add(self.rise),
             rise: self.rise,
         }
@@ -51,7 +51,7 @@ impl Clock {
 #[derive(Drop)]
 pub struct PlainFiles {
     pub tree: PlainTree,
-    pub clock: Clock,
+    pub pace: Pace,
     pub transactions: u64,
 }
 
@@ -207,11 +207,11 @@ fn step(
     files.transactions = files.transactions.saturating_add(1);
     let ctx = Ctx {
         credential,
-        moment: files.clock.moment(),
+        moment: files.pace.moment(),
         boot: 1,
         transaction: files.transactions,
     };
-    files.clock = files.clock.risen();
+    files.pace = files.pace.risen();
     match answer(alloc, &mut files.tree, &ctx, call)? {
         Some(reply) => Ok(reply),
         None => unreachable!(),

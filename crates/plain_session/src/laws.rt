@@ -1,7 +1,7 @@
 //! Laws of sessions. Nothing runs here: each contract is what the definitions entail.
 ghost use Rattle.std.specs.Prelude.{◌≡◌, ◌<◌, ◌^◌, ◌++◌, ℕ, List, Some};
 ghost use Rattle.plain_session.specs.Answering.{Files, SoundFiles};
-ghost use Rattle.plain_session.specs.declared.answers.Clock.{Clock};
+ghost use Rattle.plain_session.specs.declared.answers.Pace.{Pace};
 ghost use Rattle.plain_session.specs.Counts.{HasData};
 ghost use Rattle.plain_session.specs.Records.{IsTooLong, NeedsMore};
 ghost use Rattle.plain_session.specs.Serving.{AreAnswered, IsFirst, fresh_files};
@@ -29,8 +29,8 @@ pub fn pieces_come_to_one()
 /// The files of a session are sound, from those of a fresh image on: so what its calls are answered is always a
 /// step of the sequential server.
 pub fn sessions_keep_files_sound()
-    ensures fresh { (blocks inodes data_blocks made : ℕ) (clock : Clock) → HasData blocks inodes (Some data_blocks)
-        → made < 2 ^ 32 → clock.second < 2 ^ 32 → SoundFiles (fresh_files data_blocks inodes made clock) }
+    ensures fresh { (blocks inodes data_blocks made : ℕ) (pace : Pace) → HasData blocks inodes (Some data_blocks)
+        → made < 2 ^ 32 → pace.second < 2 ^ 32 → SoundFiles (fresh_files data_blocks inodes made pace) }
     ensures kept { (before : Files) (bytes first written left : List ℕ) (after : Files)
         → AreAnswered before bytes first written left after → SoundFiles before → SoundFiles after }
 {}

@@ -10,7 +10,7 @@ mod reader;
 mod records;
 mod session;
 
-pub use answers::Clock;
+pub use answers::Pace;
 pub use image::data_blocks;
 pub use laws::{a_stream_begins_one_way, pieces_come_to_one, sessions_keep_files_sound};
 pub use records::{Cut, first_record};

@@ -8,7 +8,7 @@ ghost use Rattle.plain_session.specs.Answering.{at_second as moment_at};
 ghost use Rattle.plain_session.specs.Serving.{IsNew, IsStream, Stops, fresh_files};
 ghost use Rattle.plain_session.specs.Serving.{session_of};
 
-use crate::answers::{Clock, PlainFiles, answer_record};
+use crate::answers::{Pace, PlainFiles, answer_record};
 use crate::image::data_blocks;
 use crate::records::{Cut, first_record};
 use nfs_types::Moment;
@@ -32,16 +32,16 @@ pub struct PlainSession {
 }
 
 impl PlainSession {
-    /// A session over the tree of a fresh image, whose root was made at second `made`, with calls by this clock.
+    /// A session over the tree of a fresh image, whose root was made at second `made`, with calls by this pace.
     /// None where no image has these counts.
     pub fn new(
         alloc: Global,
         blocks: u32,
         inodes: u32,
         made: u32,
-        clock: Clock,
+        pace: Pace,
     ) -> Result<Option<PlainSession>, AllocError>
-        ensures { IfOk result (λ session. IsNew blocks inodes made clock session) }
+        ensures { IfOk result (λ session. IsNew blocks inodes made pace session) }
     {
         let Some(data_blocks) = data_blocks(blocks, inodes) else {
             return Ok(None);
@@ -50,7 +50,7 @@ impl PlainSession {
         Ok(Some(PlainSession {
             files: PlainFiles {
                 tree,
-                clock,
+                pace,
                 transactions: 0,
             },
             unread: Vec::new(alloc),
@@ -176,15 +176,15 @@ pub fn answer_stream(
     blocks: u32,
     inodes: u32,
     made: u32,
-    clock: Clock,
+    pace: Pace,
     input: &[u8],
 ) -> Result<Option<(Vec<u8>, u8)>, AllocError>
     ensures none { result ≡ Ok None → HasData blocks inodes None }
     ensures answered { IfOk result (λ told. IfSome told (λ ended. (data_blocks : ℕ)
         × HasData blocks inodes (Some data_blocks)
-        × IsStream (fresh_files data_blocks inodes made clock) input.now ended.0.items ended.1)) }
+        × IsStream (fresh_files data_blocks inodes made pace) input.now ended.0.items ended.1)) }
 {
-    let Some(mut session) = PlainSession::new(alloc, blocks, inodes, made, clock)? else {
+    let Some(mut session) = PlainSession::new(alloc, blocks, inodes, made, pace)? else {
         return Ok(None);
     };
     let mut replies = Vec::new(alloc);

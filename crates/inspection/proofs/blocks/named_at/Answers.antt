@@ -1,4 +1,4 @@
-use Rattle.std.proofs.Common.{◌≡◌, ◌≤◌, ◌-◌, ◌∙◌, sym, ap, get_or, arith}
+use Rattle.std.proofs.Common.{◌-◌, ◌∙◌, sym, ap, get_or, arith}
 use Rattle.limits.specs.declared.TheConstants.{DIRECT_INDEXES, INDIRECT_INDEXES}
 use Rattle.layout.specs.Fields.{numbers_at}
 use Rattle.inspection.specs.Refused.{far}

@@ -1,5 +1,4 @@
-use Rattle.std.proofs.Common.{◌≡◌, ℕ, ◌<◌, ◌∙◌, sym, subst, List, [], ◌∷◌, suc, zero, true, ◌&&◌, get_or, length, arith, refl}
-use Rattle.std.specs.List.{list_all}
+use Rattle.std.proofs.Common.{arith}
 use Rattle.limits.specs.declared.TheConstants.{INDIRECT_INDEXES}
 use Rattle.layout.specs.Fields.{numbers_at}
 use Rattle.layout.specs.InodeForm.{is_data_block_or_none}

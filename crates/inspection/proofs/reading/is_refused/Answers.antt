@@ -1,4 +1,4 @@
-use Rattle.std.proofs.Common.{◌≡◌, ℕ, ◌≤◌, ◌∙◌, [], inl, inr, sym, ap, subst, refl, slice_index_or, Contains, length, arith}
+use Rattle.std.proofs.Common.{◌≡◌, ℕ, ◌∙◌, [], inl, inr, sym, ap, subst, slice_index_or, Contains, length, arith}
 use Rattle.std.proofs.lemmas.Bool.{cases_lt}
 use Rattle.layout_records.specs.OnGrid.{IsInodeAt}
 use Rattle.txn.specs.Object.{ObjectBytes}

@@ -1,4 +1,4 @@
-use Rattle.std.proofs.Common.{◌∙◌, sym, ap, Option, Some, Ok, Err}
+use Rattle.std.proofs.Common.{◌∙◌, sym, ap, Option, Ok}
 use Rattle.layout.specs.declared.inode.Inode.{Inode}
 use Rattle.inspection.specs.Refused.{refused_block, refused_inode}
 use Rattle.inspection.proofs.Files.{of_none, of_some}
