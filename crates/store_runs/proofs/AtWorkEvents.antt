@@ -30,7 +30,7 @@ use Rattle.store_promise.specs.Running.{IsFetchOver, IsRunningOver, IsTold, Stor
 use Rattle.store_promise.specs.Schedule.{Setting, Told, told_after}
 use Rattle.store_promise.specs.declared.events.Event.TheVariants as event
 use Rattle.store_promise.specs.declared.events.Step.{Step}
-use Rattle.store_workers.specs.Alone.{IsOutAlone, PlansAlone}
+use Rattle.store_workers.specs.Alone.{IsOutAlone, LeavesNothing, PlansAlone}
 use Rattle.store_runs.specs.AtWork.{IsCoreAtWork, Loads, LoadsFor, fetches_in, fetches_of}
 use Rattle.store_images.specs.Fetches.{FetchesOnly}
 use Rattle.store_workers.specs.Telling.{TakesCall}
@@ -50,6 +50,7 @@ call_core ctx call old new (Some made) core takes at with = record {
   alone = record {
     out = subst (λ (s : State). IsOutAlone s core) (sym takes.3) at.alone.out;
     fetches = subst (λ (s : State). FetchesOnly s.begun.io core) (sym takes.3) at.alone.fetches;
+    left = subst (λ (s : State). LeavesNothing s.phase s.known) (sym takes.3) refl;
     plans = subst (λ (s : State). PlansAlone s.phase s core) (sym takes.3) tt;
   };
   loads = subst (λ (s : State). Loads s core) (sym takes.3) tt;
@@ -81,9 +82,10 @@ read_core ok io content old core phase_is io_is at with = record {
   alone = record {
     out = at.alone.out;
     fetches = subst (λ (found : Option Fetch). FetchesOnly found core) io_is at.alone.fetches;
+    left = subst (λ (p : Phase). LeavesNothing p old.known) phase_is at.alone.left;
     plans = subst (λ (p : Phase). PlansAlone p old core) phase_is at.alone.plans;
   };
-  loads = subst (λ (p : Phase). LoadsFor p old.begun.tx old.asked core) phase_is at.loads;
+  loads = subst (λ (p : Phase). LoadsFor p old.begun.tx old.asked old.known core) phase_is at.loads;
 }
 
 -- a block whose fetch is pending lies behind the log and within the image

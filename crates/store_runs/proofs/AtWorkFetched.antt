@@ -49,6 +49,12 @@ taken_more : (hold : Hold) (had : Option Hold) (mine : Bool) → is_some had ≡
 taken_more hold had true some = refl
 taken_more hold had false some = some
 
+-- and the hold itself is taken
+taken_so : (hold : Hold) (had : Option Hold) (mine : Bool) → mine ≡ true
+    → is_some (if mine then Some (joined had hold) else had) ≡ true
+taken_so hold had true mine = refl
+taken_so hold had false mine = absurd (true≢false (sym mine))
+
 -- what is in memory besides a block that came
 memory_with : (block : BlockNo) (content before : Content) (there : BlockNo → Option Content) (at : BlockNo)
     → there at ≡ Some before → (now : Content) × (with_content block content there at ≡ Some now)
@@ -60,7 +66,7 @@ memory_with block content before there at is = by (nat_eq at.0 block.0)
 
 module _ (old new : CoreState) (tx : ℕ) (fetched : List Addr) (addr : Addr) where
   module _ (bytes : List ℕ) (held : IsHeld old tx addr modes.Exclusive bytes new) where
-    one_held : (a : Addr) → IsLoadedFor old tx a → IsLoadedFor new tx a
+    pub one_held : (a : Addr) → IsLoadedFor old tx a → IsLoadedFor new tx a
     one_held a loaded =
         let some : has_taken new tx a ≡ true = ap (λ (o : Option Hold). is_some o) (held.leaves.holds tx a)
         ∙ taken_more (for_reading tx addr modes.Exclusive) (taken_by old tx a)
@@ -72,11 +78,27 @@ module _ (old new : CoreState) (tx : ℕ) (fetched : List Addr) (addr : Addr) wh
           there = held.leaves.stays a.block now.0 now.1 (is_needed new tx a some);
         }
 
+    -- so is the object itself
+    pub now_held : IsLoadedFor new tx addr
+    now_held =
+        let some : has_taken new tx addr ≡ true = ap (λ (o : Option Hold). is_some o) (held.leaves.holds tx addr)
+        ∙ taken_so (for_reading tx addr modes.Exclusive) (taken_by old tx addr)
+        (is_hold_of tx addr (for_reading tx addr modes.Exclusive))
+        (is_hold_by tx addr (for_reading tx addr modes.Exclusive) refl refl refl refl) in
+        record {
+          taken = some;
+          content = held.content;
+          there = held.leaves.stays addr.block held.content
+              (ap (λ (b : Bool). if b then Some held.content else in_memory old addr.block)
+              (eq-eqb addr.block.0 addr.block.0 refl))
+              (is_needed new tx addr some);
+        }
+
     pub after_held : AreLoadedFor old tx fetched → AreLoadedFor new tx fetched
     after_held = All-weaker (IsLoadedFor old tx) (IsLoadedFor new tx) one_held fetched
 
   module _ (took : IsTaken old tx addr new) where
-    one_claimed : (a : Addr) → IsLoadedFor old tx a → IsLoadedFor new tx a
+    pub one_claimed : (a : Addr) → IsLoadedFor old tx a → IsLoadedFor new tx a
     one_claimed a loaded =
         let some : has_taken new tx a ≡ true = ap (λ (o : Option Hold). is_some o) (took.leaves.holds tx a)
         ∙ taken_more (for_writing tx addr) (taken_by old tx a)
@@ -94,7 +116,7 @@ module _ (old new : CoreState) (tx : ℕ) (fetched : List Addr) (addr : Addr) wh
     abbrev hold : Hold
     hold = for_fetching tx addr modes.Exclusive
 
-    one_wanted : (a : Addr) → IsLoadedFor old tx a → IsLoadedFor new tx a
+    pub one_wanted : (a : Addr) → IsLoadedFor old tx a → IsLoadedFor new tx a
     one_wanted a loaded =
         let some : has_taken new tx a ≡ true = ap (λ (o : Option Hold). is_some o) (asked.leaves.holds tx a)
         ∙ taken_more hold (taken_by old tx a) (is_hold_of tx a hold) loaded.taken in
@@ -109,12 +131,8 @@ module _ (old new : CoreState) (tx : ℕ) (fetched : List Addr) (addr : Addr) wh
 
     pub wanted_taken : has_taken new tx addr ≡ true
     wanted_taken = ap (λ (o : Option Hold). is_some o) (asked.leaves.holds tx addr)
-        ∙ by (is_hold_of tx addr hold) (is_hold_by tx addr hold refl refl refl refl)
-      where
-        by : (mine : Bool) → mine ≡ true
-            → is_some (if mine then Some (joined (taken_by old tx addr) hold) else taken_by old tx addr) ≡ true
-        by true mine = refl
-        by false mine = absurd (true≢false (sym mine))
+        ∙ taken_so hold (taken_by old tx addr) (is_hold_of tx addr hold)
+        (is_hold_by tx addr hold refl refl refl refl)
 
   module _ (io : Fetch) (taken : has_taken old tx addr ≡ true) (block : io.block ≡ addr.block)
       (pending : is_fetching old io.block ≡ true)
@@ -128,7 +146,7 @@ module _ (old new : CoreState) (tx : ℕ) (fetched : List Addr) (addr : Addr) wh
         ap (λ (b : Bool). (if b then with_content io.block io.content (in_memory old) else in_memory
         old) at) pending
 
-    one_given : (a : Addr) → IsLoadedFor old tx a → IsLoadedFor new tx a
+    pub one_given : (a : Addr) → IsLoadedFor old tx a → IsLoadedFor new tx a
     one_given a loaded =
         let some = still_taken a loaded.taken in
         let now = memory_with io.block io.content loaded.content (in_memory old) a.block loaded.there in
@@ -138,7 +156,7 @@ module _ (old new : CoreState) (tx : ℕ) (fetched : List Addr) (addr : Addr) wh
           there = leaves.stays a.block now.0 (there_is a.block ∙ now.1) (is_needed new tx a some);
         }
 
-    now_given : IsLoadedFor new tx addr
+    pub now_given : IsLoadedFor new tx addr
     now_given =
         let some = still_taken addr taken in
         record {

@@ -2,7 +2,7 @@
 -- own.
 use Rattle.std.proofs.Common.{◌≡◌, ◌∙◌, inl, inr, refl, sym, ap, subst, true≢false, ℕ, Bool, true, false}
 use Rattle.std.proofs.Common.{Option, Some}
-use Rattle.std.proofs.Common.{None, List, [], All}
+use Rattle.std.proofs.Common.{None, List, [], All, if◌then◌else◌}
 use Rattle.std.specs.Prelude.{IsSomeAnd}
 use Rattle.std.proofs.lemmas.List.Elements.{All-head, All-weaker}
 use Rattle.disk.specs.Crash.{Image}
@@ -40,13 +40,18 @@ use Rattle.store_runs.specs.AtWork.{HasTakenPlace, IsSeenIn, entry_by, fetches_i
 use Rattle.store_workers.specs.Seen.{Seen}
 use Rattle.store_workers.specs.Stages.{IsJobIn, IsWorkerAt, StandsAt}
 use Rattle.store_workers.specs.WorkerAnswers.{after_commit, begun_claimed, begun_wanted, committing_of}
-use Rattle.store_workers.specs.WorkerAnswers.{phase_claimed, phase_wanted, told_of, with_answer}
+use Rattle.store_workers.specs.WorkerAnswers.{object, phase_claimed, phase_off, phase_wanted, told_of, with_answer}
 use Rattle.store_workers.specs.WorkerAnswers.{with_entry}
 use Rattle.store_workers.specs.WorkerSteps.{GoesOn, HasGivenBack, IsFromHome, IsNext, IsTold}
 use Rattle.store_workers.specs.WorkerSteps.{KeepsHomeOf, Side}
 use Rattle.store_workers.specs.WorkerSteps.{given_step, planned_of}
 use Rattle.store_workers.specs.declared.workers.parts.Job.{Job}
 use Rattle.store_workers.specs.declared.workers.parts.Phase.{Phase}
+use Rattle.objects.specs.declared.addr.Addr.{Addr}
+use Rattle.disk.specs.declared.block.BlockNo.{BlockNo}
+use Rattle.store_promise.specs.Aims.{is_above}
+use Rattle.store_promise.specs.declared.aims.Aim.{Aim}
+use Rattle.store_promise.specs.declared.aims.Aim.TheVariants as aim
 use Rattle.store_workers.specs.declared.workers.parts.Phase.TheVariants.{Idle, Called, Planning}
 use Rattle.store_workers.specs.declared.workers.parts.Phase.TheVariants.{Reading, Read}
 use Rattle.store_workers.specs.declared.workers.parts.Phase.TheVariants.{Refused, Again, Waiting}
@@ -66,20 +71,30 @@ module _ (old new : Side) where
   at_old phase is phase_is none =
       at old.worker is (ap (λ (p : Phase). fetches_in p old.worker.begun.io) phase_is ∙ none)
 
-  wanted_none : (answer : Want) → fetches_in (phase_wanted answer) (begun_wanted answer).io ≡ []
-  wanted_none (want.Held back bytes) = refl
-  wanted_none (want.Fetch back io) = refl
-  wanted_none (want.Busy back) = refl
-  wanted_none (want.Loading back) = refl
-  wanted_none (want.Outside back) = refl
-  wanted_none (want.NoMemory back) = refl
+  -- who is kept off fetches nothing
+  off_none : (wished : Aim) → fetches_in (phase_off wished old.worker.known) None ≡ []
+  off_none wished = by (is_above wished old.worker.known.taken)
+    where
+      by : (above : Bool) → fetches_in (if above then Again else Planning) None ≡ []
+      by true = refl
+      by false = refl
 
-  claimed_none : (answer : Claim) → fetches_in (phase_claimed answer) (begun_claimed answer).io ≡ []
-  claimed_none (claim.Held back) = refl
-  claimed_none (claim.Busy back) = refl
-  claimed_none (claim.Loading back) = refl
-  claimed_none (claim.Outside back) = refl
-  claimed_none (claim.NoMemory back) = refl
+  wanted_none : (addr : Addr) (answer : Want)
+      → fetches_in (phase_wanted addr answer old.worker.known) (begun_wanted answer).io ≡ []
+  wanted_none addr (want.Held back bytes) = refl
+  wanted_none addr (want.Fetch back io) = refl
+  wanted_none addr (want.Busy back) = off_none (object addr)
+  wanted_none addr (want.Loading back) = off_none (object addr)
+  wanted_none addr (want.Outside back) = refl
+  wanted_none addr (want.NoMemory back) = refl
+
+  claimed_none : (block : BlockNo) (answer : Claim)
+      → fetches_in (phase_claimed block answer old.worker.known) (begun_claimed answer).io ≡ []
+  claimed_none block (claim.Held back) = refl
+  claimed_none block (claim.Busy back) = off_none (aim.Claim block)
+  claimed_none block (claim.Loading back) = off_none (aim.Claim block)
+  claimed_none block (claim.Outside back) = refl
+  claimed_none block (claim.NoMemory back) = refl
 
   placed_none : (job : Job) (reply : Reply) (place : Seq) (base : State) (stable : Bool)
       → fetches_of (with_entry job reply (told_of stable job reply place base)) ≡ []
@@ -127,11 +142,11 @@ module _ (old new : Side) where
     begun = λ job one job_is served has phase_is. at _ has.worker refl;
     not_begun = λ job why job_is served none core is phase_is. at _ is refl;
     replied = λ job job_is served core is phase_is. at _ is refl;
-    wanted = λ tx addr made tx_is next has phase_is. at _ has.worker (wanted_none has.answer);
-    claimed = λ tx block made tx_is next has phase_is. at _ has.worker (claimed_none has.answer);
-    committed = λ job tx done made tx_is next job_is has phase_is.
+    wanted = λ tx addr made tx_is next has phase_is. at _ has.worker (wanted_none addr has.answer);
+    claimed = λ tx block made tx_is next has phase_is. at _ has.worker (claimed_none block has.answer);
+    committed = λ job tx done made tx_is next none job_is has phase_is.
         at _ has.worker (committed_none job done.reply _ has.answer);
-    lacked = λ tx made tx_is has phase_is. at _ has.worker refl;
+    lacked = λ tx made tx_is none has phase_is. at _ has.worker refl;
     given = given_none;
     refused = λ why job tx made job_is tx_is has phase_is. at _ has.worker refl;
     left = λ tx made tx_is has phase_is. at _ has.worker refl;
@@ -215,10 +230,10 @@ module _ (old new : Side) (boot number : ℕ) (entries : List Committed) where
     replied = λ job job_is served core is stands has. absurd (true≢false (sym has));
     wanted = λ tx addr made tx_is next was stands has. absurd (true≢false (sym has));
     claimed = λ tx block made tx_is next was stands has. absurd (true≢false (sym has));
-    committed = λ job tx done made tx_is next job_is was.
+    committed = λ job tx done made tx_is next none job_is was.
         place_taken job tx done _ was.answer (added_blocks old.core.log (blocks_of done.written)) next
         job_is was.core was.worker;
-    lacked = λ tx made tx_is was stands has. absurd (true≢false (sym has));
+    lacked = λ tx made tx_is none was stands has. absurd (true≢false (sym has));
     given = given_not;
     refused = λ why job tx made job_is tx_is was stands has. absurd (true≢false (sym has));
     left = λ tx made tx_is was stands has. absurd (true≢false (sym has));

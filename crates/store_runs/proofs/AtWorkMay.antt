@@ -1,13 +1,13 @@
 -- Each step of a worker that is alone is one that may be made.
 use Rattle.std.proofs.Common.{◌≡◌, ◌∙◌, ◌↔◌, refl, sym, ap, subst, true≢false, ℕ, ◌+◌, ◌^◌, ◌≤◌, arith, Bool}
 use Rattle.std.proofs.Common.{true, false, ◌||◌, nat_eq, nat_le, IsTrue, Option, Some, None, List, [], ◌∷◌}
-use Rattle.std.proofs.Common.{◌<◌, length, map, All, IfSome}
+use Rattle.std.proofs.Common.{◌<◌, ◌⊎◌, inl, inr, length, map, All, IfSome}
 use Rattle.std.proofs.Common.{Ok, Err}
 use Rattle.std.specs.Prelude.{IsSomeAnd}
-use Rattle.std.specs.List.{list_any}
+use Rattle.std.proofs.lemmas.List.Folds.{list_any_none}
 use Rattle.std.proofs.lemmas.Bool.{eqb-true}
 use Rattle.std.proofs.lemmas.Bool.Decides.{nat_tests}
-use Rattle.std.proofs.lemmas.List.Elements.{All-head, All-tail, All-weaker}
+use Rattle.std.proofs.lemmas.List.Elements.{All-weaker}
 use Rattle.disk.specs.Crash.{Image}
 use Rattle.disk.specs.Device.{Content}
 use Rattle.disk.specs.declared.block.BlockNo.{BlockNo}
@@ -21,8 +21,8 @@ use Rattle.objects.specs.declared.mode.Mode.TheVariants as modes
 use Rattle.procs.proofs.FewClaimed.{claimed_object}
 use Rattle.procs.specs.Asks.{Asks, Claims}
 use Rattle.procs.specs.Outcome.{Outcome}
+use Rattle.procs.specs.declared.next.Plan.{Plan}
 use Rattle.procs.specs.declared.next.Plan.TheVariants as plan
-use Rattle.inode.specs.declared.snap.Snap.{Snap}
 use Rattle.inode.specs.Snap.{is_claimed, is_seen, same_addr}
 use Rattle.layout.proofs.OnGrid.{at_home}
 use Rattle.txn.specs.Outcomes.{IsClaimed, IsCommit, IsWanted}
@@ -35,7 +35,7 @@ use Rattle.txn.specs.declared.outcomes.Commit.{Commit}
 use Rattle.txn.specs.declared.outcomes.Commit.TheVariants as commit
 use Rattle.txn.specs.declared.outcomes.Want.{Want}
 use Rattle.txn.specs.declared.outcomes.Want.TheVariants as want
-use Rattle.txn_law.specs.Commit.{IsReadBy, Planned}
+use Rattle.txn_law.specs.Commit.{Planned}
 use Rattle.txn_law.specs.Core.{CoreState, IsOut}
 use Rattle.txn_law.specs.Fetch.{Fetch}
 use Rattle.txn_law.specs.Group.{blocks_of}
@@ -46,11 +46,13 @@ use Rattle.wal_law.specs.Log.{IsHomeOn, added_blocks, settled_place}
 use Rattle.wal_law.specs.Room.{HasPlaces}
 use Rattle.wal_law.specs.declared.outcomes.Seq.{Seq}
 use Rattle.store_promise.specs.LogTold.{LogTold, settled_told}
-use Rattle.store_promise.specs.Progress.{Begun, Progress, Taken, addrs_of, is_loaded}
+use Rattle.store_promise.specs.Progress.{Begun, Progress, is_loaded, is_object_in}
+use Rattle.store_promise.specs.declared.aims.Aim.{Aim}
+use Rattle.store_promise.specs.declared.aims.Aim.TheVariants as aim
 use Rattle.store_promise.specs.Progress as how
 use Rattle.store_promise.specs.Running.{IsRunningOver, IsTold, StoreSide}
 use Rattle.store_promise.specs.Schedule.{HasNumbers, IsAskedFor, IsBeginning, IsClaimAskedFor, IsClaimWish}
-use Rattle.store_promise.specs.Schedule.{IsCommitting, IsStepByPlan}
+use Rattle.store_promise.specs.Schedule.{IsCommitting, IsStepBeside, IsStepByPlan}
 use Rattle.store_promise.specs.Schedule.{IsStepOfCalled, IsStepOfWork}
 use Rattle.store_promise.specs.Schedule.{IsStepOfWaiting, IsWish, Setting, Told, is_held}
 use Rattle.store_promise.specs.Schedule as schedule
@@ -61,14 +63,15 @@ use Rattle.store_promise.specs.declared.events.Step.TheVariants as step
 use Rattle.store_promise.proofs.ToldLog.{numbers_are, settled_is}
 use Rattle.store_runs.proofs.AtWorkStays.{some_of}
 use Rattle.store_workers.proofs.LoneWorker.{has_of, never_kept_off, seen_of}
-use Rattle.store_workers.proofs.WorkCases.{Cases, by_cases}
-use Rattle.store_workers.specs.Alone.{HasOfCall, PlansAlone, is_kept_off}
-use Rattle.store_runs.specs.AtWork.{AreLoadedFor, IsCoreAtWork, IsLoadedFor, LoadsFor}
+use Rattle.store_workers.proofs.WorkCases.{Cases, IsWished, by_cases}
+use Rattle.store_workers.specs.Alone.{HasOfCall, LeavesNothing, PlansAlone, is_kept_off}
+use Rattle.store_workers.specs.Knowing.{Knowing, known_in}
+use Rattle.store_runs.specs.AtWork.{IsAimLoaded, IsCoreAtWork, LoadsFor}
 use Rattle.store_workers.specs.Seen.{Seen, seen_in}
 use Rattle.store_workers.specs.Stages.{IsFetchOf, IsJobIn, IsWorkerAt, RunsIn, StandsAt, alone, at_fetch}
 use Rattle.store_workers.specs.Stages.{at_stage, begun_of}
 use Rattle.store_workers.specs.Stages.{progress_in, progress_of}
-use Rattle.store_workers.specs.WorkerAnswers.{claim_wish, committing_of, wish_of}
+use Rattle.store_workers.specs.WorkerAnswers.{claim_wish, committing_of, object, wish_of}
 use Rattle.store_workers.specs.WorkerSteps.{GoesOn, HasClaimed, HasCommitted, HasLacked, HasWanted, IsNext}
 use Rattle.store_workers.specs.WorkerSteps.{IsNoBeginning, Side}
 use Rattle.store_workers.specs.WorkerSteps.{given_step, planned_of, side}
@@ -84,28 +87,6 @@ held_as_seen : (addr : Addr) (objects : List ObjectBytes)
     → is_held addr (map (λ (object : ObjectBytes). alone object.addr) objects) ≡ is_seen addr objects
 held_as_seen addr [] = refl
 held_as_seen addr (x ∷ xs) = ap (λ (b : Bool). same_addr addr x.addr || b) (held_as_seen addr xs)
-
--- none of these lies in the block
-none_in : (block : BlockNo) (addrs : List Addr) → All (λ (a : Addr). nat_eq a.block.0 block.0 ≡ false) addrs
-    → list_any (λ (taken : Taken). nat_eq taken.addr.block.0 block.0) (map alone addrs) ≡ false
-none_in block [] none = refl
-none_in block (x ∷ xs) none =
-    let P : Addr → Type 0 = λ a. nat_eq a.block.0 block.0 ≡ false in
-    ap (λ (b : Bool). b || list_any (λ (taken : Taken). nat_eq taken.addr.block.0 block.0) (map alone xs))
-    (All-head P x xs none)
-    ∙ none_in block xs (All-tail P x xs none)
-
-none_read : (block : BlockNo) (objects : List ObjectBytes)
-    → All (λ (object : ObjectBytes). nat_eq object.addr.block.0 block.0 ≡ false) objects
-    → list_any (λ (taken : Taken). nat_eq taken.addr.block.0 block.0)
-    (map (λ (object : ObjectBytes). alone object.addr) objects)
-    ≡ false
-none_read block [] none = refl
-none_read block (x ∷ xs) none =
-    let P : ObjectBytes → Type 0 = λ object. nat_eq object.addr.block.0 block.0 ≡ false in
-    ap (λ (b : Bool). b || list_any (λ (taken : Taken). nat_eq taken.addr.block.0 block.0)
-    (map (λ (object : ObjectBytes). alone object.addr) xs)) (All-head P x xs none)
-    ∙ none_read block xs (All-tail P x xs none)
 
 -- a block that is in memory isn't one that isn't
 differs : (core : CoreState) (one other : BlockNo) (content : Content) → in_memory core one ≡ Some content
@@ -124,11 +105,11 @@ module _ (o : Setting) (told : Told) (worker : ℕ) (base : Image) (store : Stor
     (first last : Tree) (entries : List Entry)
     (run : IsRunningOver o base store fetches boot first entries last)
     (is_told : IsTold o told store) (inodes : o.geometry.inodes ≡ store.core.inodes)
-    (tx : ℕ) (seen : Seen)
-    (fetched : List Addr) (is_out : IsOut store.core tx) (has : HasOfCall tx store.core seen) (loaded : AreLoadedFor store.core tx fetched)
+    (tx : ℕ) (seen : Seen) (knowing : Knowing) (is_out : IsOut store.core tx) (has : HasOfCall tx store.core seen)
+    (loaded : All (IsAimLoaded store.core tx) knowing.taken)
     (one_geometry : (g h : Geometry) → g.blocks ≡ h.blocks → g.inodes ≡ h.inodes → g ≡ h) where
   abbrev begun : Begun
-  begun = begun_of (Some tx) (Some seen) fetched
+  begun = begun_of (Some tx) (Some seen) knowing
 
   geometry_is : seen.geometry ≡ o.geometry
   geometry_is = one_geometry seen.geometry o.geometry (has.blocks ∙ sym run.blocks) (has.inodes ∙ sym inodes)
@@ -145,14 +126,12 @@ module _ (o : Setting) (told : Told) (worker : ℕ) (base : Image) (store : Stor
     -- nothing of a block that has to be fetched was had
     not_loaded : in_memory store.core addr.block ≡ None → is_loaded addr.block begun ≡ false
     not_loaded absent =
-        λ i. none_read addr.block seen.objects (All-weaker (IsReadBy store.core tx)
-        (λ (object : ObjectBytes). nat_eq object.addr.block.0 addr.block.0 ≡ false)
-        (λ object read. differs store.core object.addr.block addr.block read.current.content
-        read.current.there absent)
-        seen.objects has.read) i
-        || none_in addr.block fetched (All-weaker (IsLoadedFor store.core tx)
-        (λ (a : Addr). nat_eq a.block.0 addr.block.0 ≡ false)
-        (λ a is. differs store.core a.block addr.block is.content is.there absent) fetched loaded) i
+        list_any_none (is_object_in addr.block) knowing.taken (All-weaker (IsAimLoaded store.core tx)
+        (λ (one : Aim). is_object_in addr.block one ≡ false) apart knowing.taken loaded)
+      where
+        apart : (one : Aim) → IsAimLoaded store.core tx one → is_object_in addr.block one ≡ false
+        apart (aim.Object a mode) is = differs store.core a.block addr.block is.content is.there absent
+        apart (aim.Claim block) is = refl
 
     wish_may : (new : CoreState) (answer : Want) → IsWanted store.core tx addr modes.Exclusive answer new
         → is_kept_off (Some (step.Wanted addr modes.Exclusive (wish_of answer))) ≡ false
@@ -278,7 +257,7 @@ module _ (o : Setting) (told : Told) (number : ℕ) (base : Image) (store : Stor
   old = side worker store.core
 
   abbrev all_begun : Begun
-  all_begun = begun_of worker.begun.tx (seen_in worker.work.snap) worker.asked.fetched
+  all_begun = begun_of worker.begun.tx (seen_in worker.work.snap) worker.known
 
   -- the step may be made by a worker that is so far
   abbrev MayFrom : Progress → Option Step → Type 0
@@ -286,8 +265,9 @@ module _ (o : Setting) (told : Told) (number : ℕ) (base : Image) (store : Stor
 
   abbrev May : Phase → Option Step → Type 0
   May phase made = PlansAlone phase worker store.core
-      → LoadsFor phase worker.begun.tx worker.asked store.core → StandsAt boot entries phase worker
-      → is_kept_off made ≡ false → MayFrom (progress_in phase worker.work.job all_begun worker.asked) made
+      → LoadsFor phase worker.begun.tx worker.asked worker.known store.core → LeavesNothing phase worker.known
+      → StandsAt boot entries phase worker → is_kept_off made ≡ false
+      → MayFrom (progress_in phase worker.work.job all_begun worker.asked worker.known) made
 
   broken_is : told.log.broken ≡ store.core.log.broken
   broken_is = ap (λ (log : LogTold). log.broken) is_told.log
@@ -295,9 +275,9 @@ module _ (o : Setting) (told : Told) (number : ℕ) (base : Image) (store : Stor
   -- a call begins
   from_called : (job : Job) (served : Bool) (made : Step) → worker.work.job ≡ Some job
       → has_rules job.call ≡ served
-      → IsStepOfCalled told served made → MayFrom (at_stage worker.work.job how.Called) (Some made)
+      → IsStepOfCalled told served made → MayFrom (at_stage worker.work.job (how.Called (known_in worker.known))) (Some made)
   from_called job served made job_is is may =
-      subst (λ (found : Option Job). MayFrom (at_stage found how.Called) (Some made)) (sym job_is)
+      subst (λ (found : Option Job). MayFrom (at_stage found (how.Called (known_in worker.known))) (Some made)) (sym job_is)
       (subst (λ (b : Bool). IsStepOfCalled told b made) (sym is) may)
 
   begun_may : (one : ℕ) → one ≡ store.core.begun + 1 → store.core.log.broken ≡ false
@@ -320,61 +300,75 @@ module _ (o : Setting) (told : Told) (number : ℕ) (base : Image) (store : Stor
   out_in tx tx_is = subst (λ (o : Option ℕ). IfSome o (IsOut store.core)) tx_is is_out
 
   -- it goes by a plan
-  from_plan : (job : Job) (tx : ℕ) (snap : Snap) (made : Step) → worker.work.job ≡ Some job
-      → worker.begun.tx ≡ Some tx → seen_in worker.work.snap ≡ Some (seen_of snap)
-      → IsStepByPlan o told number (begun_of (Some tx) (Some (seen_of snap)) worker.asked.fetched) made
+  from_plan : (job : Job) (tx : ℕ) (seen : Seen) (made : Step) → worker.work.job ≡ Some job
+      → worker.begun.tx ≡ Some tx → seen_in worker.work.snap ≡ Some seen → worker.known.left ≡ []
+      → IsStepByPlan o told number (begun_of (Some tx) (Some seen) worker.known) made
       → MayFrom (at_stage worker.work.job (how.Planning all_begun)) (Some made)
-  from_plan job tx snap made job_is tx_is snap_is may =
+  from_plan job tx seen made job_is tx_is seen_is none may =
       subst (λ (found : Option Job). MayFrom (at_stage found (how.Planning all_begun)) (Some made)) (sym job_is)
+      (subst (λ (left : List Aim). IsStepBeside left o told number all_begun made) (sym none)
       (subst (λ (begun : Begun). IsStepByPlan o told number begun made)
-      (λ i. begun_of (sym tx_is i) (sym snap_is i) worker.asked.fetched) may)
+      (λ i. begun_of (sym tx_is i) (sym seen_is i) worker.known) may))
 
-  wanted_so : (tx : ℕ) (addr : Addr) (made : Step) → worker.begun.tx ≡ Some tx → IsNext worker (plan.Need addr)
-      → (has : HasWanted tx addr old made new)
+  -- nothing is left to be taken again, so that the plan asks for it
+  next_of : (one : Aim) (next : Plan) → worker.known.left ≡ [] → IsWished worker one next → IsNext worker next
+  next_of one next none wished = by wished.why
+    where
+      by : ((worker.known.left ≡ []) × IsNext worker next)
+          ⊎ ((later : List Aim) × (worker.known.left ≡ one ∷ later)) → IsNext worker next
+      by (inl is) = is.1
+      by (inr is) = let never : one ∷ is.0 ≡ [] = sym is.1 ∙ none in cc
+
+  wanted_so : (tx : ℕ) (addr : Addr) (made : Step) → worker.begun.tx ≡ Some tx
+      → IsWished worker (object addr) (plan.Need addr) → (has : HasWanted tx addr old made new)
       → May Planning (Some (step.Wanted addr modes.Exclusive (wish_of has.answer)))
-  wanted_so tx addr made tx_is is has plans loads stands off =
-      from_plan is.job tx is.snap _ is.job_is tx_is is.snap_is
+  wanted_so tx addr made tx_is wished has plans loads none stands off =
+      let is = next_of (object addr) (plan.Need addr) none wished in
+      from_plan is.job tx (seen_of is.snap) _ is.job_is tx_is is.snap_is none
       (wanted_may o told number base store fetches boot first last entries run is_told inodes tx
-      (seen_of is.snap) worker.asked.fetched (out_in tx tx_is)
+      (seen_of is.snap) worker.known (out_in tx tx_is)
       (has_of worker store.core is.job tx (seen_of is.snap) is.job_is tx_is is.snap_is plans)
-      (some_of (λ n. AreLoadedFor store.core n worker.asked.fetched) worker.begun.tx tx tx_is loads)
+      (some_of (λ n. All (IsAimLoaded store.core n) worker.known.taken) worker.begun.tx tx tx_is loads)
       one_geometry addr is.plan.1 is.plan.0 new.core has.answer has.core off)
 
   claimed_so : (tx : ℕ) (block : BlockNo) (made : Step) → worker.begun.tx ≡ Some tx
-      → IsNext worker (plan.Claim block) → (has : HasClaimed tx block old made new)
+      → IsWished worker (aim.Claim block) (plan.Claim block) → (has : HasClaimed tx block old made new)
       → May Planning (Some (step.Claimed block (claim_wish has.answer)))
-  claimed_so tx block made tx_is is has plans loads stands off =
-      from_plan is.job tx is.snap _ is.job_is tx_is is.snap_is
+  claimed_so tx block made tx_is wished has plans loads none stands off =
+      let is = next_of (aim.Claim block) (plan.Claim block) none wished in
+      from_plan is.job tx (seen_of is.snap) _ is.job_is tx_is is.snap_is none
       (claimed_may o told number base store fetches boot first last entries run is_told inodes tx
-      (seen_of is.snap) worker.asked.fetched (out_in tx tx_is)
+      (seen_of is.snap) worker.known (out_in tx tx_is)
       (has_of worker store.core is.job tx (seen_of is.snap) is.job_is tx_is is.snap_is plans)
-      (some_of (λ n. AreLoadedFor store.core n worker.asked.fetched) worker.begun.tx tx tx_is loads)
+      (some_of (λ n. All (IsAimLoaded store.core n) worker.known.taken) worker.begun.tx tx tx_is loads)
       one_geometry block is.plan.1 is.plan.0 has.core.0 has.core.1 new.core has.answer has.core.2 off)
 
   committed_so : (job : Job) (tx : ℕ) (done : Outcome) (made : Step) → worker.begun.tx ≡ Some tx
-      → IsNext worker (plan.Done done) → worker.work.job ≡ Some job
+      → IsNext worker (plan.Done done) → worker.known.left ≡ [] → worker.work.job ≡ Some job
       → (has : HasCommitted job tx done old made new)
       → May Planning (Some (step.Commit (added_blocks store.core.log (blocks_of done.written))
       (committing_of has.answer)))
-  committed_so job tx done made tx_is is job_is has plans loads stands off =
-      from_plan is.job tx is.snap _ is.job_is tx_is is.snap_is
+  committed_so job tx done made tx_is is none job_is has plans loads left stands off =
+      from_plan is.job tx (seen_of is.snap) _ is.job_is tx_is is.snap_is none
       (commit_may o base store fetches boot first last entries run tx (planned_of done) told number
-      (begun_of (Some tx) (Some (seen_of is.snap)) worker.asked.fetched) done has.answer new.core
+      (begun_of (Some tx) (Some (seen_of is.snap)) worker.known) done has.answer new.core
       is_told is.plan.1 has.core off)
 
-  lacked_so : (tx : ℕ) (made : Step) → worker.begun.tx ≡ Some tx → HasLacked tx old made new
+  lacked_so : (tx : ℕ) (made : Step) → worker.begun.tx ≡ Some tx → worker.known.left ≡ []
+      → HasLacked tx old made new
       → May Planning (Some (step.Ended ending.NoMemory))
-  lacked_so tx made tx_is has plans loads stands off = by worker.work.job plans
+  lacked_so tx made tx_is none has plans loads left stands off = by worker.work.job plans
     where
       by : (job : Option Job) → IsSomeAnd job (λ job. IsSomeAnd worker.begun.tx (λ t.
           IsSomeAnd (seen_in worker.work.snap) (λ seen. HasOfCall t store.core seen)))
           → MayFrom (at_stage job (how.Planning all_begun)) (Some (step.Ended ending.NoMemory))
       by None plans = absurd plans
-      by (Some job) plans = tt
+      by (Some job) plans = subst (λ (left : List Aim). IsStepBeside left o told number all_begun
+          (step.Ended ending.NoMemory)) (sym none) tt
 
   -- its read is due, or made
   reading_so : RunsIn boot worker × IsFetchOf worker
-      → MayFrom (progress_in Reading worker.work.job all_begun worker.asked) None
+      → MayFrom (progress_in Reading worker.work.job all_begun worker.asked worker.known) None
   reading_so stands = by worker.work.job worker.asked.wish stands.0 stands.1
     where
       by : (job : Option Job) (wish : Option Addr) → IsSomeAnd job (λ j. IsJobIn boot worker.begun.tx j)
@@ -385,7 +379,7 @@ module _ (o : Setting) (told : Told) (number : ℕ) (base : Image) (store : Stor
       by (Some job) (Some addr) job_in at = refl
 
   given_so : (ok : Bool) (io : Fetch) → worker.begun.io ≡ Some io → RunsIn boot worker × IsFetchOf worker
-      → MayFrom (progress_in (Read ok) worker.work.job all_begun worker.asked) (Some (given_step ok io))
+      → MayFrom (progress_in (Read ok) worker.work.job all_begun worker.asked worker.known) (Some (given_step ok io))
   given_so ok io io_is stands = by worker.work.job worker.asked.wish ok stands.0
       (subst (λ (found : Option Fetch). IsSomeAnd worker.asked.wish (λ addr.
       IsSomeAnd found (λ (one : Fetch). one.block ≡ addr.block))) io_is stands.1)
@@ -400,35 +394,35 @@ module _ (o : Setting) (told : Told) (number : ℕ) (base : Image) (store : Stor
       by (Some job) (Some addr) true job_in at = ap (λ (block : BlockNo). step.Fetched block) at
       by (Some job) (Some addr) false job_in at = ap (λ (block : BlockNo). step.FetchFailed block) at
 
-  left_so : RunsIn boot worker → MayFrom (at_stage worker.work.job (how.Again all_begun))
+  left_so : RunsIn boot worker → MayFrom (at_stage worker.work.job (how.Again all_begun worker.known.off))
       (Some (step.Ended ending.Again))
   left_so stands = by worker.work.job stands
     where
       by : (job : Option Job) → IsSomeAnd job (λ j. IsJobIn boot worker.begun.tx j)
-          → MayFrom (at_stage job (how.Again all_begun)) (Some (step.Ended ending.Again))
+          → MayFrom (at_stage job (how.Again all_begun worker.known.off)) (Some (step.Ended ending.Again))
       by None job_in = absurd job_in
       by (Some job) job_in = refl
 
   may_cases : Cases old new May
   may_cases = record {
-    idle = λ is plans loads stands off. refl;
-    reading = λ is plans loads stands off. reading_so stands;
-    begun = λ job one job_is served has plans loads stands off.
+    idle = λ is plans loads nothing stands off. refl;
+    reading = λ is plans loads nothing stands off. reading_so stands;
+    begun = λ job one job_is served has plans loads nothing stands off.
         from_called job true (step.Begun (Ok one)) job_is served (begun_may one has.next has.sound);
-    not_begun = λ job why job_is served none core is plans loads stands off.
+    not_begun = λ job why job_is served none core is plans loads nothing stands off.
         from_called job true (step.Begun (Err why)) job_is served (not_begun_may why none);
-    replied = λ job job_is served core is plans loads stands off.
+    replied = λ job job_is served core is plans loads nothing stands off.
         from_called job false step.Replied job_is served refl;
     wanted = wanted_so;
     claimed = claimed_so;
     committed = committed_so;
     lacked = lacked_so;
-    given = λ ok io made io_is has plans loads stands off. given_so ok io io_is stands;
-    refused = λ why job tx made job_is tx_is has plans loads stands off.
+    given = λ ok io made io_is has plans loads nothing stands off. given_so ok io io_is stands;
+    refused = λ why job tx made job_is tx_is has plans loads nothing stands off.
         subst (λ (found : Option Job). MayFrom (at_stage found (how.Refused all_begun why))
         (Some (step.Ended ending.Refused))) (sym job_is) refl;
-    left = λ tx made tx_is has plans loads stands off. left_so stands;
-    waited = λ place made has plans loads stands off.
+    left = λ tx made tx_is has plans loads nothing stands off. left_so stands;
+    waited = λ place made has plans loads nothing stands off.
         subst (λ (found : Option Job). MayFrom (at_stage found (how.Waiting place.0))
         (Some (step.Stable place has.settled))) (sym stands.job_is)
         (waits_may o told base store fetches boot first last entries run is_told place has.settled
@@ -438,9 +432,9 @@ module _ (o : Setting) (told : Told) (number : ℕ) (base : Image) (store : Stor
   step_may_out : (made : Option Step) → GoesOn worker.phase old made new → IsCoreAtWork worker store.core
       → IsWorkerAt boot entries worker → MayFrom (progress_of worker) made
   step_may_out made goes at worker_at = by_cases old new May may_cases worker.phase made goes
-      at.alone.plans at.loads worker_at.stands
+      at.alone.plans at.loads at.alone.left worker_at.stands
       (never_kept_off old new run.since.over.tidy at.alone.out at.alone.fetches worker.phase made
-      at.with.sound.fetch at.alone.plans goes)
+      at.with.sound.fetch at.alone.plans at.alone.left goes)
 
 pub step_may : (o : Setting) (told : Told) (number : ℕ) (base : Image) (store : StoreSide)
     (fetches : List Fetch) (boot : ℕ) (first last : Tree) (entries : List Entry)

@@ -1,11 +1,12 @@
 -- A core stays at work for its worker by each step: what was fetched is in memory while the worker goes by
 -- its plans.
 use Rattle.std.proofs.Common.{◌≡◌, ◌∙◌, refl, sym, ap, subst, true≢false, ℕ, Bool, true, false, Option, Some}
-use Rattle.std.proofs.Common.{None}
-use Rattle.std.proofs.Common.{List, ◌++◌}
-use Rattle.std.specs.Prelude.{IsSomeAnd, option_to_list}
+use Rattle.std.proofs.Common.{None, inl, inr, if◌then◌else◌}
+use Rattle.std.proofs.Common.{List, [], All}
+use Rattle.std.specs.Prelude.{IsSomeAnd}
 use Rattle.std.proofs.lemmas.Bool.{eq-eqb}
-use Rattle.std.proofs.lemmas.List.Elements.{All-nil}
+use Rattle.std.proofs.lemmas.List.Elements.{All-nil, All-weaker}
+use Rattle.disk.specs.declared.block.BlockNo.{BlockNo}
 use Rattle.model.specs.Entry.{Entry}
 use Rattle.model.specs.Calls.{is_answered_stable}
 use Rattle.nfs_types.specs.declared.reply.Reply.{Reply}
@@ -29,20 +30,27 @@ use Rattle.txn_law.specs.Tidy.{AreTidy}
 use Rattle.store_promise.specs.declared.answers.Verdict.TheVariants as verdict
 use Rattle.store_promise.specs.declared.events.Step.{Step}
 use Rattle.store_promise.specs.declared.events.Step.TheVariants as step
-use Rattle.store_runs.proofs.AtWorkFetched.{after_claimed, after_given, after_held, after_wanted, wanted_taken}
+use Rattle.store_promise.specs.Aims.{inserted, is_above}
+use Rattle.store_promise.specs.declared.aims.Aim.{Aim}
+use Rattle.store_promise.specs.declared.aims.Aim.TheVariants as aim
+use Rattle.store_promise.proofs.RisingAims.{all_more}
+use Rattle.store_runs.proofs.AtWorkFetched.{now_given, now_held, one_claimed, one_given, one_held, one_wanted}
+use Rattle.store_runs.proofs.AtWorkFetched.{wanted_taken}
 use Rattle.store_workers.proofs.StaysAlone.{stays_alone}
 use Rattle.store_workers.proofs.WorkCases.{Cases, by_cases}
 use Rattle.store_workers.specs.Alone.{HasOfCall, HasTaken, PlansAlone, StaysAlone, is_full}
 use Rattle.store_images.specs.Fetches.{FetchesOnly, is_fetch_of}
-use Rattle.store_runs.specs.AtWork.{AreLoadedFor, FetchesFor, IsCoreAtWork, IsLoadedFor, Loads}
+use Rattle.store_runs.specs.AtWork.{FetchesFor, IsAimLoaded, IsCoreAtWork, IsLoadedBut, IsLoadedFor, Loads}
 use Rattle.store_runs.specs.AtWork.{LoadsFor, has_taken}
 use Rattle.store_workers.specs.Asked.{Asking}
+use Rattle.store_workers.specs.Knowing.{with_off}
 use Rattle.store_workers.specs.Seen.{Seen, seen_in}
 use Rattle.store_workers.specs.Stages.{IsFetchOf, IsWorkerAt, StandsAt}
 use Rattle.store_workers.specs.Telling.{told}
 use Rattle.store_workers.specs.Worker.{GoesWith}
 use Rattle.store_workers.specs.WorkerAnswers.{after_commit, asked_wanted, begun_claimed, begun_wanted}
-use Rattle.store_workers.specs.WorkerAnswers.{committing_of, phase_claimed, phase_wanted}
+use Rattle.store_workers.specs.WorkerAnswers.{committing_of, known_claimed, known_off, known_wanted, object}
+use Rattle.store_workers.specs.WorkerAnswers.{phase_claimed, phase_off, phase_wanted}
 use Rattle.store_workers.specs.WorkerAnswers.{told_of, with_answer, with_entry}
 use Rattle.store_workers.specs.WorkerSteps.{GoesOn, HasGivenBack, IsTold, KeepsReadsOf, Side}
 use Rattle.store_workers.specs.WorkerSteps.{given_step, planned_of, there_given}
@@ -63,47 +71,89 @@ module _ (old new : Side) where
   loads_by worker is loads = subst (λ (w : State). Loads w new.core) (sym is) loads
 
   loads_same : (phase : Phase) → new ≡ old → old.worker.phase ≡ phase
-      → LoadsFor phase old.worker.begun.tx old.worker.asked old.core → Loads new.worker new.core
+      → LoadsFor phase old.worker.begun.tx old.worker.asked old.worker.known old.core → Loads new.worker new.core
   loads_same phase is phase_is loads = subst (λ (s : Side). Loads s.worker s.core) (sym is)
-      (subst (λ (p : Phase). LoadsFor p old.worker.begun.tx old.worker.asked old.core) (sym phase_is) loads)
+      (subst (λ (p : Phase). LoadsFor p old.worker.begun.tx old.worker.asked old.worker.known old.core)
+      (sym phase_is) loads)
 
-  same_loads : (back tx : ℕ) → back ≡ tx → new.core ≡ old.core
-      → AreLoadedFor old.core tx old.worker.asked.fetched → AreLoadedFor new.core back old.worker.asked.fetched
-  same_loads back tx is same loaded = subst (λ (n : ℕ). AreLoadedFor new.core n
-      old.worker.asked.fetched) (sym is) (subst
-      (λ (c : CoreState). AreLoadedFor c tx old.worker.asked.fetched) (sym same) loaded)
+  abbrev taken : List Aim
+  taken = old.worker.known.taken
 
-  -- a wish
-  wanted_loads : (tx : ℕ) (addr : Addr) (answer : Want)
-      → IsWanted old.core tx addr modes.Exclusive answer new.core
-      → AreLoadedFor old.core tx old.worker.asked.fetched
-      → LoadsFor (phase_wanted answer) (begun_wanted answer).tx
-      (asked_wanted addr answer old.worker.asked) new.core
-  wanted_loads tx addr (want.Held back bytes) is loaded =
-      subst (λ (n : ℕ). AreLoadedFor new.core n old.worker.asked.fetched) (sym is.0)
-      (after_held old.core new.core tx old.worker.asked.fetched addr bytes.items is.2 loaded)
-  wanted_loads tx addr (want.Fetch back io) is loaded =
-      subst (λ (n : ℕ). AreLoadedFor new.core n old.worker.asked.fetched
+  abbrev AreLoaded : CoreState → ℕ → Type 0
+  AreLoaded core tx = All (IsAimLoaded core tx) taken
+
+  same_loads : (back tx : ℕ) → back ≡ tx → new.core ≡ old.core → AreLoaded old.core tx → AreLoaded new.core back
+  same_loads back tx is same loaded = subst (λ (n : ℕ). AreLoaded new.core n) (sym is)
+      (subst (λ (c : CoreState). AreLoaded c tx) (sym same) loaded)
+
+  -- who is kept off has what it had
+  off_loads : (wished : Aim) (back tx : ℕ) (room : Bool) (asked : Asking) → back ≡ tx → new.core ≡ old.core
+      → AreLoaded old.core tx
+      → LoadsFor (phase_off wished old.worker.known) (Some back) asked
+      (known_off wished (record old.worker.known { room = room })) new.core
+  off_loads wished back tx room asked is same loaded = by (is_above wished taken)
+    where
+      by : (above : Bool) → LoadsFor (if above then Again else Planning) (Some back) asked
+          (if above then with_off wished (record old.worker.known { room = room })
+          else record old.worker.known { room = room }) new.core
+      by true = tt
+      by false = same_loads back tx is same loaded
+
+  -- each that was loaded is so still
+  more_loaded : (tx : ℕ) → ((a : Addr) → IsLoadedFor old.core tx a → IsLoadedFor new.core tx a)
+      → (one : Aim) → IsAimLoaded old.core tx one → IsAimLoaded new.core tx one
+  more_loaded tx still (aim.Object addr mode) is = still addr is
+  more_loaded tx still (aim.Claim block) is = tt
+
+  more_but : (tx : ℕ) (wish : Option Addr)
+      → ((a : Addr) → IsLoadedFor old.core tx a → IsLoadedFor new.core tx a)
+      → (one : Aim) → IsAimLoaded old.core tx one → IsLoadedBut wish new.core tx one
+  more_but tx wish still (aim.Object addr mode) is = inl (still addr is)
+  more_but tx wish still (aim.Claim block) is = tt
+
+  -- a wish to read
+  wanted_loads : (tx : ℕ) (addr : Addr) (room : Bool) (answer : Want)
+      → IsWanted old.core tx addr modes.Exclusive answer new.core → AreLoaded old.core tx
+      → LoadsFor (phase_wanted addr answer old.worker.known) (begun_wanted answer).tx
+      (asked_wanted addr answer old.worker.asked)
+      (known_wanted addr answer (record old.worker.known { room = room })) new.core
+  wanted_loads tx addr room (want.Held back bytes) is loaded =
+      subst (λ (n : ℕ). All (IsAimLoaded new.core n) (inserted (object addr) taken)) (sym is.0)
+      (all_more (object addr) (IsAimLoaded new.core tx) taken
+      (now_held old.core new.core tx [] addr bytes.items is.2)
+      (All-weaker (IsAimLoaded old.core tx) (IsAimLoaded new.core tx)
+      (more_loaded tx (one_held old.core new.core tx [] addr bytes.items is.2)) taken loaded))
+  wanted_loads tx addr room (want.Fetch back io) is loaded =
+      subst (λ (n : ℕ). All (IsLoadedBut (Some addr) new.core n) (inserted (object addr) taken)
       × (has_taken new.core n addr ≡ true)) (sym is.0) (
-        after_wanted old.core new.core tx old.worker.asked.fetched addr io is.2 loaded,
-        wanted_taken old.core new.core tx old.worker.asked.fetched addr io is.2,
+        all_more (object addr) (IsLoadedBut (Some addr) new.core tx) taken (inr refl)
+            (All-weaker (IsAimLoaded old.core tx) (IsLoadedBut (Some addr) new.core tx)
+            (more_but tx (Some addr) (one_wanted old.core new.core tx [] addr io is.2)) taken loaded),
+        wanted_taken old.core new.core tx [] addr io is.2,
       )
-  wanted_loads tx addr (want.Busy back) is loaded = same_loads back tx is.0 is.2 loaded
-  wanted_loads tx addr (want.Loading back) is loaded = same_loads back tx is.0 is.2 loaded
-  wanted_loads tx addr (want.Outside back) is loaded = tt
-  wanted_loads tx addr (want.NoMemory back) is loaded = tt
+  wanted_loads tx addr room (want.Busy back) is loaded =
+      off_loads (object addr) back tx room old.worker.asked is.0 is.2 loaded
+  wanted_loads tx addr room (want.Loading back) is loaded =
+      off_loads (object addr) back tx room old.worker.asked is.0 is.2 loaded
+  wanted_loads tx addr room (want.Outside back) is loaded = tt
+  wanted_loads tx addr room (want.NoMemory back) is loaded = tt
 
   -- a wish to claim
-  claimed_loads : (tx : ℕ) (addr : Addr) (answer : Claim) → IsClaimed old.core tx addr answer new.core
-      → AreLoadedFor old.core tx old.worker.asked.fetched
-      → LoadsFor (phase_claimed answer) (begun_claimed answer).tx old.worker.asked new.core
-  claimed_loads tx addr (claim.Held back) is loaded =
-      subst (λ (n : ℕ). AreLoadedFor new.core n old.worker.asked.fetched) (sym is.0)
-      (after_claimed old.core new.core tx old.worker.asked.fetched addr is.2 loaded)
-  claimed_loads tx addr (claim.Busy back) is loaded = same_loads back tx is.0 is.2 loaded
-  claimed_loads tx addr (claim.Loading back) is loaded = same_loads back tx is.0 is.2 loaded
-  claimed_loads tx addr (claim.Outside back) is loaded = tt
-  claimed_loads tx addr (claim.NoMemory back) is loaded = tt
+  claimed_loads : (tx : ℕ) (block : BlockNo) (addr : Addr) (room : Bool) (answer : Claim)
+      → IsClaimed old.core tx addr answer new.core → AreLoaded old.core tx
+      → LoadsFor (phase_claimed block answer old.worker.known) (begun_claimed answer).tx old.worker.asked
+      (known_claimed block answer (record old.worker.known { room = room })) new.core
+  claimed_loads tx block addr room (claim.Held back) is loaded =
+      subst (λ (n : ℕ). All (IsAimLoaded new.core n) (inserted (aim.Claim block) taken)) (sym is.0)
+      (all_more (aim.Claim block) (IsAimLoaded new.core tx) taken tt
+      (All-weaker (IsAimLoaded old.core tx) (IsAimLoaded new.core tx)
+      (more_loaded tx (one_claimed old.core new.core tx [] addr is.2)) taken loaded))
+  claimed_loads tx block addr room (claim.Busy back) is loaded =
+      off_loads (aim.Claim block) back tx room old.worker.asked is.0 is.2 loaded
+  claimed_loads tx block addr room (claim.Loading back) is loaded =
+      off_loads (aim.Claim block) back tx room old.worker.asked is.0 is.2 loaded
+  claimed_loads tx block addr room (claim.Outside back) is loaded = tt
+  claimed_loads tx block addr room (claim.NoMemory back) is loaded = tt
 
   -- a commit
   placed_loads : (job : Job) (reply : Reply) (place : Seq) (base : State) (stable : Bool)
@@ -112,13 +162,13 @@ module _ (old new : Side) where
   placed_loads job reply place base false = tt
 
   committed_loads : (tx : ℕ) (job : Job) (done : Outcome) (base : State) (answer : Commit Outcome)
-      → base.asked ≡ old.worker.asked → IsCommit old.core tx (planned_of done) done answer new.core
-      → AreLoadedFor old.core tx old.worker.asked.fetched
+      → base.known.taken ≡ taken → IsCommit old.core tx (planned_of done) done answer new.core
+      → AreLoaded old.core tx
       → Loads (after_commit job done.reply answer base) new.core
   committed_loads tx job done base (commit.Committed place) same is loaded =
       placed_loads job done.reply place base (is_answered_stable job.call)
   committed_loads tx job done base (commit.Full back change) same is loaded =
-      subst (λ (asked : Asking). AreLoadedFor new.core back asked.fetched) (sym same)
+      subst (λ (aims : List Aim). All (IsAimLoaded new.core back) aims) (sym same)
       (same_loads back tx is.0.transaction is.0.core loaded)
   committed_loads tx job done base (commit.Foreign back change) same is loaded = tt
   committed_loads tx job done base (commit.NoMemory back change) same is loaded = tt
@@ -126,22 +176,31 @@ module _ (old new : Side) where
   committed_loads tx job done base (commit.Spent back change) same is loaded = tt
 
   -- a block that was read
-  given_loads : (tx : Option ℕ) (asked : Asking) (io : Fetch) → FetchesFor tx asked old.core
+  given_loads : (tx : Option ℕ) (asked : Asking) (io : Fetch) → FetchesFor tx asked old.worker.known old.core
       → IsSomeAnd asked.wish (λ addr. io.block ≡ addr.block) → is_fetching old.core io.block ≡ true
       → Leaves new.core (taken_by old.core) (without_fetch io.block (is_fetching old.core))
       (there_given true io old.core)
-      → IsSomeAnd tx (λ number. AreLoadedFor new.core number (asked.fetched ++ option_to_list asked.wish))
+      → IsSomeAnd tx (λ number. AreLoaded new.core number)
   given_loads tx asked io has at pending leaves = by tx asked.wish has at
     where
       by : (tx : Option ℕ) (wish : Option Addr)
-          → IsSomeAnd tx (λ number. AreLoadedFor old.core number asked.fetched
+          → IsSomeAnd tx (λ number. All (IsLoadedBut wish old.core number) taken
           × IsSomeAnd wish (λ addr. has_taken old.core number addr ≡ true))
           → IsSomeAnd wish (λ addr. io.block ≡ addr.block)
-          → IsSomeAnd tx (λ number. AreLoadedFor new.core number (asked.fetched ++ option_to_list wish))
+          → IsSomeAnd tx (λ number. AreLoaded new.core number)
       by None wish has at = absurd has
       by (Some number) None has at = absurd at
       by (Some number) (Some addr) has at =
-          after_given old.core new.core number asked.fetched addr io has.1 at pending leaves has.0
+          All-weaker (IsLoadedBut (Some addr) old.core number) (IsAimLoaded new.core number) one taken has.0
+        where
+          one : (it : Aim) → IsLoadedBut (Some addr) old.core number it → IsAimLoaded new.core number it
+          one (aim.Object a mode) (inl is) =
+              one_given old.core new.core number [] addr io has.1 at pending leaves a is
+          one (aim.Object a mode) (inr same) =
+              let one : addr ≡ a = cc in
+              subst (IsLoadedFor new.core number) one
+              (now_given old.core new.core number [] addr io has.1 at pending leaves)
+          one (aim.Claim block) is = tt
 
   -- a place that is waited for
   waited_loads : (place : Seq) (settled broken : Bool) → old.worker.phase ≡ Waiting place
@@ -162,12 +221,13 @@ module _ (old new : Side) where
       by None told = absurd told
       by (Some reply) told = loads_by _ told tt
   waited_loads place false false phase_is told =
-      loads_by old.worker told (subst (λ (p : Phase). LoadsFor p old.worker.begun.tx old.worker.asked new.core)
-      (sym phase_is) tt)
+      loads_by old.worker told (subst
+      (λ (p : Phase). LoadsFor p old.worker.begun.tx old.worker.asked old.worker.known new.core) (sym phase_is) tt)
 
   module _ (pending : FetchesOnly old.worker.begun.io old.core) (boot : ℕ) (entries : List Entry) where
     abbrev Stays : Phase → Option Step → Type 0
-    Stays phase made = old.worker.phase ≡ phase → LoadsFor phase old.worker.begun.tx old.worker.asked old.core
+    Stays phase made = old.worker.phase ≡ phase
+        → LoadsFor phase old.worker.begun.tx old.worker.asked old.worker.known old.core
         → StandsAt boot entries phase old.worker → Loads new.worker new.core
 
     fetch_of : (io : Fetch) → old.worker.begun.io ≡ Some io → IsFetchOf old.worker
@@ -189,19 +249,19 @@ module _ (old new : Side) where
       idle = λ is phase_is loads at. loads_same Idle is phase_is tt;
       reading = λ is phase_is loads at. loads_same Reading is phase_is loads;
       begun = λ job number job_is served has phase_is loads at.
-          loads_by _ has.worker (All-nil (IsLoadedFor new.core number));
+          loads_by _ has.worker (All-nil (IsAimLoaded new.core number));
       not_begun = λ job why job_is served none core is phase_is loads at. loads_by _ is tt;
       replied = λ job job_is served core is phase_is loads at. loads_by _ is tt;
       wanted = λ tx addr made tx_is next has phase_is loads at.
-          loads_by _ has.worker (wanted_loads tx addr has.answer has.core
-          (some_of (λ n. AreLoadedFor old.core n old.worker.asked.fetched) old.worker.begun.tx tx tx_is loads));
+          loads_by _ has.worker (wanted_loads tx addr new.worker.known.room has.answer has.core
+          (some_of (λ n. AreLoaded old.core n) old.worker.begun.tx tx tx_is loads));
       claimed = λ tx block made tx_is next has phase_is loads at.
-          loads_by _ has.worker (claimed_loads tx has.core.0 has.answer has.core.2
-          (some_of (λ n. AreLoadedFor old.core n old.worker.asked.fetched) old.worker.begun.tx tx tx_is loads));
-      committed = λ job tx done made tx_is next job_is has phase_is loads at.
+          loads_by _ has.worker (claimed_loads tx block has.core.0 new.worker.known.room has.answer has.core.2
+          (some_of (λ n. AreLoaded old.core n) old.worker.begun.tx tx tx_is loads));
+      committed = λ job tx done made tx_is next none job_is has phase_is loads at.
           loads_by _ has.worker (committed_loads tx job done _ has.answer refl has.core
-          (some_of (λ n. AreLoadedFor old.core n old.worker.asked.fetched) old.worker.begun.tx tx tx_is loads));
-      lacked = λ tx made tx_is has phase_is loads at. loads_by _ has.worker tt;
+          (some_of (λ n. AreLoaded old.core n) old.worker.begun.tx tx tx_is loads));
+      lacked = λ tx made tx_is none has phase_is loads at. loads_by _ has.worker tt;
       given = given_so;
       refused = λ why job tx made job_is tx_is has phase_is loads at. loads_by _ has.worker tt;
       left = λ tx made tx_is has phase_is loads at. loads_by _ has.worker tt;
@@ -262,10 +322,10 @@ module _ (old new : Side) where
     replied = λ job job_is served core is room plans. absurd (true≢false (sym room));
     wanted = λ tx addr made tx_is next has room plans. absurd (true≢false (sym room));
     claimed = λ tx block made tx_is next has room plans. absurd (true≢false (sym room));
-    committed = λ job tx done made tx_is next job_is has.
+    committed = λ job tx done made tx_is next none job_is has.
         full_so tx job done _ has.answer (added_blocks old.core.log (blocks_of done.written)) tx_is
         refl refl has.core has.worker has.seen;
-    lacked = λ tx made tx_is has room plans. absurd (true≢false (sym room));
+    lacked = λ tx made tx_is none has room plans. absurd (true≢false (sym room));
     given = given_not_full;
     refused = λ why job tx made job_is tx_is has room plans. absurd (true≢false (sym room));
     left = λ tx made tx_is has room plans. absurd (true≢false (sym room));
@@ -304,11 +364,12 @@ pub at_work_still : (old new : Side) (made : Option Step) (boot : ℕ) (entries 
     → IsCoreAtWork (told new.worker) new.core
 at_work_still old new made boot entries at worker_at tidy reads goes with =
     let stays = stays_alone old new tidy at.alone.out at.alone.fetches reads old.worker.phase made refl
-    at.with.sound.transaction at.with.sound.fetch at.alone.plans goes in record {
+    at.with.sound.transaction at.with.sound.fetch at.alone.plans at.alone.left goes in record {
       with = with;
       alone = record {
         out = stays.out;
         fetches = stays.fetches;
+        left = stays.left;
         plans = plans_told new.worker.phase new.worker new.core
             (plans_by old new made (is_full made) refl stays (λ room.
             by_cases old new (Full old new) (full_cases old new) old.worker.phase made goes room

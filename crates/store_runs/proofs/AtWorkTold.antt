@@ -176,8 +176,8 @@ module _ (o : Setting) (told : Told) (number : ℕ) (store : StoreSide) (is_told
       claimed = λ tx block made tx_is next has.
           kept (Some (step.Claimed block (claim_wish has.answer))) refl refl
           (claimed store.core new.core tx has.core.0 has.answer has.core.2);
-      committed = λ job tx done made tx_is next job_is has. committed_told tx done has.answer has.core;
-      lacked = λ tx made tx_is has. kept (Some (step.Ended ending.NoMemory)) refl refl
+      committed = λ job tx done made tx_is next none_left job_is has. committed_told tx done has.answer has.core;
+      lacked = λ tx made tx_is none_left has. kept (Some (step.Ended ending.NoMemory)) refl refl
           (aborted tx store.core new.core has.core);
       given = given_told;
       refused = λ why job tx made job_is tx_is has. kept (Some (step.Ended ending.Refused)) refl refl
@@ -224,9 +224,9 @@ module _ (old new : Side) where
     wanted = λ tx addr made tx_is next has none. (wanted old.core new.core tx addr has.answer has.core).beside;
     claimed = λ tx block made tx_is next has none.
         (claimed old.core new.core tx has.core.0 has.answer has.core.2).beside;
-    committed = λ job tx done made tx_is next job_is has. uncommitted tx done has.answer
+    committed = λ job tx done made tx_is next none_left job_is has. uncommitted tx done has.answer
         (added_blocks old.core.log (blocks_of done.written)) has.core;
-    lacked = λ tx made tx_is has none. (aborted tx old.core new.core has.core).beside;
+    lacked = λ tx made tx_is none_left has none. (aborted tx old.core new.core has.core).beside;
     given = λ ok io made io_is has none. (given_back ok io old made new has).beside;
     refused = λ why job tx made job_is tx_is has none. (aborted tx old.core new.core has.core).beside;
     left = λ tx made tx_is has none. (aborted tx old.core new.core has.core).beside;

@@ -1,6 +1,6 @@
 -- A run goes on with each event: what was told, and what the worker and its core have then.
 use Rattle.std.proofs.Common.{◌≡◌, ◌∙◌, refl, sym, ap, subst, ℕ, ◌+◌, Bool, true, false, List, map}
-use Rattle.std.proofs.Common.{Option, Some, None, is_some, take}
+use Rattle.std.proofs.Common.{Option, Some, None, is_some, take, All, inl, inr}
 use Rattle.std.specs.Prelude.{IsSomeAnd}
 use Rattle.std.proofs.lemmas.List.{append-nil}
 use Rattle.std.proofs.lemmas.List.Elements.{All-weaker}
@@ -34,8 +34,11 @@ use Rattle.run_law.specs.Noting.{Noted, commits, ends_of, progress_now, told_now
 use Rattle.run_law.specs.Run.{Beginning, GoesOn, IsRun}
 use Rattle.store_workers.specs.Alone.{HasOfCall, HasTaken, PlansAlone}
 use Rattle.store_workers.specs.Asked.{Asking}
-use Rattle.store_runs.specs.AtWork.{AreLoadedFor, FetchesFor, IsCoreAtWork, IsLoadedFor, LoadsFor, fetches_of}
-use Rattle.store_runs.specs.AtWork.{has_taken}
+use Rattle.store_workers.specs.Knowing.{Knowing}
+use Rattle.store_promise.specs.declared.aims.Aim.{Aim}
+use Rattle.store_promise.specs.declared.aims.Aim.TheVariants as aim
+use Rattle.store_runs.specs.AtWork.{FetchesFor, IsAimLoaded, IsCoreAtWork, IsLoadedBut, IsLoadedFor, LoadsFor}
+use Rattle.store_runs.specs.AtWork.{fetches_of, has_taken}
 use Rattle.store_runs.specs.Going.{IsGoing, IsNextEvent, NotesStep, may_make}
 use Rattle.store_runs.specs.Running.{DoesItsStep}
 use Rattle.store_workers.specs.Seen.{Seen, seen_in}
@@ -145,33 +148,42 @@ module _ (old new : CoreState) (kept : KeepsTransactions old new)
     there = kept.loaded tx addr is.content is.taken is.there;
   }
 
-  all_loaded : (tx : ℕ) (addrs : List Addr) → AreLoadedFor old tx addrs → AreLoadedFor new tx addrs
-  all_loaded tx addrs are = All-weaker (IsLoadedFor old tx) (IsLoadedFor new tx) (still_loaded tx) addrs are
+  one_loaded : (tx : ℕ) (one : Aim) → IsAimLoaded old tx one → IsAimLoaded new tx one
+  one_loaded tx (aim.Object addr mode) is = still_loaded tx addr is
+  one_loaded tx (aim.Claim block) is = tt
 
-  same_fetches : (tx : Option ℕ) (asked : Asking) → FetchesFor tx asked old → FetchesFor tx asked new
-  same_fetches tx asked has =
-      map_some (λ (number : ℕ). AreLoadedFor old number asked.fetched
+  loaded_but : (wish : Option Addr) (tx : ℕ) (one : Aim) → IsLoadedBut wish old tx one → IsLoadedBut wish new tx one
+  loaded_but wish tx (aim.Object addr mode) (inl is) = inl (still_loaded tx addr is)
+  loaded_but wish tx (aim.Object addr mode) (inr is) = inr is
+  loaded_but wish tx (aim.Claim block) is = tt
+
+  same_fetches : (tx : Option ℕ) (asked : Asking) (knowing : Knowing) → FetchesFor tx asked knowing old
+      → FetchesFor tx asked knowing new
+  same_fetches tx asked knowing has =
+      map_some (λ (number : ℕ). All (IsLoadedBut asked.wish old number) knowing.taken
       × IsSomeAnd asked.wish (λ addr. has_taken old number addr ≡ true))
-      (λ (number : ℕ). AreLoadedFor new number asked.fetched
+      (λ (number : ℕ). All (IsLoadedBut asked.wish new number) knowing.taken
       × IsSomeAnd asked.wish (λ addr. has_taken new number addr ≡ true)) tx (λ number both. (
-        all_loaded number asked.fetched both.0,
+        All-weaker (IsLoadedBut asked.wish old number) (IsLoadedBut asked.wish new number)
+            (loaded_but asked.wish number) knowing.taken both.0,
         map_some (λ (addr : Addr). has_taken old number addr ≡ true)
             (λ (addr : Addr). has_taken new number addr ≡ true) asked.wish (still_taken number) both.1,
       )) has
 
-  same_loads : (phase : Phase) (tx : Option ℕ) (asked : Asking) → LoadsFor phase tx asked old
-      → LoadsFor phase tx asked new
-  same_loads Idle tx asked has = tt
-  same_loads Called tx asked has = tt
-  same_loads Planning tx asked has =
-      map_some (λ (number : ℕ). AreLoadedFor old number asked.fetched)
-      (λ (number : ℕ). AreLoadedFor new number asked.fetched)
-      tx (λ number. all_loaded number asked.fetched) has
-  same_loads Reading tx asked has = same_fetches tx asked has
-  same_loads (Read ok) tx asked has = same_fetches tx asked has
-  same_loads (Refused why) tx asked has = tt
-  same_loads Again tx asked has = tt
-  same_loads (Waiting place) tx asked has = tt
+  same_loads : (phase : Phase) (tx : Option ℕ) (asked : Asking) (knowing : Knowing)
+      → LoadsFor phase tx asked knowing old → LoadsFor phase tx asked knowing new
+  same_loads Idle tx asked knowing has = tt
+  same_loads Called tx asked knowing has = tt
+  same_loads Planning tx asked knowing has =
+      map_some (λ (number : ℕ). All (IsAimLoaded old number) knowing.taken)
+      (λ (number : ℕ). All (IsAimLoaded new number) knowing.taken)
+      tx (λ number. All-weaker (IsAimLoaded old number) (IsAimLoaded new number) (one_loaded number) knowing.taken)
+      has
+  same_loads Reading tx asked knowing has = same_fetches tx asked knowing has
+  same_loads (Read ok) tx asked knowing has = same_fetches tx asked knowing has
+  same_loads (Refused why) tx asked knowing has = tt
+  same_loads Again tx asked knowing has = tt
+  same_loads (Waiting place) tx asked knowing has = tt
 
   pub still_at_work : (worker : State) → GoesWith worker new → IsCoreAtWork worker old → IsCoreAtWork worker new
   still_at_work worker with at_work = record {
@@ -179,9 +191,10 @@ module _ (old new : CoreState) (kept : KeepsTransactions old new)
     alone = record {
       out = kept.out ∙ at_work.alone.out;
       fetches = λ block. kept.fetches block ∙ at_work.alone.fetches block;
+      left = at_work.alone.left;
       plans = same_plans worker.phase worker at_work.alone.plans;
     };
-    loads = same_loads worker.phase worker.begun.tx worker.asked at_work.loads;
+    loads = same_loads worker.phase worker.begun.tx worker.asked worker.known at_work.loads;
   }
 
 -- ---- a step of the log's side commits nothing and begins nothing

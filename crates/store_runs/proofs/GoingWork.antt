@@ -32,7 +32,10 @@ use Rattle.store_promise.specs.Progress.{Again, At, Begun, Called, Idle, Job, Pl
 use Rattle.store_promise.specs.Progress.{Refused, Stage, Waiting, is_idle, progressed}
 use Rattle.store_promise.specs.Running.{IsMovedBy, IsRunningOver, IsTold, StoreSide, with_blocks}
 use Rattle.model.specs.Calls.{has_rules}
-use Rattle.store_promise.specs.Schedule.{IsStepOfCalled, IsStepOfWork, IsTaken, Setting, Told, told_after}
+use Rattle.store_promise.specs.Waiting.{AreTakenBy, HasTakenWell}
+use Rattle.store_promise.specs.declared.aims.Aim.{Aim}
+use Rattle.store_promise.proofs.KnownAims.{taken_well}
+use Rattle.store_promise.specs.Schedule.{IsStepBeside, IsStepOfCalled, IsStepOfWork, IsTaken, Setting, Told, told_after}
 use Rattle.store_promise.specs.ToldOf.{log_told}
 use Rattle.store_promise.specs.Transcript.{Transcript, calls_device, entries_of, entry_of, transcript_of}
 use Rattle.store_promise.proofs.DeviceCalls.{does_nothing}
@@ -62,41 +65,49 @@ some_calls : (made : Step) (one : Step) → made ≡ one → calls_device (Some 
 some_calls made one is none = ap (λ (s : Step). calls_device (Some s)) is ∙ none
 
 module _ (o : Setting) (told : Told) (worker : ℕ) where
+  within : (left : List Aim) (begun : Begun) (made : Step) → IsStepBeside left o told worker begun made
+      → calls_device (Some made) ≡ false
+  within [] begun (step.Read block ok) is = absurd is
+  within [] begun (step.LogIo ok) is = absurd is
+  within [] begun (step.InstIo ok) is = absurd is
+  within [] begun _ is = refl
+  within (next ∷ later) begun (step.Read block ok) is = absurd is
+  within (next ∷ later) begun (step.LogIo ok) is = absurd is
+  within (next ∷ later) begun (step.InstIo ok) is = absurd is
+  within (next ∷ later) begun _ is = refl
+
   by_stage : (job : Job) (stage : Stage) (made : Option Step) → IsStepOfWork o told worker (At job stage) made
       → calls_device made ≡ false
-  by_stage job Called None is = refl
-  by_stage job Called (Some (step.Read block ok)) is = by_rules (has_rules job.call) is
+  by_stage job (Called known) None is = refl
+  by_stage job (Called known) (Some (step.Read block ok)) is = by_rules (has_rules job.call) is
     where
       by_rules : (rules : Bool) → IsStepOfCalled told rules (step.Read block ok)
           → calls_device (Some (step.Read block ok)) ≡ false
       by_rules true is = absurd is
       by_rules false is = cc
-  by_stage job Called (Some (step.LogIo ok)) is = by_rules (has_rules job.call) is
+  by_stage job (Called known) (Some (step.LogIo ok)) is = by_rules (has_rules job.call) is
     where
       by_rules : (rules : Bool) → IsStepOfCalled told rules (step.LogIo ok)
           → calls_device (Some (step.LogIo ok)) ≡ false
       by_rules true is = absurd is
       by_rules false is = cc
-  by_stage job Called (Some (step.InstIo ok)) is = by_rules (has_rules job.call) is
+  by_stage job (Called known) (Some (step.InstIo ok)) is = by_rules (has_rules job.call) is
     where
       by_rules : (rules : Bool) → IsStepOfCalled told rules (step.InstIo ok)
           → calls_device (Some (step.InstIo ok)) ≡ false
       by_rules true is = absurd is
       by_rules false is = cc
-  by_stage job Called (Some _) is = refl
+  by_stage job (Called known) (Some _) is = refl
   by_stage job (Planning begun) None is = refl
-  by_stage job (Planning begun) (Some (step.Read block ok)) is = absurd is
-  by_stage job (Planning begun) (Some (step.LogIo ok)) is = absurd is
-  by_stage job (Planning begun) (Some (step.InstIo ok)) is = absurd is
-  by_stage job (Planning begun) (Some _) is = refl
+  by_stage job (Planning begun) (Some made) is = within begun.left begun made is
   by_stage job (Reading begun taken) made is = none_calls made is
   by_stage job (Read begun taken ok) None is = refl
   by_stage job (Read begun taken true) (Some made) is = some_calls made _ is refl
   by_stage job (Read begun taken false) (Some made) is = some_calls made _ is refl
   by_stage job (Refused begun why) None is = refl
   by_stage job (Refused begun why) (Some made) is = some_calls made _ is refl
-  by_stage job (Again begun) None is = refl
-  by_stage job (Again begun) (Some made) is = some_calls made _ is refl
+  by_stage job (Again begun wished) None is = refl
+  by_stage job (Again begun wished) (Some made) is = some_calls made _ is refl
   by_stage job (Waiting place) None is = refl
   by_stage job (Waiting place) (Some (step.Read block ok)) is = absurd is
   by_stage job (Waiting place) (Some (step.LogIo ok)) is = absurd is
@@ -447,10 +458,12 @@ module _ (b : Beginning) (clock : ℕ) (store : StoreSide) (worker new : State) 
       others j begun planned (Some seen) is own =
           let has = planned_has worker j begun planned in
           let had = going.run.files (length t.history) in
+          let had_well : AreTakenBy o.geometry begun = subst (HasTakenWell o.geometry) (going.progress ∙ planned)
+          (taken_well o b.workers b.events t.steps going.run.well.taken (length t.steps) 0) in
           subst (λ (image : Image). KeepsOthers b.opened.size begun (file_blocks going.base store.core) image)
           (sym goes_with.writes)
-          (keeps_others b.opened.size begun seen (file_blocks going.base store.core)
-          goes_with.taken.plan.written
+          (keeps_others o.geometry b.opened.size begun seen (file_blocks going.base store.core)
+          goes_with.taken.plan.written had_well
           (has.0 ∙ ap held_in is) (has.1 ∙ ap claimed_in is) own goes_with.taken.took.group.sizes
           (λ block within. subst (λ (image : Image). length (image block) ≡ BLOCK_BYTES) before_it
           (had.stands.bytes block (let same = going.run.geometry.blocks in omega (arith, within, same))).0))

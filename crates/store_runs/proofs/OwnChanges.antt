@@ -1,25 +1,33 @@
 -- What a worker's commit writes lies in what its transaction has taken, and so all else stays.
-use Rattle.std.proofs.Common.{◌≡◌, ◌∙◌, sym, ap, inl, inr, ℕ, ◌+◌, ◌<◌, arith, refl}
+use Rattle.std.proofs.Common.{◌≡◌, ◌∙◌, sym, ap, ◌⊎◌, inl, inr, ℕ, ◌+◌, ◌<◌, arith, refl}
 use Rattle.std.proofs.Common.{Bool, true, false, ◌&&◌, ◌||◌, nat_eq, nat_lt, List, [], ◌∷◌, map, length}
 use Rattle.std.proofs.Common.{Option, Some, None, All}
 use Rattle.std.specs.List.{list_any}
+use Rattle.std.specs.Prelude.{Contains}
 use Rattle.std.proofs.lemmas.Bool.{and_from, and_parts, eq-eqb, eqb-true, lt-ltb, or_left, or_right, true≢false}
-use Rattle.std.proofs.lemmas.List.Elements.{All-weaker}
+use Rattle.std.proofs.lemmas.List.Elements.{All-head, All-tail, All-weaker}
 use Rattle.disk.specs.Crash.{Image}
 use Rattle.disk.specs.declared.block.BlockNo.{BlockNo}
 use Rattle.limits.specs.declared.TheConstants.{BLOCK_BYTES}
 use Rattle.objects.specs.Addr.{Overlap}
 use Rattle.objects.specs.declared.addr.Addr.{Addr}
 use Rattle.objects.specs.declared.mode.Mode.TheVariants as modes
+use Rattle.layout.specs.declared.geometry.Geometry.{Geometry}
 use Rattle.inode.specs.Snap.{is_claimed, is_seen, same_addr}
 use Rattle.txn_law.specs.Object.{ObjectBytes}
 use Rattle.txn_law.specs.Window.{with_objects}
 use Rattle.txn_law.proofs.Beside.{stays_beside}
+use Rattle.txn_law.proofs.Swept.{in_cons}
 use Rattle.store_promise.specs.Changes.{KeepsOthers}
-use Rattle.store_promise.specs.Progress.{At, Begun, Planning, Progress, Taken, Wished, keeps_off, shares, takes}
+use Rattle.store_promise.specs.Progress.{At, Begun, Planning, Progress, Taken, Wished, aim_keeps_off, aim_of}
+use Rattle.store_promise.specs.Progress.{keeps_off, shares, takes}
+use Rattle.store_promise.specs.Waiting.{AreTakenBy}
+use Rattle.store_promise.specs.declared.aims.Aim.{Aim}
+use Rattle.store_promise.specs.declared.aims.Aim.TheVariants as aim
 use Rattle.store_promise.specs.Progress as told
 use Rattle.store_promise.specs.Schedule.{wish_of}
 use Rattle.store_workers.specs.Asked.{Asking}
+use Rattle.store_workers.specs.Knowing.{Knowing}
 use Rattle.store_runs.specs.AtWork.{IsSeenIn}
 use Rattle.store_workers.specs.Seen.{Seen, seen_in}
 use Rattle.store_workers.specs.Stages.{alone, at_fetch, at_stage, begun_of, claimed_in, held_in}
@@ -40,22 +48,22 @@ no_fetch (Some job) stage mine None j b never is = let same : Planning mine ≡ 
 no_fetch (Some job) stage mine (Some addr) j b never is =
     let same : stage (alone addr) ≡ Planning b = cc in absurd (never (alone addr) same)
 
-planned_in : (phase : Phase) (job : Option Job) (mine : Begun) (asked : Asking) (j : told.Job) (b : Begun)
-    → progress_in phase job mine asked ≡ At j (Planning b) → mine ≡ b
-planned_in phases.Idle job mine asked j b is = cc
-planned_in phases.Called None mine asked j b is = cc
-planned_in phases.Called (Some job) mine asked j b is = cc
-planned_in phases.Planning None mine asked j b is = cc
-planned_in phases.Planning (Some job) mine asked j b is = let same : Planning mine ≡ Planning b = cc in cc
-planned_in phases.Reading job mine asked j b is =
+planned_in : (phase : Phase) (job : Option Job) (mine : Begun) (asked : Asking) (knowing : Knowing) (j : told.Job)
+    (b : Begun) → progress_in phase job mine asked knowing ≡ At j (Planning b) → mine ≡ b
+planned_in phases.Idle job mine asked knowing j b is = cc
+planned_in phases.Called None mine asked knowing j b is = cc
+planned_in phases.Called (Some job) mine asked knowing j b is = cc
+planned_in phases.Planning None mine asked knowing j b is = cc
+planned_in phases.Planning (Some job) mine asked knowing j b is = let same : Planning mine ≡ Planning b = cc in cc
+planned_in phases.Reading job mine asked knowing j b is =
     no_fetch job (λ taken. told.Reading mine taken) mine asked.wish j b (λ taken same. cc) is
-planned_in (phases.Read ok) job mine asked j b is =
+planned_in (phases.Read ok) job mine asked knowing j b is =
     no_fetch job (λ taken. told.Read mine taken ok) mine asked.wish j b (λ taken same. cc) is
-planned_in (phases.Refused why) None mine asked j b is = cc
-planned_in (phases.Refused why) (Some job) mine asked j b is = cc
-planned_in phases.Again None mine asked j b is = cc
-planned_in phases.Again (Some job) mine asked j b is = cc
-planned_in (phases.Waiting place) job mine asked j b is = by asked.waiting is
+planned_in (phases.Refused why) None mine asked knowing j b is = cc
+planned_in (phases.Refused why) (Some job) mine asked knowing j b is = cc
+planned_in phases.Again None mine asked knowing j b is = cc
+planned_in phases.Again (Some job) mine asked knowing j b is = cc
+planned_in (phases.Waiting place) job mine asked knowing j b is = by asked.waiting is
   where
     by : (waiting : Option Job) → at_stage waiting (told.Waiting place.0) ≡ At j (Planning b) → mine ≡ b
     by None is = cc
@@ -65,11 +73,22 @@ planned_in (phases.Waiting place) job mine asked j b is = by asked.waiting is
 pub planned_has : (state : State) (j : told.Job) (b : Begun) → progress_of state ≡ At j (Planning b)
     → (b.held ≡ held_in (seen_in state.work.snap)) × (b.claimed ≡ claimed_in (seen_in state.work.snap))
 planned_has state j b is =
-    let mine = begun_of state.begun.tx (seen_in state.work.snap) state.asked.fetched in
-    let same = planned_in state.phase state.work.job mine state.asked j b is in
+    let mine = begun_of state.begun.tx (seen_in state.work.snap) state.known in
+    let same = planned_in state.phase state.work.job mine state.asked state.known j b is in
     (sym (ap (λ (b : Begun). b.held) same), sym (ap (λ (b : Begun). b.claimed) same))
 
 -- ---- what shares a byte with what is written shares one with what was taken
+
+any_of : {X : Type 0} (test : X → Bool) (xs : List X) (x : X) → Contains xs x → test x ≡ true
+    → list_any test xs ≡ true
+any_of test [] x has is = absurd (let less = has.1 in omega (arith, less))
+any_of test (y ∷ ys) x has is = by (test y) refl (any_of test ys x) (in_cons y x ys has)
+  where
+    by : (t : Bool) → test y ≡ t → (Contains ys x → test x ≡ true → list_any test ys ≡ true)
+        → (y ≡ x) ⊎ Contains ys x → (t || list_any test ys) ≡ true
+    by true here rest at = refl
+    by false far rest (inl same) = absurd (true≢false (sym is ∙ ap test (sym same) ∙ far))
+    by false far rest (inr more) = rest more is
 
 module _ (addr : Addr) where
   abbrev wished : Wished
@@ -128,28 +147,59 @@ module _ (addr : Addr) where
       by false other rest = or_right (nat_eq c.0 addr.block.0) _
           (rest (sym (ap (λ (t : Bool). t || is_claimed block cs) other) ∙ claimed))
 
-  module _ (b : Begun) (seen : Seen) (held : b.held ≡ held_in (Some seen)) (claims : b.claimed ≡ seen.claims)
-      (free : takes wished b ≡ false) where
+  -- what keeps it off among what was told or claimed is taken
+  among_held : (held : List Taken) (taken : List Aim) → All (λ (t : Taken). Contains taken (aim_of t)) held
+      → list_any (keeps_off wished) held ≡ true → list_any (aim_keeps_off wished) taken ≡ true
+  among_held [] taken had some = absurd (true≢false (sym some))
+  among_held (t ∷ ts) taken had some =
+      let P : Taken → Type 0 = λ t. Contains taken (aim_of t) in
+      by (keeps_off wished t) refl (All-head P t ts had) (among_held ts taken (All-tail P t ts had)) some
+    where
+      by : (off : Bool) → keeps_off wished t ≡ off → Contains taken (aim_of t)
+          → (list_any (keeps_off wished) ts ≡ true → list_any (aim_keeps_off wished) taken ≡ true)
+          → (off || list_any (keeps_off wished) ts) ≡ true → list_any (aim_keeps_off wished) taken ≡ true
+      by true is has rest some = any_of (aim_keeps_off wished) taken (aim_of t) has is
+      by false is has rest some = rest some
+
+  among_claims : (claims : List BlockNo) (taken : List Aim)
+      → All (λ (b : BlockNo). Contains taken (aim.Claim b)) claims
+      → list_any (λ (claim : BlockNo). nat_eq claim.0 addr.block.0) claims ≡ true
+      → list_any (aim_keeps_off wished) taken ≡ true
+  among_claims [] taken had some = absurd (true≢false (sym some))
+  among_claims (c ∷ cs) taken had some =
+      let P : BlockNo → Type 0 = λ b. Contains taken (aim.Claim b) in
+      by (nat_eq c.0 addr.block.0) refl (All-head P c cs had) (among_claims cs taken (All-tail P c cs had)) some
+    where
+      by : (same : Bool) → nat_eq c.0 addr.block.0 ≡ same → Contains taken (aim.Claim c)
+          → (list_any (λ (claim : BlockNo). nat_eq claim.0 addr.block.0) cs ≡ true
+          → list_any (aim_keeps_off wished) taken ≡ true)
+          → (same || list_any (λ (claim : BlockNo). nat_eq claim.0 addr.block.0) cs) ≡ true
+          → list_any (aim_keeps_off wished) taken ≡ true
+      by true is has rest some = any_of (aim_keeps_off wished) taken (aim.Claim c) has is
+      by false is has rest some = rest some
+
+  module _ (g : Geometry) (b : Begun) (seen : Seen) (held : b.held ≡ held_in (Some seen))
+      (claims : b.claimed ≡ seen.claims) (had : AreTakenBy g b) (free : takes wished b ≡ false) where
     apart : (object : ObjectBytes) → IsSeenIn seen object → IsAside object
     apart object (inl read) over =
         let one : list_any (keeps_off wished) b.held ≡ true =
         ap (λ (ts : List Taken). list_any (keeps_off wished) ts) held
         ∙ among_read object.addr seen.objects read over in
-        true≢false (sym (or_left _ _ (or_left _ _ one)) ∙ free)
+        true≢false (sym (among_held b.held b.taken had.held one) ∙ free)
     apart object (inr claimed) over =
         let one : list_any (λ (claim : BlockNo). nat_eq claim.0 addr.block.0) b.claimed ≡ true =
         ap (λ (cs : List BlockNo). list_any (λ (claim : BlockNo). nat_eq claim.0 addr.block.0) cs) claims
         ∙ among_claimed object.addr.block seen.claims claimed (ap (λ (b : BlockNo). b.0) over.0) in
-        true≢false (sym (or_right _ _ one) ∙ free)
+        true≢false (sym (among_claims b.claimed b.taken had.claimed one) ∙ free)
 
 -- so nothing else is changed
-pub keeps_others : (size : ℕ) (b : Begun) (seen : Seen) (blocks : Image) (written : List ObjectBytes)
-    → b.held ≡ held_in (Some seen) → b.claimed ≡ seen.claims → All (IsSeenIn seen) written
+pub keeps_others : (g : Geometry) (size : ℕ) (b : Begun) (seen : Seen) (blocks : Image) (written : List ObjectBytes)
+    → AreTakenBy g b → b.held ≡ held_in (Some seen) → b.claimed ≡ seen.claims → All (IsSeenIn seen) written
     → All (λ object. length object.bytes ≡ object.addr.len) written
     → ((block : ℕ) → block < size → length (blocks block) ≡ BLOCK_BYTES)
     → KeepsOthers size b blocks (with_objects blocks written)
-keeps_others size b seen blocks written held claims own sizes whole addr within free =
+keeps_others g size b seen blocks written had held claims own sizes whole addr within free =
     stays_beside addr blocks written
     (All-weaker (IsSeenIn seen) (IsAside addr)
-    (λ object is. apart addr b seen held claims free object is) written own)
+    (λ object is. apart addr g b seen held claims had free object is) written own)
     sizes (whole addr.block.0 within)

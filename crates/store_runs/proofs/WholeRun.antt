@@ -45,7 +45,7 @@ new_at_work : (boot : ℕ) (core : CoreState) → core.out ≡ [] → core.prese
     → GoesWith (worker.at_rest boot) core → IsCoreAtWork (worker.at_rest boot) core
 new_at_work boot core out none with = record {
   with = with;
-  alone = record { out = out; fetches = none_fetched core none; plans = tt };
+  alone = record { out = out; fetches = none_fetched core none; left = tt; plans = tt };
   loads = tt;
 }
 

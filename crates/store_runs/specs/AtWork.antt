@@ -19,12 +19,15 @@ use Rattle.txn_law.specs.Window.{with_objects}
 use Rattle.store_promise.specs.OpenSince.{TellsOf, file_blocks}
 use Rattle.store_promise.specs.Running.{IsRunningOver, StoreSide, with_blocks}
 use Rattle.store_promise.specs.Schedule.{Setting}
+use Rattle.store_promise.specs.declared.aims.Aim.{Aim}
+use Rattle.store_promise.specs.declared.aims.Aim.TheVariants as aim
 use Rattle.store_promise.specs.declared.answers.Entry.{Entry}
 use Rattle.store_promise.specs.declared.events.Committing.TheVariants as committing
 use Rattle.store_promise.specs.declared.events.Step.{Step}
 use Rattle.store_promise.specs.declared.events.Step.TheVariants as step
 use Rattle.store_workers.specs.Alone.{IsAlone}
 use Rattle.store_workers.specs.Asked.{Asking}
+use Rattle.store_workers.specs.Knowing.{Knowing}
 use Rattle.store_workers.specs.Seen.{Seen, seen_in}
 use Rattle.store_workers.specs.Worker.{GoesWith}
 use Rattle.store_workers.specs.WorkerSteps.{Side}
@@ -50,6 +53,16 @@ pub record IsLoadedFor (core : CoreState) (tx : ℕ) (addr : Addr) : Type 0 wher
 abbrev pub AreLoadedFor : CoreState → ℕ → List Addr → Type 0
 AreLoadedFor core tx addrs = All (IsLoadedFor core tx) addrs
 
+-- so it is of an object that was taken; a block that is claimed needs not be there
+abbrev pub IsAimLoaded : CoreState → ℕ → Aim → Type 0
+IsAimLoaded core tx (aim.Object addr mode) = IsLoadedFor core tx addr
+IsAimLoaded core tx (aim.Claim block) = Unit {0}
+
+-- and of each but the object whose block is fetched
+abbrev pub IsLoadedBut : Option Addr → CoreState → ℕ → Aim → Type 0
+IsLoadedBut wish core tx (aim.Object addr mode) = IsLoadedFor core tx addr ⊎ (wish ≡ Some addr)
+IsLoadedBut wish core tx (aim.Claim block) = Unit {0}
+
 -- ---- the run
 
 -- the run with this core
@@ -58,28 +71,28 @@ with_core side core = record side { core = core }
 
 -- ---- a worker at work
 
--- its transaction has taken the object whose block is fetched, and the blocks that were fetched before are in
--- memory
-abbrev pub FetchesFor : Option ℕ → Asking → CoreState → Type 0
-FetchesFor tx asked core = IsSomeAnd tx (λ number. AreLoadedFor core number asked.fetched
+-- its transaction has taken the object whose block is fetched, and the others that it has taken are in memory
+abbrev pub FetchesFor : Option ℕ → Asking → Knowing → CoreState → Type 0
+FetchesFor tx asked knowing core = IsSomeAnd tx (λ number.
+    All (IsLoadedBut asked.wish core number) knowing.taken
     × IsSomeAnd asked.wish (λ addr. has_taken core number addr ≡ true))
 
--- what was fetched for a worker's transaction is in memory while it goes by its plans
-abbrev pub LoadsFor : Phase → Option ℕ → Asking → CoreState → Type 0
-LoadsFor Idle tx asked core = Unit {0}
-LoadsFor Called tx asked core = Unit {0}
-LoadsFor Planning tx asked core = IsSomeAnd tx (λ number. AreLoadedFor core number asked.fetched)
-LoadsFor Reading tx asked core = FetchesFor tx asked core
-LoadsFor (Read ok) tx asked core = FetchesFor tx asked core
-LoadsFor (Refused why) tx asked core = Unit {0}
-LoadsFor Again tx asked core = Unit {0}
-LoadsFor (Waiting place) tx asked core = Unit {0}
+-- what a worker's transaction has taken is in memory while it goes by its plans
+abbrev pub LoadsFor : Phase → Option ℕ → Asking → Knowing → CoreState → Type 0
+LoadsFor Idle tx asked knowing core = Unit {0}
+LoadsFor Called tx asked knowing core = Unit {0}
+LoadsFor Planning tx asked knowing core = IsSomeAnd tx (λ number. All (IsAimLoaded core number) knowing.taken)
+LoadsFor Reading tx asked knowing core = FetchesFor tx asked knowing core
+LoadsFor (Read ok) tx asked knowing core = FetchesFor tx asked knowing core
+LoadsFor (Refused why) tx asked knowing core = Unit {0}
+LoadsFor Again tx asked knowing core = Unit {0}
+LoadsFor (Waiting place) tx asked knowing core = Unit {0}
 
 abbrev pub Loads : State → CoreState → Type 0
-Loads worker core = LoadsFor worker.phase worker.begun.tx worker.asked core
+Loads worker core = LoadsFor worker.phase worker.begun.tx worker.asked worker.known core
 
 -- A core as its one worker has left it: it fits the worker, nobody else has taken or fetches anything of it,
--- and what was fetched for the worker is in memory.
+-- and what the worker has taken is in memory.
 pub record IsCoreAtWork (worker : State) (core : CoreState) : Type 0 where
   pub with : GoesWith worker core
   pub alone : IsAlone worker core

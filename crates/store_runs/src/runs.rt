@@ -40,7 +40,7 @@ pub fn run<D: CrashDisk>(
         Err((disk, fault)) => return (disk, Err(fault)),
     };
     let mut run = Run::new(alloc, store.boot());
-    let mut running = Running::new(store);
+    let mut running = Running::new(alloc, store);
     'events: for event in events {
         if !running.take(alloc, event, &mut run) {
             break;

@@ -56,7 +56,7 @@ pub(super) struct Calls {
 
 impl<D: CrashDisk> Running<D> {
     /// A run of an opened store in which nothing has happened yet.
-    pub(super) fn new(store: Store<D>) -> Running<D>
+    pub(super) fn new(alloc: Global, store: Store<D>) -> Running<D>
         requires { IsIdle store.core }
         ensures well { RunsWell result.worker result.store.core result.calls }
         ensures store { result.store ≡ store }
@@ -68,7 +68,7 @@ impl<D: CrashDisk> Running<D> {
         let boot = store.boot();
         Running {
             store,
-            worker: Worker::new(boot),
+            worker: Worker::new(alloc, boot),
             calls: Calls {
                 log: None,
                 log_made: None,
