@@ -1,0 +1,11 @@
+-- a part is left for each seat that is still to be made, and one more
+use Rattle.std.proofs.Common.{◌≡◌, ◌+◌, ◌<◌, ◌≤◌, length}
+use Rattle.std.specs.Vec.{vec_capacity}
+use Rattle.pool.proofs.beginning.seats.Given as goal
+
+abbrev pub invariant-loop-made : goal.invariant-loop-made
+invariant-loop-made g l = record {
+  parts : l.workers < l.rest.parts + l._made;
+  count : length l.seats.items ≡ l._made;
+  room : l.workers ≤ vec_capacity l.seats;
+}

@@ -1,0 +1,5 @@
+pub mod Working
+pub mod Answers
+pub mod Seated
+pub mod Stepping
+pub mod Locking

@@ -1,0 +1,107 @@
+-- What one step makes of a worker at its seat, and of the core.
+use Rattle.std.specs.Prelude.{◌≡◌, ℕ, true, false, Bool, Option, Some, None}
+use Rattle.disk.specs.Ports.{AnsweredCalls}
+use Rattle.nfs_types.specs.declared.ctx.Moment.{Moment}
+use Rattle.store_promise.specs.declared.answers.CallAnswer.{CallAnswer}
+use Rattle.store_promise.specs.declared.events.Committing.{Committing}
+use Rattle.store_promise.specs.declared.events.Committing.TheVariants as committing
+use Rattle.store_promise.specs.declared.events.Step.{Step}
+use Rattle.store_promise.specs.declared.events.Step.TheVariants as step
+use Rattle.store_promise.specs.declared.events.Wish.{Wish}
+use Rattle.store_promise.specs.declared.events.Wish.TheVariants as wish
+use Rattle.store_workers.specs.SourceReads.{HasReadFrom}
+use Rattle.store_workers.specs.Telling.{told}
+use Rattle.store_workers.specs.Worker.{at_rest, ctx_of, with_call}
+use Rattle.store_workers.specs.WorkerSteps.{GoesOn, side}
+use Rattle.store_workers.specs.declared.workers.parts.Phase.TheVariants.{Idle}
+use Rattle.store_workers.specs.declared.workers.parts.State.{State}
+use Rattle.txn.specs.Core.{CoreState}
+use Rattle.pool_calls.specs.declared.turn.Turn.{Turn}
+use Rattle.pool_calls.specs.declared.turn.Turn.TheVariants as turn
+use Rattle.pool_jobs.specs.declared.answer.Answer.{Answer}
+use Rattle.pool_jobs.specs.declared.job.Job.{Job}
+use Rattle.pool.specs.Answers.{answer_to}
+use Rattle.pool.specs.Working.{Working}
+use Rattle.pool.specs.declared.told.Told.{Told}
+use Rattle.pool.specs.declared.told.Told.TheVariants.{Nothing, Committed, KeptOff, Full}
+
+-- it has no job, and no answer lies ready
+abbrev pub IsFree : Working → Type 0
+IsFree w = (w.worker.phase ≡ Idle) × (w.answer ≡ None)
+
+-- a worker of this boot that was handed nothing yet
+abbrev pub seated_at : ℕ → Working
+seated_at boot = record { worker = at_rest boot; job = None; answer = None; told = Nothing }
+
+-- it was handed a job at this moment
+abbrev pub with_job : Job → Moment → Working → Working
+with_job job moment w = record {
+  worker = with_call (ctx_of job.credential moment w.worker.boot) job.call w.worker;
+  job = Some job;
+  answer = None;
+  told = Nothing;
+}
+
+-- ---- a step
+
+-- what a wish was told
+abbrev pub told_wish : Wish → Told
+told_wish wish.Busy = KeptOff
+told_wish wish.Loading = KeptOff
+told_wish wish.Held = Nothing
+told_wish wish.Fetch = Nothing
+told_wish wish.Outside = Nothing
+told_wish wish.NoMemory = Nothing
+
+abbrev pub told_commit : Committing → Told
+told_commit (committing.Committed place) = Committed
+told_commit committing.Full = Full
+told_commit committing.Foreign = Nothing
+told_commit committing.NoMemory = Nothing
+told_commit committing.Broken = Nothing
+told_commit committing.Spent = Nothing
+
+-- what a step was told
+abbrev pub told_by : Option Step → Told
+told_by (Some (step.Wanted addr mode met)) = told_wish met
+told_by (Some (step.Claimed block met)) = told_wish met
+told_by (Some (step.Commit blocks ended)) = told_commit ended
+told_by _ = Nothing
+
+-- it does nothing just where it makes no step
+abbrev pub turn_by : Option Step → Turn
+turn_by None = turn.Idle
+turn_by (Some made) = turn.Moved
+
+-- how many commits it made
+abbrev pub grown : Told → ℕ
+grown Committed = 1
+grown Nothing = 0
+grown KeptOff = 0
+grown Full = 0
+
+-- what lies ready, with what the worker gives
+abbrev pub answer_with : Option Job → Option Answer → Option CallAnswer → Option Answer
+answer_with job ready None = ready
+answer_with (Some job) ready (Some given) = Some (answer_to job given)
+answer_with None ready (Some given) = ready
+
+-- One step of the worker, which is one call of the core or none: what it gives lies ready then.
+pub record HasStepped (old : Working) (before : CoreState) (turn : Turn) (new : Working) (after : CoreState)
+    : Type 0 where
+  pub made : Option Step
+  pub state : State
+  pub goes : GoesOn old.worker.phase (side old.worker before) made (side state after)
+  pub worker : new.worker ≡ told state
+  pub job : new.job ≡ old.job
+  pub answer : new.answer ≡ answer_with old.job old.answer state.work.answer
+  pub told_is : new.told ≡ told_by made
+  pub turn_is : turn ≡ turn_by made
+
+-- ---- a read
+
+-- The worker's read was made by a source, and what that answered is kept; or none was due.
+abbrev pub ReadsFrom : Bool → AnsweredCalls → Working → AnsweredCalls → Working → Type 0
+ReadsFrom true before old after new = (made : Step) × HasReadFrom before old.worker made after new.worker
+    × (new ≡ record old { worker = new.worker })
+ReadsFrom false before old after new = (after ≡ before) × (new ≡ old)

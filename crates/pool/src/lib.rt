@@ -1,0 +1,19 @@
+//! Threads round a store: seats, steps of the one core under one lock, device calls outside it.
+#![tactic(auto)]
+
+mod beginning;
+mod locked;
+mod seat;
+mod shared;
+mod steps;
+mod told;
+mod work;
+
+pub use beginning::{Ledgers, Pool, begin};
+pub use locked::Locked;
+pub use pool_calls::{Gate, IoSeat, NoGate, Point, Turn, Whole};
+pub use pool_jobs::{Answer, Bearer, Connections, Job, Received, receive};
+pub use seat::Seat;
+pub use shared::{Look, Shared};
+pub use steps::{installer_io, installer_step, logger_io, logger_step, worker_io, worker_step};
+pub use told::Told;

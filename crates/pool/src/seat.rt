@@ -1,0 +1,87 @@
+//! Where a worker sits.
+ghost use Rattle.std.specs.Prelude.{◌≡◌, ◌<◌};
+
+use crate::Told;
+use crate::work::Work;
+use nfs_types::Moment;
+use pool_jobs::{Answer, Job};
+use std::sync::ledger::{Ledger, Share};
+use txn::Seq;
+
+/// A worker with its job, and its share of the ledger of commits, which grows by one at each of its commits. A
+/// seat has to be ended: one that is lost doesn't compile, as its worker may have a transaction.
+pub struct Seat<L: Ledger> {
+    pub(crate) work: Work,
+    pub(crate) share: Share<L>,
+    pub ghost backed: { 0 < share.parts },
+}
+
+impl<L: Ledger> Seat<L> {
+    ghost use Rattle.std.specs.Prelude.{◌≡◌, ◌<◌, ◌↔◌, IsTrue, IsErr, IfErr, IfSome, OnOk, None, IsSomeAnd};
+    ghost use Rattle.pool.specs.Answers.{HandsOver};
+    ghost use Rattle.pool.specs.Stepping.{IsFree, seated_at, with_job};
+    ghost use Rattle.store_workers.specs.SourceReads.{place_awaited};
+    ghost use Rattle.store_workers.specs.declared.workers.parts.Phase.TheVariants.{Reading};
+
+    /// A seat that has made no commit, in a store with this boot number.
+    pub fn new(boot: u64, share: Share<L>) -> Seat<L>
+        requires { 0 < share.parts }
+        ensures work { result.work ≡ seated_at boot }
+        ensures share { result.share ≡ share }
+    {
+        Seat {
+            work: Work::new(boot),
+            share,
+        }
+    }
+
+    /// Whether it has no job, and no answer lies ready.
+    pub fn is_free(&self) -> bool
+        ensures { IsTrue result ↔ IsFree self.now.work }
+    {
+        self.work.is_free()
+    }
+
+    /// Hands it a job at this moment. A seat that isn't free gives the job back.
+    pub fn hand(&mut self, job: Job, moment: Moment) -> Result<(), Job>
+        ensures took { OnOk result (self.new.work ≡ with_job job moment self.old.work) }
+        ensures busy { IfErr result (λ back. (back ≡ job) × (self.new.work ≡ self.old.work)) }
+        ensures cause { IsErr result ↔ (IsFree self.old.work → ⊥) }
+        ensures share { self.new.share ≡ self.old.share }
+    {
+        self.work.hand(job, moment)
+    }
+
+    /// The place that its committed procedure waits for, if it does. Such a seat needs no thread.
+    pub fn waits(&self) -> Option<Seq>
+        ensures { result ≡ place_awaited self.now.work.worker.phase }
+    {
+        self.work.waits()
+    }
+
+    /// Whether a read is due.
+    pub fn is_due(&self) -> bool
+        ensures { IsTrue result ↔ (self.now.work.worker.phase ≡ Reading) }
+    {
+        self.work.is_due()
+    }
+
+    /// What its last step was told.
+    pub fn told(&self) -> Told
+        ensures { result ≡ self.now.work.told }
+    {
+        self.work.told()
+    }
+
+    /// Takes the answer that lies ready: for its job, the reply of its committed change, or one of the three in
+    /// its place, or the reply to a call that begins no transaction.
+    pub fn take_answer(&mut self) -> Option<Answer>
+        ensures answer { result ≡ self.old.work.answer }
+        ensures rest { self.new.work ≡ record self.old.work { answer = None } }
+        ensures hands_over { IfSome result (λ answer.
+            IsSomeAnd self.old.work.job (λ job. HandsOver job answer)) }
+        ensures share { self.new.share ≡ self.old.share }
+    {
+        self.work.take_answer()
+    }
+}

@@ -1,0 +1,142 @@
+//! The lock.
+ghost use Rattle.std.specs.Prelude.{◌≡◌, ◌+◌, ◌≤◌, length, None, IfSome};
+ghost use Rattle.pool.specs.Locking.{IsLawful};
+ghost use Rattle.pool.specs.Stepping.{HasStepped, grown};
+ghost use Rattle.pool_calls.specs.Numbers.{number_of};
+ghost use Rattle.pool_calls.specs.Sides.{HasTurned};
+ghost use Rattle.txn.specs.Core.{CoreState};
+ghost use Rattle.wal_law.specs.Installer.{may_install};
+ghost use Rattle.wal_law.specs.Logger.{may_log};
+
+use crate::{Locked, Seat, installer_step, logger_step, worker_step};
+use pool_calls::{IoSeat, Turn, Whole, give_up};
+use procs::Done;
+use std::alloc::Global;
+use std::sync::ledger::Ledger;
+use std::sync::{Mutex, Wait};
+use txn::{Core, Seq};
+
+/// The lock round the one core. Each call takes it for one step, and may wait for it.
+#[derive(Drop)]
+pub struct Shared<L: Ledger, G: Whole, I: Whole> {
+    lock: Mutex<Locked<L, G, I>>,
+}
+
+/// What threads go by that wait: how far the core is.
+#[derive(Clone, Copy, Debug, PartialEq, Eq)]
+pub struct Look {
+    /// The greatest place such that each change at or before it is settled.
+    pub settled: Seq,
+    /// Whether every commit is settled.
+    pub is_settled: bool,
+    /// How many commits are kept: those that aren't home.
+    pub kept: usize,
+    /// How many blocks the open tail of the log holds.
+    pub tail: usize,
+    /// Whether a write or a barrier has failed.
+    pub broken: bool,
+}
+
+impl<L: Ledger, G: Whole, I: Whole> Shared<L, G, I> {
+    /// A lock round this.
+    pub fn new(locked: Locked<L, G, I>) -> Shared<L, G, I> {
+        Shared {
+            lock: Mutex::new(locked),
+        }
+    }
+
+    /// One step of a worker, under the lock: the answer and the seat are the step's, from some value that the
+    /// lock held.
+    pub fn work<R: Wait>(&self, rt: &R, alloc: Global, seat: &mut Seat<L>) -> Turn
+        ensures step { (before : CoreState) × (after : CoreState) × IsLawful before × IsLawful after
+            × (seat.old.share.amount ≤ before.log.places)
+            × HasStepped seat.old.work before result seat.new.work after }
+        ensures share { seat.new.share.amount ≡ seat.old.share.amount + grown seat.new.work.told }
+        ensures parts { seat.new.share.parts ≡ seat.old.share.parts }
+    {
+        let mut guard = self.lock.lock(rt);
+        worker_step(alloc, &mut *guard, seat)
+    }
+
+    /// One step of the logger, under the lock.
+    pub fn log<R: Wait>(&self, rt: &R, seat: &mut IoSeat<G>) -> Turn
+        ensures step { (before : CoreState) × (after : CoreState) × IsLawful before × IsLawful after
+            × HasTurned may_log before seat.old.io seat.old.answer result after seat.new.io seat.new.answer }
+        ensures numbered { seat.old.io ≡ None → IfSome seat.new.io (λ handed.
+            number_of handed ≡ seat.old.calls.amount + 1) }
+        ensures taken { seat.new.taken ≡ seat.old.taken }
+    {
+        let mut guard = self.lock.lock(rt);
+        logger_step(&mut *guard, seat)
+    }
+
+    /// One step of the installer, under the lock.
+    pub fn install<R: Wait>(&self, rt: &R, seat: &mut IoSeat<I>) -> Turn
+        ensures step { (before : CoreState) × (after : CoreState) × IsLawful before × IsLawful after
+            × HasTurned may_install before seat.old.io seat.old.answer result after seat.new.io
+            seat.new.answer }
+        ensures numbered { seat.old.io ≡ None → IfSome seat.new.io (λ handed.
+            number_of handed ≡ seat.old.calls.amount + 1) }
+        ensures taken { seat.new.taken ≡ seat.old.taken }
+    {
+        let mut guard = self.lock.lock(rt);
+        installer_step(&mut *guard, seat)
+    }
+
+    /// How far the core is.
+    pub fn look<R: Wait>(&self, rt: &R) -> Look {
+        let guard = self.lock.lock(rt);
+        let core = &guard.core;
+        Look {
+            settled: core.settled(),
+            is_settled: core.is_settled(),
+            kept: core.kept(),
+            tail: core.tail(),
+            broken: core.broken(),
+        }
+    }
+
+    /// Ends a seat: what its worker has begun is given back, and what it was to answer is lost.
+    pub fn leave<R: Wait>(&self, rt: &R, seat: Seat<L>) {
+        let mut guard = self.lock.lock(rt);
+        end_seat(&mut *guard, seat);
+    }
+
+    /// Ends the logger's seat: a call that is out is given back with its port's answer, or as failed.
+    pub fn leave_log<R: Wait>(&self, rt: &R, seat: IoSeat<G>) {
+        let mut guard = self.lock.lock(rt);
+        end_calls(&mut *guard, seat);
+    }
+
+    /// Ends the installer's seat: a call that is out is given back with its port's answer, or as failed.
+    pub fn leave_install<R: Wait>(&self, rt: &R, seat: IoSeat<I>) {
+        let mut guard = self.lock.lock(rt);
+        end_calls(&mut *guard, seat);
+    }
+
+    /// The core, out of the lock.
+    pub fn into_core(self) -> Core<Done> {
+        let Locked {
+            core,
+            commits: _,
+            logged: _,
+            installed: _,
+        } = self.lock.into_inner();
+        core
+    }
+}
+
+// Ends a seat.
+fn end_seat<L: Ledger, G: Whole, I: Whole>(locked: &mut Locked<L, G, I>, seat: Seat<L>)
+    ensures { locked.new.core.log ≡ locked.old.core.log }
+{
+    let Seat { work, share: _ } = seat;
+    work.end(&mut locked.core);
+}
+
+// Ends a seat of device calls.
+fn end_calls<L: Ledger, G: Whole, I: Whole, N: Whole>(locked: &mut Locked<L, G, I>, seat: IoSeat<N>)
+    ensures { locked.new.core.log.places ≡ locked.old.core.log.places }
+{
+    give_up(&mut locked.core, seat);
+}

@@ -1,0 +1,142 @@
+//! The steps of workers, logger and installer on what lies behind the lock, and their device calls apart from it.
+ghost use Rattle.std.specs.Prelude.{◌≡◌, ◌+◌, ◌≤◌, ◌↔◌, length, None, IfSome, IsTrue};
+ghost use Rattle.pool.specs.Locking.{IsLawful};
+ghost use Rattle.pool.specs.Stepping.{HasStepped, ReadsFrom, grown};
+ghost use Rattle.pool_calls.specs.Numbers.{IsTied, MakesCall, due, number_of};
+ghost use Rattle.pool_calls.specs.Sides.{HasTurned};
+ghost use Rattle.wal_law.specs.Installer.{may_install};
+ghost use Rattle.wal_law.specs.Logger.{may_log};
+
+use crate::{Locked, Seat, Told};
+use disk::{Port, Source};
+use pool_calls::{Gate, IoSeat, Point, Turn, Whole, make_call, step_installer, step_logger};
+use std::alloc::Global;
+use std::sync::ledger::Ledger;
+
+/// One step of a worker: one call of the core, or none where it has no job or a read is due, and at the answer of
+/// a call that begins no transaction.
+pub fn worker_step<L: Ledger, G: Whole, I: Whole>(
+    alloc: Global,
+    locked: &mut Locked<L, G, I>,
+    seat: &mut Seat<L>,
+) -> Turn
+    ensures bound { seat.old.share.amount ≤ locked.old.core.log.places }
+    ensures step { HasStepped seat.old.work locked.old.core result seat.new.work locked.new.core }
+    ensures share { seat.new.share.amount ≡ seat.old.share.amount + grown seat.new.work.told }
+    ensures parts { seat.new.share.parts ≡ seat.old.share.parts }
+    ensures lawful { IsLawful locked.old.core × IsLawful locked.new.core }
+{
+    let Seat { work, share } = seat;
+    let Locked {
+        core,
+        commits,
+        logged: _,
+        installed: _,
+    } = locked;
+    core.lawful();
+    commits.audit(share);
+    let turn = work.step(alloc, core);
+    if work.told() == Told::Committed {
+        commits.add(share, 1);
+    }
+    core.lawful();
+    turn
+}
+
+/// One step of the logger: one call of the core at most. A value that is handed out bears the next number.
+pub fn logger_step<L: Ledger, G: Whole, I: Whole>(
+    locked: &mut Locked<L, G, I>,
+    seat: &mut IoSeat<G>,
+) -> Turn
+    ensures step { HasTurned may_log locked.old.core seat.old.io seat.old.answer result locked.new.core
+        seat.new.io seat.new.answer }
+    ensures numbered { seat.old.io ≡ None → IfSome seat.new.io (λ handed.
+        number_of handed ≡ seat.old.calls.amount + 1) }
+    ensures counted { G.all ≡ G.parts → (length locked.old.logged.count.items ≡ seat.old.calls.amount)
+        × (length locked.new.logged.count.items ≡ seat.new.calls.amount) }
+    ensures taken { seat.new.taken ≡ seat.old.taken }
+    ensures lawful { IsLawful locked.old.core × IsLawful locked.new.core }
+{
+    let Locked {
+        core,
+        commits: _,
+        logged,
+        installed: _,
+    } = locked;
+    core.lawful();
+    let turn = step_logger(core, logged, seat);
+    core.lawful();
+    turn
+}
+
+/// One step of the installer: one call of the core at most. A value that is handed out bears the next number.
+pub fn installer_step<L: Ledger, G: Whole, I: Whole>(
+    locked: &mut Locked<L, G, I>,
+    seat: &mut IoSeat<I>,
+) -> Turn
+    ensures step { HasTurned may_install locked.old.core seat.old.io seat.old.answer result locked.new.core
+        seat.new.io seat.new.answer }
+    ensures numbered { seat.old.io ≡ None → IfSome seat.new.io (λ handed.
+        number_of handed ≡ seat.old.calls.amount + 1) }
+    ensures counted { I.all ≡ I.parts → (length locked.old.installed.count.items ≡ seat.old.calls.amount)
+        × (length locked.new.installed.count.items ≡ seat.new.calls.amount) }
+    ensures taken { seat.new.taken ≡ seat.old.taken }
+    ensures lawful { IsLawful locked.old.core × IsLawful locked.new.core }
+{
+    let Locked {
+        core,
+        commits: _,
+        logged: _,
+        installed,
+    } = locked;
+    core.lawful();
+    let turn = step_installer(core, installed, seat);
+    core.lawful();
+    turn
+}
+
+/// Makes the read that a worker has due, if one is, by its source. It answers whether there was one.
+pub fn worker_io<L: Ledger, S: Source, T: Gate>(
+    seat: &mut Seat<L>,
+    worker: usize,
+    source: &mut S,
+    gate: &T,
+) -> bool
+    ensures read { ReadsFrom result (S.calls source.old) seat.old.work (S.calls source.new) seat.new.work }
+    ensures share { seat.new.share ≡ seat.old.share }
+{
+    if seat.is_due() {
+        gate.pass(Point::Read(worker));
+    }
+    seat.work.read_from(source)
+}
+
+/// Makes the logger's device call that is out, where it wasn't made, on its port, and leaves the port's answer in
+/// the seat. It answers whether there was one.
+pub fn logger_io<G: Whole, P: Port, T: Gate>(seat: &mut IoSeat<G>, port: &mut P, gate: &T) -> bool
+    ensures made { MakesCall seat.old.io seat.old.answer seat.new.answer (P.calls port.old)
+        (P.calls port.new) }
+    ensures was_due { IsTrue result ↔ (due seat.old.io seat.old.answer ≡ 1) }
+    ensures io { seat.new.io ≡ seat.old.io }
+    ensures tied { IsTied (P.calls port.old) seat.old.taken.items
+        → IsTied (P.calls port.new) seat.new.taken.items }
+{
+    make_call(seat, port, gate)
+}
+
+/// Makes the installer's device call that is out, where it wasn't made, on its port, and leaves the port's answer
+/// in the seat. It answers whether there was one.
+pub fn installer_io<G: Whole, P: Port, T: Gate>(
+    seat: &mut IoSeat<G>,
+    port: &mut P,
+    gate: &T,
+) -> bool
+    ensures made { MakesCall seat.old.io seat.old.answer seat.new.answer (P.calls port.old)
+        (P.calls port.new) }
+    ensures was_due { IsTrue result ↔ (due seat.old.io seat.old.answer ≡ 1) }
+    ensures io { seat.new.io ≡ seat.old.io }
+    ensures tied { IsTied (P.calls port.old) seat.old.taken.items
+        → IsTied (P.calls port.new) seat.new.taken.items }
+{
+    make_call(seat, port, gate)
+}
