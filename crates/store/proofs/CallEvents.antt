@@ -1,5 +1,5 @@
 -- A call begins, its read keeps it under way, and so does the settling that it waits for.
-use Rattle.std.proofs.Common.{arith, ◌≡◌, ◌∙◌, refl, sym, ap, subst, true≢false, ℕ, ◌<◌, ◌≤◌, inl, inr, Bool}
+use Rattle.std.proofs.Common.{arith, ◌≡◌, ◌∙◌, refl, sym, ap, subst, true≢false, ℕ, ◌<◌, ◌≤◌, inl, Bool}
 use Rattle.std.proofs.Common.{true, false, nat_eq}
 use Rattle.std.specs.List.{list_any}
 use Rattle.std.proofs.Common.{IfSome, Option, Some, None, Result, Ok, Err, is_ok, is_some, length, List, []}

@@ -1,5 +1,5 @@
 -- A call waits for the log, or doesn't.
-use Rattle.std.proofs.Common.{◌≡◌, ◌∙◌, refl, sym, true≢false, Bool, true, false}
+use Rattle.std.proofs.Common.{◌≡◌, ◌∙◌, refl, sym, true≢false, Bool, true}
 use Rattle.disk.specs.Device.{Device}
 use Rattle.txn_law.specs.Core.{CoreState}
 use Rattle.store.specs.Calling.{HasWaited}

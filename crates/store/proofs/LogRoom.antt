@@ -5,8 +5,6 @@ use Rattle.std.proofs.lemmas.Bool.Decides.{nat_tests}
 use Rattle.std.proofs.lemmas.List.{length-drop}
 use Rattle.std.proofs.lemmas.List.Elements.{All-head}
 use Rattle.limits.specs.declared.TheConstants.{CHANGED_BLOCKS, LOG_SLOTS}
-use Rattle.nfs_types.specs.declared.call.Call.{Call}
-use Rattle.nfs_types.specs.declared.call.Call.TheVariants as call
 use Rattle.wal_law.specs.Log.{IsCommitted, IsLawful, IsRising, Log, first_place, place_before, settled_place}
 use Rattle.wal_law.specs.Log.{tail_count}
 use Rattle.wal_law.specs.declared.change.LogChange.{LogChange}
