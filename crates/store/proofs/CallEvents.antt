@@ -32,7 +32,7 @@ use Rattle.store_promise.specs.declared.answers.Verdict.{Verdict}
 use Rattle.store_promise.specs.declared.events.Step.{Step}
 use Rattle.store_promise.specs.declared.events.Step.TheVariants as step
 use Rattle.store_runs.specs.AtWork.{IsCoreAtWork, fetches_in, fetches_of}
-use Rattle.store.specs.Calling.{GoesTo, HasAnswered, HasStepped, HasWaited, IsCalling, IsOpenAt, IsOpenWith}
+use Rattle.store.specs.Calling.{IsBegunFor, GoesTo, HasAnswered, HasStepped, HasWaited, IsCalling, IsOpenAt, IsOpenWith}
 use Rattle.store.specs.Calling.{IsSoFar}
 use Rattle.store.specs.Calling.{LeavesFiles, Outset, StandsWith, Tells}
 use Rattle.store_images.specs.Further.{LeavesOpen, RunsOn}
@@ -41,6 +41,7 @@ use Rattle.store_images.specs.Settling.{IsIdle}
 use Rattle.store_images.specs.SettlingStops.{KeepsPrefixes, StaysOpen}
 use Rattle.store_workers.specs.Phases.{is_ready}
 use Rattle.store_workers.specs.Seen.{seen_in}
+use Rattle.store_workers.specs.Knowing.{nothing_known}
 use Rattle.store_workers.specs.Stages.{IsJobIn, IsJobOf, IsWorkerAt, StandsAt, at_stage, begun_of}
 use Rattle.store_workers.specs.Stages.{progress_in, progress_of}
 use Rattle.store_workers.specs.Telling.{told}
@@ -150,7 +151,7 @@ module _ (o : Outset) (now : Opened) (device : Device) (worker : State)
   so_far_by : (broken : Bool) (p : Progress) → IsStepOfRead p (Some made) → IsSoFar o calling.entry now p
       → IsSoFar o calling.entry later (progressed broken made p)
   so_far_by broken Idle may has = tt
-  so_far_by broken (At job Called) may has = absurd (none_made made may)
+  so_far_by broken (At job (Called known)) may has = absurd (none_made made may)
   so_far_by broken (At job (Planning begun)) may has = absurd (none_made made may)
   so_far_by broken (At job (Reading begun taken)) may has = (has.0, by (is_ok answer) refl)
     where
@@ -162,7 +163,7 @@ module _ (o : Outset) (now : Opened) (device : Device) (worker : State)
           (has.1.0, begun_then o now later after begun.number has.1.1, omega (arith, was, more))
   so_far_by broken (At job (Read begun taken ok)) may has = absurd (none_made made may)
   so_far_by broken (At job (Refused begun why)) may has = absurd (none_made made may)
-  so_far_by broken (At job (Again begun)) may has = absurd (none_made made may)
+  so_far_by broken (At job (Again begun wished)) may has = absurd (none_made made may)
   so_far_by broken (At job (Waiting place)) may has = absurd (none_made made may)
 
   kept_then : KeepsByCall → HasKeptFiles o.store.device device o.store.boot o.first
@@ -370,19 +371,21 @@ settled_answer o verdict now device core opens keeps blocks many has = record {
 
 -- ---- it begins again
 
-so_far_again : (o : Outset) (now : Opened) (entry : Option Entry) (job : Option WorkJob) (begun : Begun)
-    → IsSoFar o entry now (at_stage job (Planning begun)) → IsSoFar o entry now (at_stage job (Again begun))
-so_far_again o now entry None begun has = tt
-so_far_again o now entry (Some job) begun has = has
+so_far_again : (o : Outset) (now : Opened) (entry : Option Entry) (job : Option WorkJob) (begun other : Begun)
+    → begun.number ≡ other.number → IsSoFar o entry now (at_stage job (Planning begun))
+    → IsSoFar o entry now (at_stage job (Again other None))
+so_far_again o now entry None begun other same has = tt
+so_far_again o now entry (Some job) begun other same has =
+    (has.0, (has.1.0, subst (IsBegunFor o now) same has.1.1))
 
-ends_again : (job : Option WorkJob) (begun : Begun) → is_idle (at_stage job (Planning begun)) ≡ true
-    → is_idle (at_stage job (Again begun)) ≡ true
-ends_again None begun ends = refl
-ends_again (Some job) begun ends = ends
+ends_again : (job : Option WorkJob) (begun other : Begun) → is_idle (at_stage job (Planning begun)) ≡ true
+    → is_idle (at_stage job (Again other None)) ≡ true
+ends_again None begun other ends = refl
+ends_again (Some job) begun other ends = ends
 
--- a worker that begins again
+-- a worker that begins again, and knows nothing
 abbrev pub again : State → State
-again worker = record worker { phase = Phase.Again }
+again worker = record worker { phase = Phase.Again; known = nothing_known }
 
 pub again_goes : (o : Outset) (now : Opened) (worker : State) → HasStepped o now worker
     → worker.phase ≡ Phase.Planning → GoesWith (told (again worker)) now.core → HasStepped o now (again worker)
@@ -409,22 +412,29 @@ again_goes o now worker stepped planning with =
         };
         at_work = record {
           with = with;
-          alone = record { out = was.at_work.alone.out; fetches = was.at_work.alone.fetches; plans = tt };
+          alone = record {
+            out = was.at_work.alone.out;
+            fetches = was.at_work.alone.fetches;
+            left = refl;
+            plans = tt;
+          };
           loads = tt;
         };
         so_far = so_far_again o now was.entry worker.work.job
-            (begun_of worker.begun.tx (seen_in worker.work.snap) worker.asked.fetched)
+            (begun_of worker.begun.tx (seen_in worker.work.snap) worker.known)
+            (begun_of worker.begun.tx (seen_in worker.work.snap) nothing_known) refl
             (subst (λ (p : phases.Phase). IsSoFar o was.entry now (progress_in p worker.work.job
-            (begun_of worker.begun.tx (seen_in worker.work.snap) worker.asked.fetched) worker.asked)) planning
+            (begun_of worker.begun.tx (seen_in worker.work.snap) worker.known) worker.asked worker.known)) planning
             was.so_far);
         counted = was.counted;
         further = was.further;
         broken = was.broken;
       };
       ends = λ some. ends_again worker.work.job
-          (begun_of worker.begun.tx (seen_in worker.work.snap) worker.asked.fetched)
+          (begun_of worker.begun.tx (seen_in worker.work.snap) worker.known)
+          (begun_of worker.begun.tx (seen_in worker.work.snap) nothing_known)
           (subst (λ (p : phases.Phase). is_idle (progress_in p worker.work.job
-          (begun_of worker.begun.tx (seen_in worker.work.snap) worker.asked.fetched) worker.asked)
+          (begun_of worker.begun.tx (seen_in worker.work.snap) worker.known) worker.asked worker.known)
           ≡ true) planning (stepped.ends some));
       answer = stepped.answer;
     }
@@ -487,7 +497,7 @@ none_of P found stage has idle = let (job, is, rest) = some_of found has in no_s
 
 idle_by : (boot : ℕ) (done : List Entry) (state : State) (phase : phases.Phase) → StandsAt boot done phase state
     → is_idle (progress_in phase state.work.job (begun_of state.begun.tx (seen_in state.work.snap)
-    state.asked.fetched) state.asked) ≡ true
+    state.known) state.asked state.known) ≡ true
     → phase ≡ Phase.Idle
 idle_by boot done state Phase.Idle stands idle = refl
 idle_by boot done state Phase.Called stands idle =

@@ -18,9 +18,13 @@ use Rattle.store_promise.specs.LogTold.{settled_told}
 use Rattle.store_promise.specs.Progress.{Begun, Job, Progress, Stage, At, Idle, Called, Planning, Reading, Read}
 use Rattle.store_promise.specs.Progress.{Refused, Again, Waiting, Taken, Wished, after_called, after_claimed}
 use Rattle.store_promise.specs.Progress.{after_commit, after_planning, after_waiting, after_wanted, going_on}
-use Rattle.store_promise.specs.Progress.{is_idle}
+use Rattle.store_promise.specs.Progress.{aim_of, is_idle, kept_off, with_taken}
+use Rattle.store_promise.specs.Progress as how
+use Rattle.store_promise.specs.Aims.{is_above}
+use Rattle.store_promise.specs.declared.aims.Aim.{Aim}
+use Rattle.store_promise.specs.declared.aims.Aim.TheVariants as aim
 use Rattle.store_promise.specs.Progress.{stage_after}
-use Rattle.store_promise.specs.Schedule.{begun_after, HasNumbers, IsClaimWish, IsCommitting, IsStepByPlan}
+use Rattle.store_promise.specs.Schedule.{begun_after, HasNumbers, IsClaimWish, IsCommitting, IsStepBeside}
 use Rattle.store_promise.specs.Schedule.{IsStepOfCalled}
 use Rattle.store_promise.specs.Schedule.{IsStepOfWork, IsWish, Setting, Told, wish_of}
 use Rattle.store_promise.specs.Transcript.{Transcript, committed_at, entry_of}
@@ -142,7 +146,7 @@ module _ (o : Outset) (now new : Opened) (after : IsAfter now new) where
   -- so it is how far it is, where a call that isn't served has left the store as it was
   pub stands_then : (has_rules o.asked.call ≡ false → new ≡ now) → (entry : Option Entry) (stage : Stage)
       → StandsWith o entry now stage → StandsWith o entry new stage
-  stands_then same entry Called has = (has.0, λ unserved. same unserved ∙ has.1 unserved)
+  stands_then same entry (Called known) has = (has.0, λ unserved. same unserved ∙ has.1 unserved)
   stands_then same entry (Planning begun) has = (has.0, begun_then begun.number has.1)
   stands_then same entry (Reading begun taken) has = (has.0, begun_then begun.number has.1)
   stands_then same entry (Read begun taken true) has = (has.0, begun_then begun.number has.1)
@@ -153,7 +157,7 @@ module _ (o : Outset) (now new : Opened) (after : IsAfter now new) where
         omega (arith, failed, more),
   )
   stands_then same entry (Refused begun why) has = (has.0, begun_then begun.number has.1, cause_then why has.2)
-  stands_then same entry (Again begun) has = (has.0, begun_then begun.number has.1)
+  stands_then same entry (Again begun wished) has = (has.0, begun_then begun.number has.1)
   stands_then same entry (Waiting place) has = has
 
   pub so_far_still : (has_rules o.asked.call ≡ false → new ≡ now) → (entry : Option Entry) (progress : Progress)
@@ -286,21 +290,39 @@ module _ (o : Outset) (now new : Opened) (s : Setting) (t : Told) (from : IsStep
     abbrev NoneIn : Begun → Type 0
     NoneIn begun = (entry ≡ None) × IsBegunFor o new begun.number
 
+    -- who is kept off waits, or begins again
+    off_ok : (begun : Begun) (wished : Aim) → NoneIn begun → StandsWith o entry new (kept_off begun wished)
+    off_ok begun wished none = by (is_above wished begun.taken)
+      where
+        by : (above : Bool) → StandsWith o entry new (if above then Again begun (Some wished) else Planning begun)
+        by true = none
+        by false = none
+
+    held_ok : (begun : Begun) (taken : Taken) (left : List Aim) → NoneIn begun
+        → StandsWith o entry new (Planning (how.told_by left (with_taken begun (aim_of taken)) taken))
+    held_ok begun taken [] none = none
+    held_ok begun taken (next ∷ later) none = none
+
+    taken_ok : (begun : Begun) (block : BlockNo) (left : List Aim) → NoneIn begun
+        → StandsWith o entry new (Planning (how.claimed_by left (with_taken begun (aim.Claim block)) block))
+    taken_ok begun block [] none = none
+    taken_ok begun block (next ∷ later) none = none
+
     wanted_ok : (begun : Begun) (taken : Taken) (answer : Wish) → NoneIn begun
         → (answer ≡ wish.Outside → ⊥) → StandsWith o entry new (after_wanted begun taken answer)
-    wanted_ok begun taken wish.Held none inside = none
+    wanted_ok begun taken wish.Held none inside = held_ok begun taken begun.left none
     wanted_ok begun taken wish.Fetch none inside = none
-    wanted_ok begun taken wish.Busy none inside = none
-    wanted_ok begun taken wish.Loading none inside = none
+    wanted_ok begun taken wish.Busy none inside = off_ok begun (aim_of taken) none
+    wanted_ok begun taken wish.Loading none inside = off_ok begun (aim_of taken) none
     wanted_ok begun taken wish.Outside none inside = absurd (inside refl)
     wanted_ok begun taken wish.NoMemory none inside = (none.0, none.1, tt)
 
     claimed_ok : (begun : Begun) (block : BlockNo) (answer : Wish) → NoneIn begun
         → (answer ≡ wish.Outside → ⊥) → StandsWith o entry new (after_claimed begun block answer)
-    claimed_ok begun block wish.Held none inside = none
+    claimed_ok begun block wish.Held none inside = taken_ok begun block begun.left none
     claimed_ok begun block wish.Fetch none inside = none
-    claimed_ok begun block wish.Busy none inside = none
-    claimed_ok begun block wish.Loading none inside = none
+    claimed_ok begun block wish.Busy none inside = off_ok begun (aim.Claim block) none
+    claimed_ok begun block wish.Loading none inside = off_ok begun (aim.Claim block) none
     claimed_ok begun block wish.Outside none inside = absurd (inside refl)
     claimed_ok begun block wish.NoMemory none inside = (none.0, none.1, tt)
 
@@ -330,23 +352,29 @@ module _ (o : Outset) (now new : Opened) (s : Setting) (t : Told) (from : IsStep
     waits_ok true place stands = tt
     waits_ok false place stands = stands
 
-    called_ok : (made : Step) → entry ≡ None → IsStepOfCalled t (has_rules o.asked.call) made
-        → new.core.begun ≡ begun_after now.core.begun made → StageOk (after_called made)
-    called_ok (step.Begun (Ok number)) none may then_ = (none, number_taken number may then_)
-    called_ok (step.Begun (Err why)) none may then_ = tt
-    called_ok _ none may then_ = tt
+    called_ok : (known : List Aim) (made : Step) → entry ≡ None → IsStepOfCalled t (has_rules o.asked.call) made
+        → new.core.begun ≡ begun_after now.core.begun made → StageOk (after_called known made)
+    called_ok known (step.Begun (Ok number)) none may then_ = (none, number_taken number may then_)
+    called_ok known (step.Begun (Err why)) none may then_ = tt
+    called_ok known _ none may then_ = tt
 
-    planning_ok : (begun : Begun) (made : Step) → has_committed (Some made) ≡ false → NoneIn begun
-        → IsStepByPlan s t 0 begun made → StageOk (after_planning stable begun made)
-    planning_ok begun (step.Wanted addr mode answer) not none may =
+    planning_ok : (left : List Aim) (begun : Begun) (made : Step) → has_committed (Some made) ≡ false
+        → NoneIn begun → IsStepBeside left s t 0 begun made → StageOk (after_planning stable begun made)
+    planning_ok [] begun (step.Wanted addr mode answer) not none may =
         wanted_ok begun (record { addr = addr; mode = mode }) answer none
         (never_outside begun (wish_of addr mode) answer may.1)
-    planning_ok begun (step.Claimed block answer) not none may =
+    planning_ok [] begun (step.Claimed block answer) not none may =
         claimed_ok begun block answer none (never_claimed_outside begun block answer may.1)
-    planning_ok begun (step.Commit blocks answer) not none may =
+    planning_ok [] begun (step.Commit blocks answer) not none may =
         commit_ok begun blocks answer none not may.0 may.1
-    planning_ok begun (step.Ended why) not none may = tt
-    planning_ok begun _ not none may = none
+    planning_ok [] begun (step.Ended why) not none may = tt
+    planning_ok [] begun _ not none may = none
+    planning_ok (next ∷ later) begun (step.Wanted addr mode answer) not none may =
+        wanted_ok begun (record { addr = addr; mode = mode }) answer none
+        (never_outside begun (wish_of addr mode) answer may.1)
+    planning_ok (next ∷ later) begun (step.Claimed block answer) not none may =
+        claimed_ok begun block answer none (never_claimed_outside begun block answer may.1)
+    planning_ok (next ∷ later) begun _ not none may = absurd may
 
     waiting_ok : (place : ℕ) (made : Step) → StandsWith o entry now (Waiting place)
         → StageOk (after_waiting broken place made)
@@ -357,9 +385,9 @@ module _ (o : Outset) (now new : Opened) (s : Setting) (t : Told) (from : IsStep
         → StandsWith o entry now stage
         → IsStepOfWork s t 0 (At o.asked stage) (Some made) → new.core.begun ≡ begun_after now.core.begun made
         → StageOk (stage_after broken stable made stage)
-    next_ok Called made not stands may then_ = called_ok made stands.0 may then_
+    next_ok (Called known) made not stands may then_ = called_ok known made stands.0 may then_
     next_ok (Planning begun) made not stands may then_ =
-        planning_ok begun made not (stands.0, begun_then o now new after begun.number stands.1) may
+        planning_ok begun.left begun made not (stands.0, begun_then o now new after begun.number stands.1) may
     next_ok (Reading begun taken) made not stands may then_ = absurd (some_none made may)
       where
         some_none : (made : Step) → Some made ≡ None → ⊥
@@ -372,7 +400,7 @@ module _ (o : Outset) (now new : Opened) (s : Setting) (t : Told) (from : IsStep
       cause_then o now new after cause.Io (inr stands.2),
     )
     next_ok (Refused begun why) made not stands may then_ = tt
-    next_ok (Again begun) made not stands may then_ =
+    next_ok (Again begun wished) made not stands may then_ =
         (stands.0, λ unserved. absurd (true≢false (sym stands.1.rules ∙ unserved)))
     next_ok (Waiting place) made not stands may then_ = waiting_ok place made stands
 
@@ -385,11 +413,11 @@ module _ (o : Outset) (now new : Opened) (s : Setting) (t : Told) (from : IsStep
         → Tells o entry a.verdict new
     none_tells a none tells = subst (λ (e : Option Entry). Tells o e a.verdict new) (sym none) tells
 
-    called_tells : (made : Step) (t2 : Transcript) (a : Answer)
+    called_tells : (known : List Aim) (made : Step) (t2 : Transcript) (a : Answer)
         → (entry ≡ None) × (has_rules o.asked.call ≡ false → now ≡ o.store) → (made ≡ step.Replied → new ≡ now)
         → IsStepOfCalled t (has_rules o.asked.call) made → new.core.begun ≡ begun_after now.core.begun made
-        → HasVerdict t2 o.asked.call Called made a → Tells o entry a.verdict new
-    called_tells step.Replied t2 a stands same may then_ told =
+        → HasVerdict t2 o.asked.call (Called known) made a → Tells o entry a.verdict new
+    called_tells known step.Replied t2 a stands same may then_ told =
         let none = unserved (has_rules o.asked.call) refl may in
         let was = stands.1 none in
         none_tells a stands.0 (inl (record {
@@ -398,15 +426,15 @@ module _ (o : Outset) (now new : Opened) (s : Setting) (t : Told) (from : IsStep
           left = λ few. same refl ∙ was;
           told_is = told.1;
         }))
-    called_tells (step.Begun (Err why)) t2 a stands same may then_ told = none_tells a stands.0
+    called_tells known (step.Begun (Err why)) t2 a stands same may then_ told = none_tells a stands.0
         (inr (record {
           rules = is_served (has_rules o.asked.call) (Err why) refl may;
           why = cause_of why;
           told_is = told.1;
           because = begin_cause (has_rules o.asked.call) why may;
         }))
-    called_tells (step.Begun (Ok number)) t2 a stands same may then_ told = absurd told
-    called_tells _ t2 a stands same may then_ told = absurd told
+    called_tells known (step.Begun (Ok number)) t2 a stands same may then_ told = absurd told
+    called_tells known _ t2 a stands same may then_ told = absurd told
 
     planning_tells : (begun : Begun) (made : Step) (t2 : Transcript) (a : Answer)
         → has_committed (Some made) ≡ false → StandsWith o entry now (Planning begun)
@@ -475,12 +503,13 @@ module _ (o : Outset) (now new : Opened) (s : Setting) (t : Told) (from : IsStep
       → has_committed (Some made) ≡ false → StandsWith o entry now stage
       → IsStepOfWork s t 0 (At o.asked stage) (Some made)
       → new.core.begun ≡ begun_after now.core.begun made
-      → (stage ≡ Called → made ≡ step.Replied → new ≡ now)
+      → ((known : List Aim) → stage ≡ Called known → made ≡ step.Replied → new ≡ now)
       → is_idle (going_on o.asked (stage_after broken stable made stage)) ≡ true
       → HasVerdict (told_by (o.entries ++ option_to_list entry)) o.asked.call stage made a
       → Tells o entry a.verdict new
-  tells_of entry Called made a not stands may then_ same ends told =
-      called_tells entry made (told_by (o.entries ++ option_to_list entry)) a stands (same refl) may then_ told
+  tells_of entry (Called known) made a not stands may then_ same ends told =
+      called_tells entry known made (told_by (o.entries ++ option_to_list entry)) a stands (same known refl) may
+      then_ told
   tells_of entry (Planning begun) made a not stands may then_ same ends told =
       planning_tells entry begun made (told_by (o.entries ++ option_to_list entry)) a not stands told
   tells_of entry (Reading begun taken) made a not stands may then_ same ends told =
@@ -496,7 +525,7 @@ module _ (o : Outset) (now new : Opened) (s : Setting) (t : Told) (from : IsStep
       absurd (true≢false (sym ends))
   tells_of entry (Refused begun why) made a not stands may then_ same ends told =
       refused_tells entry begun why made (told_by (o.entries ++ option_to_list entry)) a stands told
-  tells_of entry (Again begun) made a not stands may then_ same ends told = absurd (true≢false (sym ends))
+  tells_of entry (Again begun wished) made a not stands may then_ same ends told = absurd (true≢false (sym ends))
   tells_of entry (Waiting place) made a not stands may then_ same ends told =
       waiting_tells entry place made a stands may ends told
 
@@ -517,13 +546,13 @@ module _ (o : Outset) (now : Opened) (s : Setting) (t : Told) (entry : Option En
   stage_waits : (stage : Stage) (made : Step) → StandsWith o entry now stage
       → IsStepOfWork s t 0 (At o.asked stage) (Some made) → waits_for_log (Some made) ≡ true
       → has_rules o.asked.call ≡ true
-  stage_waits Called made stands may waits = called_waits (has_rules o.asked.call) made refl may waits
+  stage_waits (Called known) made stands may waits = called_waits (has_rules o.asked.call) made refl may waits
   stage_waits (Planning begun) made stands may waits = stands.1.rules
   stage_waits (Reading begun taken) made stands may waits = stands.1.rules
   stage_waits (Read begun taken true) made stands may waits = stands.1.rules
   stage_waits (Read begun taken false) made stands may waits = stands.1.rules
   stage_waits (Refused begun why) made stands may waits = stands.1.rules
-  stage_waits (Again begun) made stands may waits = stands.1.rules
+  stage_waits (Again begun wished) made stands may waits = stands.1.rules
   stage_waits (Waiting place) made stands may waits = made_served entry comes stands.1
 
   pub waits_served : (p : Progress) (made : Option Step) → IsSoFar o entry now p → IsStepOfWork s t 0 p made

@@ -43,6 +43,8 @@ use Rattle.store.specs.Calling.{StandsWith, Tells}
 use Rattle.store_images.specs.Further.{IsFurther, end_of}
 use Rattle.store_images.specs.Opening.{Opened}
 use Rattle.store_workers.specs.Asked.{Asking}
+use Rattle.store_workers.specs.Knowing.{Knowing}
+use Rattle.store_promise.specs.declared.aims.Aim.{Aim}
 use Rattle.store_workers.specs.Stages.{IsWorkerAt, alone, at_fetch, at_stage, begun_of}
 use Rattle.store_workers.specs.Stages.{progress_in, progress_of}
 use Rattle.store_workers.specs.Seen.{seen_in}
@@ -206,51 +208,53 @@ not_idle : (job : Job) (stage : Stage) → how.Idle ≡ At job stage → ⊥
 not_idle job stage same = cc
 
 -- a worker at the stage Called has just its call
-called_stage : (found : Option WorkJob) (stage : Stage) (j : Job) → at_stage found stage ≡ At j Called
-    → stage ≡ Called
-called_stage None stage j is = cc
-called_stage (Some job) stage j is = cc
+called_stage : (found : Option WorkJob) (stage : Stage) (j : Job) (known : List Aim)
+    → at_stage found stage ≡ At j (Called known) → stage ≡ Called known
+called_stage None stage j known is = cc
+called_stage (Some job) stage j known is = cc
 
 read_stage : (found : Option WorkJob) (stage : Taken → Stage) (begun : Begun) (wish : Option Addr) (j : Job)
-    → ((taken : Taken) → stage taken ≡ Called → ⊥) → (Planning begun ≡ Called → ⊥)
-    → at_stage found (at_fetch stage begun wish) ≡ At j Called → ⊥
-read_stage found stage begun None j none other is = other (called_stage found (Planning begun) j is)
-read_stage found stage begun (Some addr) j none other is =
-    none (alone addr) (called_stage found (stage (alone addr)) j is)
+    (known : List Aim) → ((taken : Taken) → stage taken ≡ Called known → ⊥) → (Planning begun ≡ Called known → ⊥)
+    → at_stage found (at_fetch stage begun wish) ≡ At j (Called known) → ⊥
+read_stage found stage begun None j known none other is = other (called_stage found (Planning begun) j known is)
+read_stage found stage begun (Some addr) j known none other is =
+    none (alone addr) (called_stage found (stage (alone addr)) j known is)
 
-planning_not : (begun : Begun) → Planning begun ≡ Called → ⊥
-planning_not begun is = cc
+planning_not : (begun : Begun) (known : List Aim) → Planning begun ≡ Called known → ⊥
+planning_not begun known is = cc
 
-phase_called : (phase : phases.Phase) (found : Option WorkJob) (begun : Begun) (asked : Asking) (j : Job)
-    → progress_in phase found begun asked ≡ At j Called → phase ≡ Phase.Called
-phase_called Phase.Idle found begun asked j is = cc
-phase_called Phase.Called found begun asked j is = refl
-phase_called Phase.Planning found begun asked j is =
-    absurd (planning_not begun (called_stage found (Planning begun) j is))
-phase_called Phase.Reading found begun asked j is =
-    absurd (read_stage found (λ taken. how.Reading begun taken) begun asked.wish j (λ taken. none taken)
-    (planning_not begun) is)
+phase_called : (phase : phases.Phase) (found : Option WorkJob) (begun : Begun) (asked : Asking) (knowing : Knowing)
+    (j : Job) (known : List Aim) → progress_in phase found begun asked knowing ≡ At j (Called known)
+    → phase ≡ Phase.Called
+phase_called Phase.Idle found begun asked knowing j known is = cc
+phase_called Phase.Called found begun asked knowing j known is = refl
+phase_called Phase.Planning found begun asked knowing j known is =
+    absurd (planning_not begun known (called_stage found (Planning begun) j known is))
+phase_called Phase.Reading found begun asked knowing j known is =
+    absurd (read_stage found (λ taken. how.Reading begun taken) begun asked.wish j known (λ taken. none taken)
+    (planning_not begun known) is)
   where
-    none : (taken : Taken) → how.Reading begun taken ≡ Called → ⊥
+    none : (taken : Taken) → how.Reading begun taken ≡ Called known → ⊥
     none taken is = cc
-phase_called (Phase.Read ok) found begun asked j is =
-    absurd (read_stage found (λ taken. how.Read begun taken ok) begun asked.wish j (λ taken. none taken)
-    (planning_not begun) is)
+phase_called (Phase.Read ok) found begun asked knowing j known is =
+    absurd (read_stage found (λ taken. how.Read begun taken ok) begun asked.wish j known (λ taken. none taken)
+    (planning_not begun known) is)
   where
-    none : (taken : Taken) → how.Read begun taken ok ≡ Called → ⊥
+    none : (taken : Taken) → how.Read begun taken ok ≡ Called known → ⊥
     none taken is = cc
-phase_called (Phase.Refused why) found begun asked j is =
-    absurd (none (called_stage found (how.Refused begun why) j is)) where
-      none : how.Refused begun why ≡ Called → ⊥
+phase_called (Phase.Refused why) found begun asked knowing j known is =
+    absurd (none (called_stage found (how.Refused begun why) j known is)) where
+      none : how.Refused begun why ≡ Called known → ⊥
       none is = cc
-phase_called Phase.Again found begun asked j is = absurd (none (called_stage found (how.Again begun) j is))
+phase_called Phase.Again found begun asked knowing j known is =
+    absurd (none (called_stage found (how.Again begun knowing.off) j known is))
   where
-    none : how.Again begun ≡ Called → ⊥
+    none : how.Again begun knowing.off ≡ Called known → ⊥
     none is = cc
-phase_called (Phase.Waiting place) found begun asked j is =
-    absurd (none (called_stage asked.waiting (how.Waiting place.0) j is))
+phase_called (Phase.Waiting place) found begun asked knowing j known is =
+    absurd (none (called_stage asked.waiting (how.Waiting place.0) j known is))
   where
-    none : how.Waiting place.0 ≡ Called → ⊥
+    none : how.Waiting place.0 ≡ Called known → ⊥
     none is = cc
 
 -- a call that is answered with no transaction leaves the core
@@ -349,7 +353,7 @@ module _ (o : Outset) (now : Opened) (worker : State) (new : Side) (made : Optio
       so_far_none : (p : Progress) → IsSoFar o calling.entry now p → IsStepOfWork s t 0 p None
           → IsSoFar o calling.entry later p
       so_far_none how.Idle has may = tt
-      so_far_none (At job Called) has may = absurd may
+      so_far_none (At job (Called known)) has may = absurd may
       so_far_none (At job (Planning begun)) has may = absurd may
       so_far_none (At job (how.Reading begun taken)) has may = (
         has.0,
@@ -358,7 +362,7 @@ module _ (o : Outset) (now : Opened) (worker : State) (new : Side) (made : Optio
       )
       so_far_none (At job (how.Read begun taken ok)) has may = absurd may
       so_far_none (At job (how.Refused begun why)) has may = absurd may
-      so_far_none (At job (how.Again begun)) has may = absurd may
+      so_far_none (At job (how.Again begun wished)) has may = absurd may
       so_far_none (At job (how.Waiting place)) has may = absurd may
 
       -- how far it is then
@@ -398,12 +402,12 @@ module _ (o : Outset) (now : Opened) (worker : State) (new : Side) (made : Optio
       -- a call that isn't served leaves the store
       same_store : (job : Job) (stage : Stage) (one : Step) → progress_of worker ≡ At job stage
           → made ≡ Some one
-          → stage ≡ Called → one ≡ step.Replied → later ≡ now
-      same_store job stage one so_far is stage_is one_is = λ i. record now { core = core_is i }
+          → (known : List Aim) → stage ≡ Called known → one ≡ step.Replied → later ≡ now
+      same_store job stage one so_far is known stage_is one_is = λ i. record now { core = core_is i }
         where
           phase_is : worker.phase ≡ Phase.Called
           phase_is = phase_called worker.phase worker.work.job
-              (begun_of worker.begun.tx (seen_in worker.work.snap) worker.asked.fetched) worker.asked job
+              (begun_of worker.begun.tx (seen_in worker.work.snap) worker.known) worker.asked worker.known job known
               (so_far ∙ ap (λ (at : Stage). At job at) stage_is)
 
           core_is : new.core ≡ now.core
@@ -429,7 +433,7 @@ module _ (o : Outset) (now : Opened) (worker : State) (new : Side) (made : Optio
           tells_of o now later s t from after calling.entry is.stage is.step (answer_of ready) not has.1
           (subst (λ (j : Job). IsStepOfWork s t 0 (At j is.stage) (Some is.step)) has.0 may_so)
           (counted_by is.step is.made_is)
-          (λ stage_is step_is. same_store is.job is.stage is.step (is.so_far) is.made_is stage_is step_is)
+          (λ known stage_is step_is. same_store is.job is.stage is.step is.so_far is.made_is known stage_is step_is)
           (subst (λ (j : Job). is_idle (progressed now.core.log.broken is.step (At j is.stage))
           ≡ true) has.0 ended)
           (subst (λ (es : List Entry). HasVerdict (told_by es) o.asked.call is.stage is.step

@@ -53,7 +53,9 @@ use Rattle.store_workers.proofs.LoneWorker.{has_of, seen_of}
 use Rattle.store.proofs.LogRoom.{no_room}
 use Rattle.store_workers.proofs.StepKinds.{Beginning, IsTold, beginning, ending}
 use Rattle.store_workers.proofs.StepKinds.{begun, refused, replied, lacked, committed}
-use Rattle.store_workers.specs.Alone.{HasOfCall, HasTaken, PlansAlone, is_full, is_kept_off}
+use Rattle.store_promise.specs.declared.aims.Aim.{Aim}
+use Rattle.store_workers.specs.Alone.{HasOfCall, HasTaken, LeavesNothing, PlansAlone, is_full, is_kept_off}
+use Rattle.store_workers.specs.Knowing.{nothing_known}
 use Rattle.store_images.specs.Fetches.{KeepsFetches}
 use Rattle.store.specs.Driving.{HasGoneOn, IsAnswered, IsNearer, IsUnder, IsUnderWay}
 use Rattle.store.specs.Driving.{away, count_of, has_room, is_at_hand}
@@ -297,9 +299,9 @@ module _ (old new : Side) (addr : Addr) (job : Job) (tx : ℕ) (snap : Snap)
 
   wanted : (made : Step) → is_kept_off (Some made) ≡ false → (answer : Want)
       → made ≡ step.Wanted addr modes.Exclusive (wish_of answer)
-      → IsWanted old.core tx addr modes.Exclusive answer new.core → new.worker.phase ≡ phase_wanted answer
+      → IsWanted old.core tx addr modes.Exclusive answer new.core → new.worker.phase ≡ phase_wanted addr answer old.worker.known
       → new.worker.begun ≡ begun_wanted answer
-      → seen_in new.worker.work.snap ≡ seen_wanted addr answer (seen_in old.worker.work.snap)
+      → seen_in new.worker.work.snap ≡ seen_wanted [] addr answer (seen_in old.worker.work.snap)
       → new.worker.work.entry ≡ old.worker.work.entry → new.worker.work.answer ≡ old.worker.work.answer
       → Came Planning old (Some made) new
   wanted made free (want.Held back bytes) made_is core phase got seen entry answer =
@@ -363,8 +365,8 @@ module _ (old new : Side) (block : BlockNo) (addr : Addr) (tx : ℕ) (snap : Sna
 
   claimed : (made : Step) → is_kept_off (Some made) ≡ false → (answer : Claim)
       → made ≡ step.Claimed block (claim_wish answer)
-      → IsClaimed old.core tx addr answer new.core → new.worker.phase ≡ phase_claimed answer
-      → seen_in new.worker.work.snap ≡ seen_claimed block answer (seen_in old.worker.work.snap)
+      → IsClaimed old.core tx addr answer new.core → new.worker.phase ≡ phase_claimed block answer old.worker.known
+      → seen_in new.worker.work.snap ≡ seen_claimed [] block answer (seen_in old.worker.work.snap)
       → Came Planning old (Some made) new
   claimed made free (claim.Held back) made_is core phase seen =
       goes_by Planning old made _ new (claim_held phase (ap (λ (c : CoreState). c.log) core.2.only) seen)
@@ -454,10 +456,10 @@ lacked_so old new tx made has =
     has.made_is refl refl
 
 goes : (old new : Side) (tx : ℕ) (made : Step) (next : Plan) → old.worker.begun.tx ≡ Some tx
-    → IsNext old.worker next
+    → old.worker.known.left ≡ [] → IsNext old.worker next
     → HasTaken old.worker old.core → is_kept_off (Some made) ≡ false → GoesByNext next tx old made new
     → Came Planning old (Some made) new
-goes old new tx made next tx_is is taken free goes_so = of_next next is.plan goes_so
+goes old new tx made next tx_is none is taken free goes_so = of_next next is.plan goes_so
   where
     of_next : (next : Plan) → IsPlanFor is.snap next → GoesByNext next tx old made new
         → Came Planning old (Some made) new
@@ -465,12 +467,14 @@ goes old new tx made next tx_is is taken free goes_so = of_next next is.plan goe
         wanted old new addr is.job tx is.snap is.job_is is.snap_is
         (has_of old.worker old.core is.job tx (seen_of is.snap) is.job_is tx_is is.snap_is taken) planned
         (ap (λ (s : State). s.work.job) wish.worker) made free wish.answer wish.made_is wish.core
-        (ap (λ (s : State). s.phase) wish.worker) (ap (λ (s : State). s.begun) wish.worker) wish.seen
+        (ap (λ (s : State). s.phase) wish.worker) (ap (λ (s : State). s.begun) wish.worker)
+        (wish.seen ∙ ap (λ (left : List Aim). seen_wanted left addr wish.answer (seen_in old.worker.work.snap)) none)
         (ap (λ (s : State). s.work.entry) wish.worker) (ap (λ (s : State). s.work.answer) wish.worker)
     of_next (plan.Claim block) planned wish =
         claimed old new block wish.core.0 tx is.snap is.snap_is
         (has_of old.worker old.core is.job tx (seen_of is.snap) is.job_is tx_is is.snap_is taken) planned
-        made free wish.answer wish.made_is wish.core.2 (ap (λ (s : State). s.phase) wish.worker) wish.seen
+        made free wish.answer wish.made_is wish.core.2 (ap (λ (s : State). s.phase) wish.worker)
+        (wish.seen ∙ ap (λ (left : List Aim). seen_claimed left block wish.answer (seen_in old.worker.work.snap)) none)
     of_next (plan.Done done) planned end = elim (ending old new tx done made end) [
       | lacked has ↦ lacked_so old new tx made has
       | committed job job_is has ↦
@@ -558,22 +562,24 @@ again old new made has = by old.worker.begun.tx has
             (sym log) (grind (arith))
 
 pub stepped : (phase : Phase) (old new : Side) (made : Option Step) → IsUnder phase old.core
-    → PlansAlone phase old.worker old.core → is_kept_off made ≡ false → GoesOn phase old made new
-    → Came phase old made new
-stepped Idle old new made under plans free has = absurd under
-stepped Reading old new made under plans free has = absurd under
-stepped (Read ok) old new made under plans free has = absurd under
-stepped Called old new (Some made) under plans free has = called old new made (beginning old new made has)
-stepped Planning old new (Some made) under plans free has =
-    goes old new has.tx made has.next has.tx_is has.next_is plans free has.goes
-stepped (Refused why) old new (Some made) under plans free has = refuses old new why made has
-stepped Again old new (Some made) under plans free has = again old new made has
-stepped (Waiting place) old new (Some made) under plans free has = waited old new place made under has
-stepped Called old new None under plans free has = absurd has
-stepped Planning old new None under plans free has = absurd has
-stepped (Refused why) old new None under plans free has = absurd has
-stepped Again old new None under plans free has = absurd has
-stepped (Waiting place) old new None under plans free has = absurd has
+    → PlansAlone phase old.worker old.core → LeavesNothing phase old.worker.known → is_kept_off made ≡ false
+    → GoesOn phase old made new → Came phase old made new
+stepped Idle old new made under plans left free has = absurd under
+stepped Reading old new made under plans left free has = absurd under
+stepped (Read ok) old new made under plans left free has = absurd under
+stepped Called old new (Some made) under plans left free has = called old new made (beginning old new made has)
+stepped Planning old new (Some made) under plans left free (inl has) =
+    goes old new has.tx made has.next has.tx_is has.none has.next_is plans free has.goes
+stepped Planning old new (Some made) under plans left free (inr has) =
+    let never : has.next ∷ has.later ≡ [] = sym has.left ∙ left in cc
+stepped (Refused why) old new (Some made) under plans left free has = refuses old new why made has
+stepped Again old new (Some made) under plans left free has = again old new made has
+stepped (Waiting place) old new (Some made) under plans left free has = waited old new place made under has
+stepped Called old new None under plans left free has = absurd has
+stepped Planning old new None under plans left free has = absurd has
+stepped (Refused why) old new None under plans left free has = absurd has
+stepped Again old new None under plans left free has = absurd has
+stepped (Waiting place) old new None under plans left free has = absurd has
 
 -- ---- a read, given back
 
@@ -748,7 +754,7 @@ module _ (phase : Phase) (old : Side) (made : Option Step) (mid : Side) (at : ol
           waiting e = cc
 
   pub begins_again : is_full made ≡ true → (state : State) (core : CoreState)
-      → (mid.worker.phase ≡ Planning → state ≡ record mid.worker { phase = Again })
+      → (mid.worker.phase ≡ Planning → state ≡ record mid.worker { phase = Again; known = nothing_known })
       → has_room core.log ≡ true → core.log.blocks ≡ mid.core.log.blocks → HasGoneOn most state core
   begins_again off state core set room blocks = by came
     where

@@ -14,7 +14,8 @@ use Rattle.store.proofs.Driven.{AfterLog, Came, full_plans, full_waits, stepped,
 use Rattle.store.proofs.LogRoom.{room_after}
 use Rattle.store_workers.proofs.LoneWorker.{never_kept_off}
 use Rattle.store_workers.proofs.StaysAlone.{same_taken, stays_alone}
-use Rattle.store_workers.specs.Alone.{IsAlone, PlansAlone, StaysAlone, is_full}
+use Rattle.store_workers.specs.Alone.{IsAlone, LeavesNothing, PlansAlone, StaysAlone, is_full}
+use Rattle.store_workers.specs.Knowing.{nothing_known}
 use Rattle.store.specs.Driving.{IsUnder, has_room, waits_for_log}
 use Rattle.store_images.specs.Fetches.{FetchesOnly, KeepsFetches, is_fetch_of}
 use Rattle.store_workers.specs.Phases.{has_fetch, has_transaction}
@@ -29,14 +30,16 @@ use Rattle.store_workers.specs.declared.workers.parts.State.{State}
 pub starts_alone : (state : State) (core : CoreState) (boot : _) (ctx : Ctx) (call : Call)
     → state ≡ with_call ctx call (at_rest boot) → core.out ≡ [] → FetchesOnly None core → IsAlone state core
 starts_alone state core boot ctx call is out none = subst (λ (s : State). IsAlone s core) (sym is)
-    (record { out = out; fetches = none; plans = tt })
+    (record { out = out; fetches = none; left = refl; plans = tt })
 
 -- one that begins again has no fetch but its own
 pub again_alone : (made : Option Step) (mid state : State) (was core : CoreState) → StaysAlone made mid was
-    → core.out ≡ was.out → KeepsFetches was core → state ≡ record mid { phase = Again } → IsAlone state core
+    → core.out ≡ was.out → KeepsFetches was core → state ≡ record mid { phase = Again; known = nothing_known }
+    → IsAlone state core
 again_alone made mid state was core stays out keeps is = subst (λ (s : State). IsAlone s core) (sym is) (record {
   out = out ∙ stays.out;
   fetches = λ block. keeps block ∙ stays.fetches block;
+  left = refl;
   plans = tt;
 })
 
@@ -47,6 +50,7 @@ pub rest_alone : (made : Option Step) (mid : State) (was core : CoreState) → S
 rest_alone made mid was core stays room out keeps waited same plans = record {
   out = out ∙ stays.out;
   fetches = λ block. keeps block ∙ stays.fetches block;
+  left = stays.left;
   plans = by waited refl;
 }
   where
@@ -61,6 +65,7 @@ read_alone keeps before after mid read told core reading has alone =
     subst (λ (s : State). IsAlone s core) (sym has.worker) (record {
       out = alone.out;
       fetches = λ block. alone.fetches block ∙ ap (λ (o : Option Fetch). is_fetch_of o block) has.io_is;
+      left = subst (λ p. LeavesNothing p mid.known) reading alone.left;
       plans = same_taken mid now core core refl refl refl (λ job tx seen tx_is of_call. of_call)
           (subst (λ p. PlansAlone p mid core) reading alone.plans);
     })
@@ -91,10 +96,10 @@ pub given_alone : (keeps : Type 0) (before after : Device) (mid read : State) (t
 given_alone keeps before after mid read told core new last reading has alone tidy out fetch goes stays =
     let here = read_alone keeps before after mid read told core reading has alone in
     let then_ = stays_alone (side read core) new tidy here.out here.fetches stays read.phase last refl out
-    fetch here.plans goes in
+    fetch here.plans here.left goes in
     let room = given_room (is_ok has.answer) (side read core) new last
     (subst (λ p. GoesOn p (side read core) last new) (ap (λ (s : State). s.phase) has.worker) goes) in
-    record { out = then_.out; fetches = then_.fetches; plans = then_.plans room }
+    record { out = then_.out; fetches = then_.fetches; left = then_.left; plans = then_.plans room }
 
 -- ---- a round
 
@@ -111,9 +116,10 @@ pub round : (old mid : Side) (made : Option Step) (core : CoreState)
     → KeepsReadsOf old mid → AfterLog (waits_for_log made) mid.core core → Round old made mid core
 round old mid made core out fetch tidy alone under goes keeps log = record {
   came = stepped old.worker.phase old mid made under alone.plans
-      (never_kept_off old mid tidy alone.out alone.fetches old.worker.phase made fetch alone.plans goes) goes;
+      alone.left (never_kept_off old mid tidy alone.out alone.fetches old.worker.phase made fetch alone.plans
+      alone.left goes) goes;
   stays = stays_alone old mid tidy alone.out alone.fetches keeps old.worker.phase made refl out fetch
-      alone.plans goes;
+      alone.plans alone.left goes;
   log = log;
 }
 
@@ -123,7 +129,7 @@ module _ (old : Side) (made : Option Step) (mid : Side) (core : CoreState) (r : 
       room_after core.log lawful (r.log.done (full_waits old.worker.phase old made mid refl r.came off))
 
   pub full_alone : is_full made ≡ true → (state : State)
-      → (mid.worker.phase ≡ Planning → state ≡ record mid.worker { phase = Again }) → IsAlone state core
+      → (mid.worker.phase ≡ Planning → state ≡ record mid.worker { phase = Again; known = nothing_known }) → IsAlone state core
   full_alone off state set = again_alone made mid.worker state mid.core core r.stays r.log.out r.log.fetches
       (set (full_plans old.worker.phase old made mid refl r.came off))
 

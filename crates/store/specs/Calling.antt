@@ -186,7 +186,7 @@ Answers keeps_model old asked told new = (first last : Tree) (entries : List Ent
 -- what is known at a stage: whether the procedure was committed, in which transaction it may be, and why the
 -- call will be refused
 abbrev pub StandsWith : Outset → Option Entry → Opened → Stage → Type 0
-StandsWith o entry now Called = (entry ≡ None)
+StandsWith o entry now (Called known) = (entry ≡ None)
     × (has_rules o.asked.call ≡ false → now ≡ o.store)
 StandsWith o entry now (Planning begun) = (entry ≡ None) × IsBegunFor o now begun.number
 StandsWith o entry now (Reading begun taken) = (entry ≡ None) × IsBegunFor o now begun.number
@@ -194,7 +194,7 @@ StandsWith o entry now (Read begun taken true) = (entry ≡ None) × IsBegunFor 
 StandsWith o entry now (Read begun taken false) = (entry ≡ None) × IsBegunFor o now begun.number
     × (o.store.device.failures < now.device.failures)
 StandsWith o entry now (Refused begun why) = (entry ≡ None) × IsBegunFor o now begun.number × HasCause o now why
-StandsWith o entry now (Again begun) = (entry ≡ None) × IsBegunFor o now begun.number
+StandsWith o entry now (Again begun wished) = (entry ≡ None) × IsBegunFor o now begun.number
 StandsWith o entry now (Waiting place) = (place ≡ length o.entries + 1) × (is_some entry ≡ true)
     × (is_answered_stable o.asked.call ≡ true)
 

@@ -49,7 +49,7 @@ pub fn procedure<D: CrashDisk>(
     ensures model { D.keeps_model store.new.disk → D.keeps_model store.old.disk }
 {
     a_call_begins();
-    let mut worker = Worker::new(store.boot);
+    let mut worker = Worker::new(alloc, store.boot);
     worker.hand(credential, moment, call);
     let verdict = answer(alloc, store, &mut worker);
     worker.end(&mut store.core);

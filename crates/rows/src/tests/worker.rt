@@ -88,7 +88,7 @@ fn answer<D: CrashDisk>(
 fn told<D: CrashDisk>(alloc: Global, disk: &mut D) -> Result<Option<CallAnswer>, Fail> {
     let mut core = core_of(alloc, disk)?;
     let (credential, call) = asked(alloc, &GETATTR)?;
-    let mut worker = Worker::new(1);
+    let mut worker = Worker::new(alloc, 1);
     worker.hand(credential, NOW, call);
     let told = answer(alloc, disk, &mut core, &mut worker);
     worker.end(&mut core);
@@ -128,7 +128,7 @@ fn told_by_another<D: CrashDisk>(alloc: Global, disk: &mut D) -> Result<Option<C
     let mut core = core_of(alloc, disk)?;
     let mut other = core_of(alloc, disk)?;
     let (credential, call) = asked(alloc, &GETATTR)?;
-    let mut worker = Worker::new(1);
+    let mut worker = Worker::new(alloc, 1);
     worker.hand(credential, NOW, call);
     let _ = worker.step(alloc, &mut core);
     let _ = worker.step(alloc, &mut other);
