@@ -1,6 +1,6 @@
 -- The bits of bytes, of bitmaps, and what has them.
-use Rattle.std.specs.Prelude.{◌≡◌, ℕ, ◌+◌, ◌*◌, ◌/◌, ◌%◌, ◌^◌, ◌<◌, Bool, true, false, cond, Option, Some, None}
-use Rattle.std.specs.Prelude.{List, length, nat_eq, get_or}
+use Rattle.std.specs.Prelude.{◌≡◌, ℕ, ◌+◌, ◌*◌, ◌/◌, ◌<◌, Bool, true, false, cond, Option, Some, None}
+use Rattle.std.specs.Prelude.{List, nat_eq}
 use Rattle.limits.specs.declared.TheConstants.{BITS_PER_BLOCK}
 use Rattle.disk.specs.Crash.{Image}
 use Rattle.nfs_types.specs.Fits.{AreBytes}

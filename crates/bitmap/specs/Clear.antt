@@ -1,6 +1,6 @@
 -- How many bits are clear of the blocks of a bitmap.
-use Rattle.std.specs.Prelude.{ℕ, ◌*◌, ◌/◌, ◌%◌, ◌^◌, not, List, nat_eq, count_by}
-use Rattle.std.specs.List.{range_with_len, sum_by}
+use Rattle.std.specs.Prelude.{ℕ, ◌*◌, not, count_by}
+use Rattle.std.specs.List.{range_with_len}
 use Rattle.limits.specs.declared.TheConstants.{BITS_PER_BLOCK}
 use Rattle.disk.specs.Crash.{Image}
 use Rattle.layout.specs.Parts.{bit_at}

@@ -1,6 +1,4 @@
 -- What is asked for of a bitmap.
-use Rattle.std.specs.Prelude.{ℕ, ◌+◌, ◌*◌, ◌/◌, ◌%◌, List, take, drop}
-use Rattle.disk.specs.Crash.{Image}
 use Rattle.layout.specs.declared.geometry.Geometry.{Geometry}
 use Rattle.layout.specs.Objects.{IsObject}
 use Rattle.inode.specs.declared.stop.Stop.{Stop}

@@ -1,15 +1,13 @@
 -- What a plan stops for is an object of the image.
-use Rattle.std.proofs.Common.{◌≡◌, ℕ, ◌<◌, sym, ap, ◌∙◌, refl, subst, List, true, false}
+use Rattle.std.proofs.Common.{◌≡◌, ℕ, ◌<◌, refl, subst, List, true, false}
 use Rattle.std.proofs.Common.{arith, Ok, Err, Bool, cond, ◌&&◌, Option, Some, None, nat_eq}
 use Rattle.std.specs.List.{list_all}
 use Rattle.std.proofs.lemmas.Bool.Decides.{nat_tests}
-use Rattle.limits.specs.declared.TheConstants.{BLOCK_BYTES}
-use Rattle.objects.specs.declared.addr.Addr.{Addr}
 use Rattle.layout.specs.declared.fault.LayoutFault.TheVariants.{Range}
 use Rattle.layout.specs.declared.geometry.Geometry.{Geometry}
 use Rattle.layout.specs.declared.inode.Inode.{Inode}
 use Rattle.layout.specs.declared.inode.InodeKind.{InodeKind}
-use Rattle.layout.specs.Objects.{inode, whole}
+use Rattle.layout.specs.Objects.{inode}
 use Rattle.layout.specs.Places.{is_data}
 use Rattle.layout.specs.InodeForm.{fields_of, inode_of_kind, is_data_block_or_none, is_sound_inode}
 use Rattle.layout.specs.InodeForm.{kind_of_number, read_inode, rest_is_zero}

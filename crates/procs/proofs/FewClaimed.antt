@@ -1,6 +1,6 @@
 -- What was claimed stays so, and is few blocks.
 use Rattle.std.proofs.Common.{◌≡◌, ℕ, zero, suc, ◌<◌, ◌≤◌, sym, ap, ◌∙◌, refl, List, [], ◌∷◌, ◌++◌, arith, All}
-use Rattle.std.proofs.Common.{Bool, true, false, ◌||◌, nat_eq, Some, inl, inr, length, map, slice_get, take}
+use Rattle.std.proofs.Common.{true, false, ◌||◌, nat_eq, Some, inl, inr, length, map, slice_get, take}
 use Rattle.std.proofs.Common.{subst}
 use Rattle.std.specs.List.{AllByRecursion, IsDistinct, list_any}
 use Rattle.std.proofs.lemmas.Bool.Decides.{eqb_tells, nat_tests}

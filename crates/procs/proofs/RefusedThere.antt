@@ -1,9 +1,8 @@
 -- What was read shows that the layout doesn't refuse the file of a handle.
-use Rattle.std.proofs.Common.{rules, ◌≡◌, ◌≢◌, ℕ, ◌^◌, ◌<◌, inl, inr, sym, ap, ◌∙◌, subst, true, false}
-use Rattle.std.proofs.Common.{◌&&◌, nat_eq, not, refl, List, [], length, Option, Some, None, Result, Ok, Err, IfOk, arith}
-use Rattle.std.specs.List.{list_all}
+use Rattle.std.proofs.Common.{rules, ◌≡◌, ℕ, ◌^◌, ◌<◌, inl, inr, sym, ap, ◌∙◌, subst, true, false}
+use Rattle.std.proofs.Common.{◌&&◌, nat_eq, not, refl, List, [], Option, Some, None, Result, Ok, Err, IfOk, arith}
 use Rattle.std.proofs.lemmas.Bool.{eq-eqb}
-use Rattle.limits.specs.declared.TheConstants.{BLOCK_BYTES, INDIRECT_INDEXES}
+use Rattle.limits.specs.declared.TheConstants.{BLOCK_BYTES}
 use Rattle.disk.specs.Crash.{Image}
 use Rattle.nfs_types.specs.Handle.{handle_bytes}
 use Rattle.nfs_types.specs.declared.handle.Stamp.{Stamp}
@@ -16,8 +15,6 @@ use Rattle.layout.specs.declared.fault.LayoutFault.TheVariants.{Range}
 use Rattle.layout.specs.declared.geometry.Geometry.{Geometry}
 use Rattle.layout.specs.declared.inode.Inode.{Inode}
 use Rattle.layout.specs.Decode.{inode_at}
-use Rattle.layout.specs.Fields.{numbers_at}
-use Rattle.layout.specs.InodeForm.{is_data_block_or_none}
 use Rattle.procs.specs.declared.next.Plan.{Plan}
 use Rattle.procs.specs.declared.next.Plan.TheVariants as plan
 use Rattle.inode.specs.declared.snap.Snap.{Snap}

@@ -1,5 +1,5 @@
 -- What only tells something is a step that leads to the same tree.
-use Rattle.std.proofs.Common.{◌≡◌, ℕ, List, [], Option}
+use Rattle.std.proofs.Common.{◌≡◌, ℕ, [], Option}
 use Rattle.disk.specs.Crash.{Image}
 use Rattle.nfs_types.specs.declared.call.Call.{Call}
 use Rattle.nfs_types.specs.declared.ctx.Ctx.{Ctx}

@@ -1,5 +1,4 @@
 use Rattle.std.proofs.Common.{◌≡◌, sym, ap, ◌∙◌, subst}
-use Rattle.layout.specs.declared.geometry.Geometry.{Geometry}
 use Rattle.inode.specs.declared.snap.Snap.{Snap}
 use Rattle.inode.specs.Over.{MayStop}
 use Rattle.drafts.specs.Drafted.{Drafted, IsDraft}
