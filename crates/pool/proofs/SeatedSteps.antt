@@ -1,6 +1,6 @@
 -- A step keeps what a worker has its job's, and what it gives answers the job.
 use Rattle.std.proofs.Common.{◌≡◌, ◌∙◌, refl, sym, ap, subst, ℕ, Bool, true, false, true≢false, Option, Some, None, inl, inr}
-use Rattle.std.specs.Prelude.{IsSomeAnd, IsTrue, MatchOption, is_some, ◌↔◌, ◌≤◌, unwrap_or}
+use Rattle.std.specs.Prelude.{IsSomeAnd, IsTrue, MatchOption, if◌then◌else◌, is_some, ◌↔◌, ◌≤◌, unwrap_or}
 use Rattle.disk.specs.declared.block.BlockNo.{BlockNo}
 use Rattle.model.specs.Calls.{has_rules, is_answered_stable, unsupported}
 use Rattle.model.specs.Refused.{refused}
@@ -23,8 +23,11 @@ use Rattle.store_promise.specs.declared.events.Step.{Step}
 use Rattle.store_promise.specs.declared.events.Step.TheVariants as step
 use Rattle.store_workers.proofs.WorkCases.{Cases, by_cases}
 use Rattle.store_workers.specs.Telling.{told}
+use Rattle.store_promise.specs.Aims.{is_above}
+use Rattle.store_promise.specs.declared.aims.Aim.TheVariants as aim
 use Rattle.store_workers.specs.WorkerAnswers.{after_commit, asked_wanted, begun_claimed, begun_wanted}
-use Rattle.store_workers.specs.WorkerAnswers.{phase_claimed, phase_wanted, told_of, with_answer, with_entry}
+use Rattle.store_workers.specs.WorkerAnswers.{known_claimed, known_wanted, object, phase_claimed, phase_wanted}
+use Rattle.store_workers.specs.WorkerAnswers.{told_of, with_answer, with_entry}
 use Rattle.store_workers.specs.WorkerSteps.{GoesOn, HasBegun, HasClaimed, HasCommitted, HasGivenBack}
 use Rattle.store_workers.specs.WorkerSteps.{HasWanted, IsNext, IsTold, Side, Waits, none_begun, numbered}
 use Rattle.store_workers.specs.WorkerSteps.{phase_given, planned_of, with_snap}
@@ -111,19 +114,26 @@ module _ (job : Job) (old new : Side) (none : old.worker.work.answer ≡ None) w
         ap (λ (call : Call). verdict.Reply (unsupported call)) of.1,
       ))) worker
 
+  -- one that is kept off waits, or begins again: its call stays
+  kept_off : (above : Bool) (state : State) → HasCall state job
+      → StandsWith (Some job) (if above then Again else Planning) state
+  kept_off true state call = call
+  kept_off false state call = call
+
   wants : (tx : ℕ) (addr : Addr) (made : Step) (has : HasWanted tx addr old made new) → HasCall old.worker job
       → Leaves job new.worker
   wants tx addr made has call = so _ has.worker (by has.answer)
     where
       by : (answer : Want) → Leaves job (record (with_snap new.worker old.worker) {
-        phase = phase_wanted answer;
+        phase = phase_wanted addr answer old.worker.known;
         begun = begun_wanted answer;
         asked = asked_wanted addr answer old.worker.asked;
+        known = known_wanted addr answer (with_snap new.worker old.worker).known;
       })
       by (want.Held back bytes) = stays _ none call
       by (want.Fetch back io) = stays _ none call
-      by (want.Busy back) = stays _ none call
-      by (want.Loading back) = stays _ none call
+      by (want.Busy back) = stays _ none (kept_off (is_above (object addr) old.worker.known.taken) _ call)
+      by (want.Loading back) = stays _ none (kept_off (is_above (object addr) old.worker.known.taken) _ call)
       by (want.Outside back) = stays _ none call
       by (want.NoMemory back) = stays _ none call
 
@@ -132,12 +142,13 @@ module _ (job : Job) (old new : Side) (none : old.worker.work.answer ≡ None) w
   claims tx block made has call = so _ has.worker (by has.answer)
     where
       by : (answer : Claim) → Leaves job (record (with_snap new.worker old.worker) {
-        phase = phase_claimed answer;
+        phase = phase_claimed block answer old.worker.known;
         begun = begun_claimed answer;
+        known = known_claimed block answer (with_snap new.worker old.worker).known;
       })
       by (claim.Held back) = stays _ none call
-      by (claim.Busy back) = stays _ none call
-      by (claim.Loading back) = stays _ none call
+      by (claim.Busy back) = stays _ none (kept_off (is_above (aim.Claim block) old.worker.known.taken) _ call)
+      by (claim.Loading back) = stays _ none (kept_off (is_above (aim.Claim block) old.worker.known.taken) _ call)
       by (claim.Outside back) = stays _ none call
       by (claim.NoMemory back) = stays _ none call
 
@@ -250,10 +261,10 @@ module _ (job : Job) (old new : Side) (none : old.worker.work.answer ≡ None) w
         replies mine (at_some (IsOf job) old.worker.work.job mine mine_is stands) served worker;
     wanted = λ tx addr made tx_is next has phase_is stands. wants tx addr made has stands;
     claimed = λ tx block made tx_is next has phase_is stands. claims tx block made has stands;
-    committed = λ mine tx done made tx_is next mine_is has phase_is stands.
+    committed = λ mine tx done made tx_is next left mine_is has phase_is stands.
         so _ has.worker (commits_by mine mine_is (at_some (IsOf job) old.worker.work.job mine mine_is stands) tx
         done next stands has.answer has.core);
-    lacked = λ tx made tx_is has phase_is stands.
+    lacked = λ tx made tx_is left has phase_is stands.
         answers (record (with_snap new.worker old.worker) { begun = none_begun }) verdict.NoMemory None (inr (inl (cause.NoMemory, refl))) has.worker;
     given = λ ok io made io_is has phase_is stands. gives_back ok io made has stands;
     refused = λ why mine tx made mine_is tx_is has phase_is stands.

@@ -92,7 +92,7 @@ fn seats<L: Ledger>(
 {
     let mut seats = Vec::with_capacity(alloc, workers as usize)?;
     for _made in 0..workers {
-        let seat = Seat::new(boot, rest.split_off(1, 0));
+        let seat = Seat::new(alloc, boot, rest.split_off(1, 0));
         match seats.push(Mutex::new(seat)) {
             Ok(()) => {}
             Err(_) => unreachable!(),

@@ -5,6 +5,7 @@ use crate::Told;
 use crate::work::Work;
 use nfs_types::Moment;
 use pool_jobs::{Answer, Job};
+use std::alloc::Global;
 use std::sync::ledger::{Ledger, Share};
 use txn::Seq;
 
@@ -24,13 +25,13 @@ impl<L: Ledger> Seat<L> {
     ghost use Rattle.store_workers.specs.declared.workers.parts.Phase.TheVariants.{Reading};
 
     /// A seat that has made no commit, in a store with this boot number.
-    pub fn new(boot: u64, share: Share<L>) -> Seat<L>
+    pub fn new(alloc: Global, boot: u64, share: Share<L>) -> Seat<L>
         requires { 0 < share.parts }
         ensures work { result.work ≡ seated_at boot }
         ensures share { result.share ≡ share }
     {
         Seat {
-            work: Work::new(boot),
+            work: Work::new(alloc, boot),
             share,
         }
     }

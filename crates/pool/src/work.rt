@@ -71,11 +71,11 @@ impl Work {
     ghost use Rattle.store_workers.specs.declared.workers.parts.Phase.TheVariants.{Reading};
 
     /// An idle worker of a store with this boot number.
-    pub(crate) fn new(boot: u64) -> Work
+    pub(crate) fn new(alloc: Global, boot: u64) -> Work
         ensures { result ≡ seated_at boot }
     {
         Work {
-            worker: Worker::new(boot),
+            worker: Worker::new(alloc, boot),
             held: None,
             answer: None,
             told: Told::Nothing,
