@@ -10,7 +10,7 @@ use crate::tests::served::formatted;
 use disk::{Block, BlockNo, CrashDisk, Failed};
 use layout::Super;
 use limits::SUPER_BLOCK;
-use nfs_types::{Reply, Status};
+use nfs_types::Reply;
 use procs::Done;
 use std::alloc::Global;
 use std::test::Fail;
@@ -119,36 +119,5 @@ fn a_worker_driven_by_hand_answers(rt: HostRuntime) -> Result<(), Fail> {
     let is_plain = is_plain_answer(alloc, &told);
     drop(told);
     assert!(rt; is_plain?);
-    Ok(())
-}
-
-// What GETATTR of the root is answered by a worker that begins its transaction of one core, and makes its next
-// steps with another.
-fn told_by_another<D: CrashDisk>(alloc: Global, disk: &mut D) -> Result<Option<CallAnswer>, Fail> {
-    let mut core = core_of(alloc, disk)?;
-    let mut other = core_of(alloc, disk)?;
-    let (credential, call) = asked(alloc, &GETATTR)?;
-    let mut worker = Worker::new(alloc, 1);
-    worker.hand(credential, NOW, call);
-    let _ = worker.step(alloc, &mut core);
-    let _ = worker.step(alloc, &mut other);
-    let _ = worker.step(alloc, &mut other);
-    let told = worker.take_answer();
-    worker.end(&mut core);
-    Ok(told)
-}
-
-// Its wish is told Outside there, and so the call is answered IO.
-#[test]
-fn a_worker_with_another_core_is_answered_io(rt: HostRuntime) -> Result<(), Fail> {
-    let alloc = rt.alloc();
-    let mut disk = formatted(alloc)?;
-    let told = told_by_another(alloc, &mut disk)?.ok_or("no answer")?;
-    let refused = Reply::GetAttr {
-        outcome: Err(Status::Io),
-    };
-    let is_refused = told.place.is_none() && is_reply(&told.verdict, &refused);
-    drop(told);
-    assert!(rt; is_refused);
     Ok(())
 }
