@@ -7,7 +7,7 @@ use Rattle.clap.specs.Words.{Text}
 use Rattle.disk.specs.declared.file.FirstContents.{FirstContents}
 use Rattle.disk.specs.Device.{Device}
 use Rattle.nfsd_words.specs.declared.Args.{Args}
-use Rattle.nfsd_words.specs.declared.Args.TheVariants.{Format, Once}
+use Rattle.nfsd_words.specs.declared.Args.TheVariants.{Format, Once, Serve}
 use Rattle.nfsd_words.specs.Words.{HasMeaning, WordsAsk}
 use Rattle.layout.specs.Geometry.{data_at}
 use Rattle.store_images.specs.Formatting.{HasFormatted}
@@ -18,7 +18,7 @@ use Rattle.store_images.specs.Opening.{HasOpened, Opened}
 use Rattle.nfsd.specs.declared.fault.Fault.{Fault}
 use Rattle.nfsd.specs.declared.fault.Fault.TheVariants as fault
 use Rattle.nfsd.specs.Done.{Answers, DoesCommand, FormatsDevice, IsWithoutMemory, Obeys, Outcome}
-use Rattle.nfsd.specs.Done.{ServesDevice, TellsOutcome, Told, device_of, formatted_line, moment_at}
+use Rattle.nfsd.specs.Done.{ServesClients, ServesDevice, TellsOutcome, Told, device_of, formatted_line, moment_at}
 use Rattle.nfsd.specs.Faults.{status_of_outcome}
 
 -- the command that was asked for was done, so the arguments were obeyed
@@ -35,6 +35,12 @@ obeys_command first words (Format image blocks inodes time) client (Err (fault.W
     does = absurd does.3
 obeys_command first words (Once image time) client (Err (fault.Words e)) device later asks does =
     absurd does.3
+obeys_command first words (Serve image listen workers connections) client (Err fault.NotText) device later asks
+    does = absurd does.2
+obeys_command first words (Serve image listen workers connections) client (Err fault.Memory) device later asks
+    does = absurd does.2
+obeys_command first words (Serve image listen workers connections) client (Err (fault.Words e)) device later asks
+    does = absurd does.2
 obeys_command first words args client outcome device later asks does = (args, asks, does)
 
 -- a device was made an image, and the line of its counts was printed or wasn't
@@ -92,6 +98,18 @@ pub serves_command : (first : FirstContents) (image : _) (size time : ℕ) (new 
     → DoesCommand first (Once image time) client outcome device later
 serves_command first image size time new client (Err fault.File) device later back serves = absurd serves
 serves_command first image size time new client outcome device later back serves = (size, new, back, serves)
+
+-- clients were served from the device of the image's file, so the command was done
+pub listens_command : (first : FirstContents) (image listen : _) (workers connections size : ℕ) (client : Client)
+    (outcome : Outcome) (device : Option Device) (later : Client) → later.unread ≡ client.unread
+    → ServesClients (device_of first size) client.written outcome device later.written
+    → DoesCommand first (Serve image listen workers connections) client outcome device later
+listens_command first image listen workers connections size client (Err fault.File) device later unread serves =
+    absurd serves
+listens_command first image listen workers connections size client (Err fault.Address) device later unread
+    serves = absurd serves
+listens_command first image listen workers connections size client outcome device later unread serves =
+    (size, unread, serves)
 
 -- with status 2 the arguments have no meaning
 obeys_two : (first : FirstContents) (words : List Text) (client : Client) (outcome : Outcome)

@@ -3,7 +3,8 @@ use crate::hall::Hall;
 use crate::sizes::{
     FIRST_SLEEP_MICROSECONDS, FULL_MILLISECONDS, LONGEST_SLEEP_MICROSECONDS, YIELDS,
 };
-use pool::{Answer, Job, NoGate, Seat, Source, Told, Turn, Whole, worker_io};
+use disk::Source;
+use pool::{Answer, Job, NoGate, Seat, Told, Turn, Whole, worker_io};
 use server_parts::Parked;
 use std::sync::Wait;
 use std::sync::ledger::Ledger;

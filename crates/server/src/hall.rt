@@ -2,7 +2,7 @@
 use crate::connection::Connection;
 use crate::sizes::URGENT_COMMITS;
 use nfs_types::Moment;
-use pool::{Answer, Connections, InstSeat, LogSeat, Pool, Seat, Shared, Whole};
+use pool::{Answer, Connections, IoSeat, Pool, Seat, Shared, Whole};
 use server_parts::{Bell, FreeSeats, Moments, Parking, Rounds, moment_of};
 use std::alloc::{AllocError, Global};
 use std::sync::ledger::Ledger;
@@ -22,8 +22,8 @@ pub struct Hall<L: Ledger, G: Whole, I: Whole, P, S> {
     pub alloc: Global,
     pub shared: Shared<L, G, I>,
     pub seats: Vec<Mutex<Seat<L>>>,
-    pub logger: Mutex<LogSeat<G>>,
-    pub installer: Mutex<InstSeat<I>>,
+    pub logger: Mutex<IoSeat<G>>,
+    pub installer: Mutex<IoSeat<I>>,
     pub devices: Devices<P, S>,
     pub signs: Signs,
 }

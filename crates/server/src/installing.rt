@@ -1,7 +1,8 @@
 //! The thread that brings settled changes home.
 use crate::hall::Hall;
 use crate::sizes::INSTALL_MILLISECONDS;
-use pool::{Gate, Point, Port, Turn, Whole, installer_io};
+use disk::Port;
+use pool::{Gate, Point, Turn, Whole, installer_io};
 use server_parts::Rung;
 use std::sync::Wait;
 use std::sync::atomic::{AtomicU64, Ordering};

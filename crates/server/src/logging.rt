@@ -1,8 +1,9 @@
 //! The thread that settles changes.
 use crate::hall::Hall;
 use crossbeam_channel::Sender;
+use disk::Port;
 use limits::{CHANGED_BLOCKS, LOG_SLOTS};
-use pool::{Gate, Point, Port, Turn, Whole, logger_io};
+use pool::{Gate, Point, Turn, Whole, logger_io};
 use server_parts::Rung;
 use std::sync::Wait;
 use std::sync::atomic::{AtomicU64, Ordering};

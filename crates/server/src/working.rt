@@ -2,7 +2,8 @@
 use crate::driving::{answer_in, see_through};
 use crate::hall::Hall;
 use crossbeam_channel::Receiver;
-use pool::{Job, Source, Whole};
+use disk::Source;
+use pool::{Job, Whole};
 use std::sync::Wait;
 use std::sync::ledger::Ledger;
 use std::time::Clock;
