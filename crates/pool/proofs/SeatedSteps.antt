@@ -90,8 +90,8 @@ module _ (job : Job) (old new : Side) (none : old.worker.work.answer ≡ None) w
 
   unchanged : (phase : Phase) → old.worker.phase ≡ phase → StandsWith (Some job) phase old.worker
       → StandsWith (Some job) phase (told old.worker) → new.worker ≡ old.worker → Leaves job new.worker
-  unchanged phase phase_is stands then is = so old.worker is (stays old.worker none
-      (subst (λ (p : Phase). StandsWith (Some job) p (told old.worker)) (sym phase_is) then))
+  unchanged phase phase_is stands going is = so old.worker is (stays old.worker none
+      (subst (λ (p : Phase). StandsWith (Some job) p (told old.worker)) (sym phase_is) going))
 
   -- it gives an answer, and is idle
   answers : (base : State) (heard : Verdict) (place : Option Seq)
