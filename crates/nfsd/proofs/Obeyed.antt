@@ -15,10 +15,13 @@ use Rattle.nfs_types.specs.declared.ctx.Moment.{Moment}
 use Rattle.session.specs.Serving.{Client, HasServed}
 use Rattle.session.specs.declared.serving.SessionFault.{SessionFault}
 use Rattle.store_images.specs.Opening.{HasOpened, Opened}
+use Rattle.server.specs.declared.serving.ServeFault.{ServeFault}
+use Rattle.server.specs.declared.serving.ServeFault.TheVariants as server
 use Rattle.nfsd.specs.declared.fault.Fault.{Fault}
 use Rattle.nfsd.specs.declared.fault.Fault.TheVariants as fault
-use Rattle.nfsd.specs.Done.{Answers, DoesCommand, FormatsDevice, IsWithoutMemory, Obeys, Outcome}
-use Rattle.nfsd.specs.Done.{ServesClients, ServesDevice, TellsOutcome, Told, device_of, formatted_line, moment_at}
+use Rattle.nfsd.specs.Done.{Answers, DoesCommand, FormatsDevice, IsAnnounced, IsWithoutMemory, Obeys, Outcome}
+use Rattle.nfsd.specs.Done.{ServesClients, ServesDevice, TellsOutcome, Told, device_of, formatted_line}
+use Rattle.nfsd.specs.Done.{listening_line, moment_at, outcome_of_server}
 use Rattle.nfsd.specs.Faults.{status_of_outcome}
 
 -- the command that was asked for was done, so the arguments were obeyed
@@ -79,6 +82,30 @@ serves old new time client later opened store moment result outcome opens at ser
         → ServesDevice old time client (outcome_of result) new later
     go (Ok count) served = (opened, store, count, opens, served, left)
     go (Err why) served = (opened, store, opens, served, left)
+
+-- a device was opened, but where it listens wasn't printed
+pub unannounced : (old : Device) (written written' : Option (List ℕ)) (opened : Opened) (why : Fault)
+    (device : Option Device) → HasOpened old (Ok opened) → why ≡ fault.Print
+    → ServesClients old written (Err why) device written'
+unannounced old written written' opened why device opens is =
+    subst (λ (f : Fault). ServesClients old written (Err f) device written') (sym is) (opened, opens)
+
+-- a device was opened, where it listens was printed, and what comes of it is what came of its server
+pub listens : (old : Device) (written written' : Option (List ℕ)) (opened : Opened) (address : List ℕ)
+    (ended : Result (Unit {0}) ServeFault) (outcome : Outcome) (device : Option Device)
+    → HasOpened old (Ok opened) → Appends written written' (listening_line address)
+    → outcome ≡ outcome_of_server ended → ServesClients old written outcome device written'
+listens old written written' opened address ended outcome device opens printed is =
+    subst (λ (o : Outcome). ServesClients old written o device written') (sym is) (go ended)
+  where
+    shown : IsAnnounced old written written'
+    shown = (opened, opens, address, printed)
+
+    go : (ended : Result (Unit {0}) ServeFault)
+        → ServesClients old written (outcome_of_server ended) device written'
+    go (Ok done) = shown
+    go (Err server.Memory) = shown
+    go (Err server.Device) = shown
 
 -- the device of the image's file was formatted, so the command was done
 pub formats_command : (first : FirstContents) (image : _) (blocks inodes time : ℕ) (new : Device)

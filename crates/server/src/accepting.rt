@@ -20,7 +20,8 @@ use std::time::{Clock, Duration};
 struct Guest {
     connection: Arc<Connection, Global>,
     writer: Arc<Connection, Global>,
-    desk: Desk,
+    key: usize,
+    number: u64,
 }
 
 /// Accepts connections, and serves each in threads of its own: so many of them, or without end where that is 0.
@@ -58,24 +59,25 @@ where
                     continue;
                 };
                 accepted = accepted.saturating_add(1);
-                let Some(guest) = let_in(rt, hall, stream, jobs) else {
+                let Some(guest) = let_in(rt, hall, stream) else {
                     continue;
                 };
                 let Guest {
                     connection,
                     writer,
-                    desk,
+                    key,
+                    number,
                 } = guest;
-                let (key, number) = (desk.key, desk.number);
                 if scope.spawn(move || writer.write_all(rt, alloc)).is_err() {
                     turn_away(rt, hall, &*connection, key, number);
                     continue;
                 }
                 let kept = Arc::try_clone(&connection);
-                if scope
-                    .spawn(move || read_all(rt, hall, &*connection, &desk))
-                    .is_err()
-                {
+                let reader = scope.spawn(move || {
+                    let desk = Desk { key, number, jobs };
+                    read_all(rt, hall, &*connection, &desk)
+                });
+                if reader.is_err() {
                     if let Ok(connection) = kept {
                         turn_away(rt, hall, &*connection, key, number);
                     }
@@ -90,13 +92,11 @@ fn let_in<L: Ledger, G: Whole, I: Whole, P, S, R: Wait>(
     rt: &R,
     hall: &Hall<L, G, I, P, S>,
     stream: TcpStream,
-    jobs: &Sender<Job>,
 ) -> Option<Guest> {
     let mut open = hall.signs.open.lock(rt);
     if open.count() >= MOST_CONNECTIONS {
         return None;
     }
-    let jobs = jobs.clone().ok()?;
     let connection = Arc::new(hall.alloc, Connection::new(hall.alloc, stream)).ok()?;
     let writer = Arc::try_clone(&connection).ok()?;
     let listed = Arc::try_clone(&connection).ok()?;
@@ -104,7 +104,8 @@ fn let_in<L: Ledger, G: Whole, I: Whole, P, S, R: Wait>(
     Some(Guest {
         connection,
         writer,
-        desk: Desk { key, number, jobs },
+        key,
+        number,
     })
 }
 

@@ -17,11 +17,11 @@ use std::sync::ledger::Ledger;
 use std::time::Clock;
 
 /// Who reads: the connection's key and number, and where jobs go for which no seat is free.
-#[derive(Drop)]
-pub struct Desk {
+#[derive(Clone, Copy)]
+pub struct Desk<'a> {
     pub key: usize,
     pub number: u64,
-    pub jobs: Sender<Job>,
+    pub jobs: &'a Sender<Job>,
 }
 
 // The connection is gone.
@@ -34,7 +34,7 @@ pub fn read_all<L: Ledger, G: Whole, I: Whole, P, S: Source, R: Wait + Clock>(
     rt: &R,
     hall: &Hall<L, G, I, P, S>,
     connection: &Connection,
-    desk: &Desk,
+    desk: &Desk<'_>,
 ) {
     if read_pieces(rt, hall, connection, desk) {
         connection.outgoing.end(rt);
@@ -50,7 +50,7 @@ fn read_pieces<L: Ledger, G: Whole, I: Whole, P, S: Source, R: Wait + Clock>(
     rt: &R,
     hall: &Hall<L, G, I, P, S>,
     connection: &Connection,
-    desk: &Desk,
+    desk: &Desk<'_>,
 ) -> bool {
     let Ok(mut piece) = vec![in hall.alloc; 0u8; STREAM_PIECE_BYTES] else {
         return true;
@@ -98,7 +98,7 @@ fn serve_records<L: Ledger, G: Whole, I: Whole, P, S: Source, R: Wait + Clock>(
     rt: &R,
     hall: &Hall<L, G, I, P, S>,
     connection: &Connection,
-    desk: &Desk,
+    desk: &Desk<'_>,
     records: &mut Records,
 ) -> bool {
     let mut replies = Vec::new(hall.alloc);
@@ -134,7 +134,7 @@ fn serve_record<L: Ledger, G: Whole, I: Whole, P, S: Source, R: Wait + Clock>(
     rt: &R,
     hall: &Hall<L, G, I, P, S>,
     connection: &Connection,
-    desk: &Desk,
+    desk: &Desk<'_>,
     record: &Bytes,
     replies: &mut Vec<u8>,
 ) -> bool {
