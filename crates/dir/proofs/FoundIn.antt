@@ -1,24 +1,27 @@
--- The first slot that has a name is what the directory's entries have under it.
-use Rattle.std.proofs.Common.{◌≡◌, ℕ, zero, suc, ◌+◌, ◌*◌, ◌<◌, ◌≤◌, inl, inr, sym, ap, ◌∙◌, refl, Bool, true, false}
+-- A slot that has a name is what the directory's entries have under it.
+use Rattle.std.proofs.Common.{◌≡◌, ℕ, zero, suc, ◌+◌, ◌*◌, ◌≤◌, inl, inr, sym, ap, ◌∙◌, refl, Bool, true, false}
 use Rattle.std.proofs.Common.{cond, List, Option, Some, None, Result, Ok, Err, arith}
 use Rattle.std.proofs.lemmas.Bool.{cases_lt}
 use Rattle.std.specs.Cmp.Lexicographic.{nat_list_cmp_total, slice_cmp}
-use Rattle.std.specs.FinMap.{find, get, get-from_entries}
+use Rattle.std.specs.FinMap.{IsAntisymmetric, find, get, get-from_entries, nat_cmp-IsAntisymmetric}
+use Rattle.std.specs.FinMap.{slice_cmp-IsAntisymmetric}
 use Rattle.std.specs.List.{cons_option, filter_map, range_with_len}
 use Rattle.std.specs.Option.{option_map}
 use Rattle.std.specs.Ordering.{is_eq, nat_cmp}
 use Rattle.limits.specs.declared.TheConstants.{SLOTS_PER_BLOCK}
 use Rattle.disk.specs.Crash.{Image}
 use Rattle.layout.specs.declared.fault.LayoutFault.{LayoutFault}
+use Rattle.layout.specs.declared.geometry.Geometry.{Geometry}
 use Rattle.layout.specs.declared.inode.Inode.{Inode}
 use Rattle.layout.specs.declared.slot.Slot.{Slot}
-use Rattle.layout.specs.Decode.{entries_in, entry_in, named_in, span_of}
+use Rattle.layout.specs.Decode.{IsDirectory, entries_in, entry_in, named_in, span_of}
 use Rattle.layout.specs.SlotForm.{number_under}
 use Rattle.model.specs.Node.{DirectoryEntry}
 use Rattle.files.specs.declared.entry.Entry.{Entry}
 use Rattle.dir.specs.Slots.{IsFound, Lying, NoneHas, slot_at}
 use Rattle.files.specs.Heads.{entry_of}
-use Rattle.dir.proofs.Members.{at_or_past, same}
+use Rattle.dir.proofs.Distinct.{Once, found_once, tied}
+use Rattle.dir.proofs.Members.{in_range, same}
 
 abbrev Read : Type 0
 Read = Result (Option Slot) LayoutFault
@@ -29,14 +32,21 @@ entries lies a n = filter_map (λ index. entry_in index (lies index)) (range_wit
 abbrev seek : List ℕ → List (List ℕ × DirectoryEntry) → Option DirectoryEntry
 seek name es = find (slice_cmp nat_cmp) name es
 
+pub exact : IsAntisymmetric (slice_cmp nat_cmp)
+exact = slice_cmp-IsAntisymmetric nat_cmp-IsAntisymmetric
+
 -- ---- one slot
 
-ok_of : (a b : Option ℕ) → ◌≡◌ {A = Result (Option ℕ) LayoutFault} (Ok a) (Ok b) → a ≡ b
-ok_of a b e = ap (λ (r : Result (Option ℕ) LayoutFault). elim r [ Ok v ↦ v | Err f ↦ a ]) e
+abbrev Under : Type 0
+Under = Result (Option ℕ) LayoutFault
 
-not_under : (test : Bool) (number : ℕ) → ◌≡◌ {A = Option ℕ} (cond test (Some number) None) None → test ≡ false
-not_under true number e = cc
-not_under false number e = refl
+ok_of : (a b : Option ℕ) → ◌≡◌ {A = Under} (Ok a) (Ok b) → a ≡ b
+ok_of a b e = ap (λ (r : Under). elim r [ Ok v ↦ v | Err f ↦ a ]) e
+
+not_under : (test : Bool) (number : ℕ)
+    → ((other : ℕ) → ◌≡◌ {A = Under} (Ok (cond test (Some number) None)) (Ok (Some other)) → ⊥) → test ≡ false
+not_under true number none = absurd (none number refl)
+not_under false number none = refl
 
 is_under : (test : Bool) (number wanted : ℕ) → ◌≡◌ {A = Option ℕ} (cond test (Some number) None) (Some wanted)
     → (test ≡ true) × (number ≡ wanted)
@@ -44,22 +54,22 @@ is_under true number wanted e = (refl, same number wanted e)
 is_under false number wanted e = cc
 
 skipped : (name : List ℕ) (slot : ℕ) (read : Read) (es : List (List ℕ × DirectoryEntry))
-    → number_under name read ≡ Ok None → seek name (cons_option (entry_in slot read) es) ≡ seek name es
-skipped name slot (Ok None) es e = refl
-skipped name slot (Ok (Some one)) es e =
+    → ((number : ℕ) → number_under name read ≡ Ok (Some number) → ⊥)
+    → seek name (cons_option (entry_in slot read) es) ≡ seek name es
+skipped name slot (Ok None) es none = refl
+skipped name slot (Ok (Some one)) es none =
     ap (λ b. cond b (Some (record { number = one.number; slot = slot })) (seek name es))
-    (not_under (is_eq (slice_cmp nat_cmp name one.name)) one.number (ok_of _ None e))
-skipped name slot (Err fault) es e = cc
+    (not_under (is_eq (slice_cmp nat_cmp name one.name)) one.number none)
+skipped name slot (Err fault) es none = refl
 
-taken : (name : List ℕ) (slot wanted : ℕ) (read : Read) (es : List (List ℕ × DirectoryEntry))
-    → number_under name read ≡ Ok (Some wanted)
-    → seek name (cons_option (entry_in slot read) es) ≡ Some (record { number = wanted; slot = slot })
-taken name slot wanted (Ok None) es e = cc
-taken name slot wanted (Ok (Some one)) es e =
+taken : (name : List ℕ) (slot wanted : ℕ) (read : Read) → number_under name read ≡ Ok (Some wanted)
+    → entry_in slot read ≡ Some (name, record { number = wanted; slot = slot })
+taken name slot wanted (Ok None) e = cc
+taken name slot wanted (Ok (Some one)) e =
     let both = is_under (is_eq (slice_cmp nat_cmp name one.name)) one.number wanted (ok_of _ (Some wanted) e) in
-    ap (λ b. cond b (Some (record { number = one.number; slot = slot })) (seek name es)) both.0
-    ∙ ap (λ n. Some (record { number = n; slot = slot })) both.1
-taken name slot wanted (Err fault) es e = cc
+    let other = sym (tied exact name one.name both.0) in
+    λ i. Some (other i, record { number = both.1 i; slot = slot })
+taken name slot wanted (Err fault) e = cc
 
 -- ---- all slots
 
@@ -67,51 +77,50 @@ module _ (lies : Lying) (name : List ℕ) where
   pub none_found : (a n : ℕ) → NoneHas lies name a (a + n) → seek name (entries lies a n) ≡ None
   none_found a zero none = refl
   none_found a (suc n) none =
-      skipped name a (lies a) (entries lies (a + 1) n) (none a (omega arith) (omega arith))
-      ∙ none_found (a + 1) n (λ slot low less. none slot (omega (arith, low)) (omega (arith, less)))
+      skipped name a (lies a) (entries lies (a + 1) n) (λ number. none a number (omega arith) (omega arith))
+      ∙ none_found (a + 1) n (λ slot number low less. none slot number (omega (arith, low)) (omega (arith, less)))
 
-  pub one_found : (a n : ℕ) (place : Entry) → a ≤ place.slot → place.slot < a + n
-      → number_under name (lies place.slot) ≡ Ok (Some place.number) → NoneHas lies name a place.slot
-      → seek name (entries lies a n) ≡ Some (entry_of place)
-  one_found a zero place low less is none = absurd (omega (arith, low, less))
-  one_found a (suc n) place low less is none = elim (at_or_past a place.slot low) [
-    | inl here ↦ ap (λ k. seek name (entries lies k (suc n))) (sym here)
-        ∙ taken name place.slot place.number (lies place.slot) (entries lies (place.slot + 1) n) is
-    | inr more ↦ skipped name a (lies a) (entries lies (a + 1) n) (none a (omega arith) (omega (arith, more)))
-        ∙ one_found (a + 1) n place more (omega (arith, less)) is
-        (λ slot least before. none slot (omega (arith, least)) before)
-  ]
-
-  pub found : (n : ℕ) (place : Option Entry) → IsFound lies name 0 n place
+  -- where no name stands twice
+  pub found : (n : ℕ) → Once {R = slice_cmp nat_cmp} nat_list_cmp_total exact (entries lies 0 n)
+      → (place : Option Entry) → IsFound lies name 0 n place
       → option_map entry_of place ≡ seek name (entries lies 0 n)
-  found n None is = sym (none_found 0 n (λ slot low less. is slot low (omega (arith, less))))
-  found n (Some place) is =
-      sym (one_found 0 n place (omega arith) (let less = is.1 in omega (arith, less)) is.2 (λ slot low before. is.3
-      slot low before))
+  found n once None is =
+      sym (none_found 0 n (λ slot number low less. is slot number low (omega (arith, less))))
+  found n once (Some place) is =
+      let less = is.1 in
+      sym (found_once nat_list_cmp_total exact (entries lies 0 n) once name (entry_of place)
+      (in_range (λ index. entry_in index (lies index)) 0 n place.slot (name, entry_of place) (omega arith)
+      (omega (arith, less)) (taken name place.slot place.number (lies place.slot) is.2)))
 
-pub is_found : (inodes : ℕ) (content : Image) (inode : Inode) (name : List ℕ) (place : Option Entry)
-    → IsFound (slot_at inodes content inode) name 0 (SLOTS_PER_BLOCK * span_of inode) place
-    → option_map entry_of place ≡ get (entries_in inodes content inode) name
+pub is_found : (g : Geometry) (content : Image) (inode : Inode) (name : List ℕ) (place : Option Entry)
+    → IsDirectory g content inode
+    → IsFound (slot_at g.inodes content inode) name 0 (SLOTS_PER_BLOCK * span_of inode) place
+    → option_map entry_of place ≡ get (entries_in g.inodes content inode) name
 unfolding named_in
-is_found inodes content inode name place is =
-    found (slot_at inodes content inode) name (SLOTS_PER_BLOCK * span_of inode) place is
+is_found g content inode name place directory is =
+    found (slot_at g.inodes content inode) name (SLOTS_PER_BLOCK * span_of inode) directory.once place is
     ∙ sym (get-from_entries nat_list_cmp_total
-    (entries (slot_at inodes content inode) 0 (SLOTS_PER_BLOCK * span_of inode)) name)
+    (entries (slot_at g.inodes content inode) 0 (SLOTS_PER_BLOCK * span_of inode)) name)
 
--- ---- block by block
+-- ---- slot by slot, and block by block
+
+pub one_more : (lies : Lying) (name : List ℕ) (from last : ℕ) → NoneHas lies name from last
+    → ((number : ℕ) → number_under name (lies last) ≡ Ok (Some number) → ⊥) → NoneHas lies name from (last + 1)
+one_more lies name from last before here slot number low less is =
+    elim (cases_lt slot last) [
+      | inl early ↦ before slot number low early is
+      | inr late ↦ (let same : last ≡ slot = omega (arith, less, late) in
+          here number (ap (λ k. number_under name (lies k)) same ∙ is))
+    ]
+
+pub no_number : (number : ℕ) → ◌≡◌ {A = Under} (Ok None) (Ok (Some number)) → ⊥
+no_number number same = cc
 
 module _ (lies : Lying) (name : List ℕ) (before end : ℕ) where
   pub none_more : NoneHas lies name 0 before → NoneHas lies name before end → NoneHas lies name 0 end
-  none_more first rest slot low less =
-      elim (cases_lt slot before) [ inl early ↦ first slot low early | inr late ↦ rest slot late less ]
+  none_more first rest slot number low less is =
+      elim (cases_lt slot before) [ inl early ↦ first slot number low early is | inr late ↦ rest slot number late less is ]
 
-  pub first_found : (all : ℕ) (place : Entry) → end ≤ all → NoneHas lies name 0 before
-      → IsFound lies name before end (Some place) → IsFound lies name 0 all (Some place)
-  first_found all place fits first is =
-      let less = is.1 in (
-        omega arith,
-        omega (arith, less, fits),
-        is.2,
-        λ slot low early.
-            elim (cases_lt slot before) [ inl sooner ↦ first slot low sooner | inr late ↦ is.3 slot late early ],
-      )
+  pub found_within : (all : ℕ) (place : Entry) → end ≤ all → IsFound lies name before end (Some place)
+      → IsFound lies name 0 all (Some place)
+  found_within all place fits is = let less = is.1 in (omega arith, omega (arith, less, fits), is.2)

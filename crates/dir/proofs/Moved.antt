@@ -1,25 +1,21 @@
 -- Slots that are alike have the same names, and what holds of one block after the other holds of all.
-use Rattle.std.proofs.Common.{◌≡◌, ℕ, ◌<◌, ◌≤◌, inl, inr, ap, ◌∙◌, List, Option, Some, None, arith}
+use Rattle.std.proofs.Common.{◌≡◌, ℕ, ◌<◌, ◌≤◌, inl, inr, sym, ap, ◌∙◌, List, Option, Some, None, arith}
 use Rattle.std.proofs.lemmas.Bool.{cases_lt}
 use Rattle.layout.specs.SlotForm.{number_under}
 use Rattle.files.specs.declared.entry.Entry.{Entry}
 use Rattle.files.specs.declared.entry.SlotName.{SlotName}
-use Rattle.dir.specs.Slots.{AreFree, IsFound, IsNext, Lying, NoneHas}
+use Rattle.dir.specs.Slots.{AreFree, IsFound, IsNext, Lying}
 
 module _ (lies other : Lying) (from end : ℕ)
     (same : (slot : ℕ) → from ≤ slot → slot < end → lies slot ≡ other slot) where
-  none_moved : (name : List ℕ) (last : ℕ) → last ≤ end → NoneHas other name from last → NoneHas lies name from last
-  none_moved name last fits none slot low less =
-      ap (number_under name) (same slot low (omega (arith, less, fits))) ∙ none slot low less
-
   pub moved_found : (name : List ℕ) (found : Option Entry) → IsFound other name from end found
       → IsFound lies name from end found
-  moved_found name None none = none_moved name end (omega arith) none
+  moved_found name None none = λ slot number low less is.
+      none slot number low less (ap (number_under name) (sym (same slot low less)) ∙ is)
   moved_found name (Some place) is = (
     is.0,
     is.1,
     ap (number_under name) (same place.slot is.0 is.1) ∙ is.2,
-    none_moved name place.slot (let less = is.1 in omega (arith, less)) is.3,
   )
 
   free_moved : (last : ℕ) → last ≤ end → AreFree other from last → AreFree lies from last

@@ -32,16 +32,16 @@ block_slot inodes first block slot =
 abbrev pub slot_at : ℕ → Image → Inode → Lying
 slot_at inodes content inode slot = read_slot inodes (slot_bytes content inode slot)
 
--- none of these slots has the name
+-- none of these slots has a number under the name
 abbrev pub NoneHas : Lying → List ℕ → ℕ → ℕ → Type 0
-NoneHas lies name from end = (slot : ℕ) → from ≤ slot → slot < end → number_under name (lies slot) ≡ Ok None
+NoneHas lies name from end =
+    (slot number : ℕ) → from ≤ slot → slot < end → number_under name (lies slot) ≡ Ok (Some number) → ⊥
 
--- the first of these slots that has the name, or none has
+-- one of these slots that has the name, or none has
 abbrev pub IsFound : Lying → List ℕ → ℕ → ℕ → Option Entry → Type 0
 IsFound lies name from end None = NoneHas lies name from end
 IsFound lies name from end (Some place) =
     (from ≤ place.slot) × (place.slot < end) × (number_under name (lies place.slot) ≡ Ok (Some place.number))
-    × NoneHas lies name from place.slot
 
 -- each of these slots is free
 abbrev pub AreFree : Lying → ℕ → ℕ → Type 0

@@ -8,7 +8,8 @@ use layout::{LayoutFault, Slot};
 use limits::SLOTS_PER_BLOCK;
 use std::alloc::{AllocError, Global};
 
-/// The first slot of a block that has a name, where the block's slots are numbered from one on.
+/// A slot of a block that has a name, where the block's slots are numbered from one on. It is refused only
+/// where a slot that may have the name is.
 pub(crate) fn find_in_block(
     inodes: u32,
     block: &[u8],
@@ -23,10 +24,13 @@ pub(crate) fn find_in_block(
         (first + SLOTS_PER_BLOCK)) }
 {
     'slots: for slot in first..first + SLOTS_PER_BLOCK {
-        match Slot::number_under(inodes, Slot::bytes_in(block, slot - first), name) {
-            Ok(None) => {}
-            Ok(Some(number)) => return Ok(Some(Entry { number, slot })),
-            Err(fault) => return Err(fault),
+        let bytes = Slot::bytes_in(block, slot - first);
+        if Slot::may_have(bytes, name) {
+            match Slot::number_under(inodes, bytes, name) {
+                Ok(None) => {}
+                Ok(Some(number)) => return Ok(Some(Entry { number, slot })),
+                Err(fault) => return Err(fault),
+            }
         }
     }
     Ok(None)

@@ -1,5 +1,5 @@
 //! The slot of a name.
-ghost use Rattle.std.specs.Prelude.{◌≡◌, ◌+◌, ◌*◌, ◌<◌, ℕ, IfErr, IfOk};
+ghost use Rattle.std.specs.Prelude.{◌≡◌, ◌+◌, ◌*◌, ◌<◌, ◌≤◌, ℕ, IfErr, IfOk, IfSome, Some};
 ghost use Rattle.std.specs.FinMap.{get};
 ghost use Rattle.std.specs.Option.{option_map};
 ghost use Rattle.limits.specs.declared.TheConstants.{FILE_INDEXES, SLOTS_PER_BLOCK};
@@ -18,7 +18,7 @@ use inode::{Snap, Stop};
 use layout::Inode;
 use limits::SLOTS_PER_BLOCK;
 
-// The first slot that has a name, of those in the block at an index.
+// A slot that has a name, of those in the block at an index.
 fn find_at(snap: &Snap, inode: &Inode, index: usize, name: &[u8]) -> Result<Option<Entry>, Stop>
     requires { index < FILE_INDEXES }
     ensures ok { IfOk result (λ found. (blocks : Image) (tree : Tree) (file : ℕ)
@@ -41,7 +41,70 @@ fn find_at(snap: &Snap, inode: &Inode, index: usize, name: &[u8]) -> Result<Opti
     }
 }
 
-/// What a name in a directory leads to, and where it lies.
+// How many of a directory's first blocks were read, as it seems: the last of them was, and the one behind them
+// wasn't, where there are any.
+fn reached(snap: &Snap, inode: &Inode, span: usize) -> usize
+    requires { span ≤ FILE_INDEXES }
+    ensures { result ≤ span }
+{
+    let mut least = 0;
+    let mut most = span;
+    'halves: while least < most {
+        let middle = least + (most - least) / 2;
+        if directory_block(snap, inode, middle).is_ok() {
+            least = middle + 1;
+        } else {
+            most = middle;
+        }
+    }
+    least
+}
+
+// What a name leads to, where it lies in the block before an index, which was read last, and the next one wasn't
+// read. For this one it stops.
+fn find_before(snap: &Snap, inode: &Inode, index: usize, name: &[u8]) -> Result<Option<Entry>, Stop>
+    requires { index < FILE_INDEXES }
+    ensures ok { IfOk result (λ found. (blocks : Image) (tree : Tree) (file : ℕ)
+        → IsDirectoryOf snap.now blocks tree file inode.now → index < span_of inode.now
+        → IfSome found (λ place. IsFound (slot_at snap.now.geometry.inodes (content_in snap.now.geometry blocks)
+        inode.now) name.now 0 (SLOTS_PER_BLOCK * span_of inode.now) (Some place))) }
+    ensures err { IfErr result (λ stop. MayStop snap.now stop) }
+    ensures pause { IfErr result (λ stop. (blocks : Image) (tree : Tree) (file : ℕ)
+        → IsDirectoryOf snap.now blocks tree file inode.now → index < span_of inode.now → IsPause stop) }
+{
+    if index > 0 {
+        match find_at(snap, inode, index - 1, name)? {
+            Some(place) => return Ok(Some(place)),
+            None => {}
+        }
+    }
+    directory_block(snap, inode, index)?;
+    Ok(None)
+}
+
+// What a name leads to, by a look at all slots.
+fn find_among(snap: &Snap, inode: &Inode, span: usize, name: &[u8]) -> Result<Option<Entry>, Stop>
+    requires few { span ≤ FILE_INDEXES }
+    requires spans { span ≡ span_of inode.now }
+    ensures ok { IfOk result (λ found. (blocks : Image) (tree : Tree) (file : ℕ)
+        → IsDirectoryOf snap.now blocks tree file inode.now
+        → IsFound (slot_at snap.now.geometry.inodes (content_in snap.now.geometry blocks) inode.now) name.now 0
+        (SLOTS_PER_BLOCK * span_of inode.now) found) }
+    ensures err { IfErr result (λ stop. MayStop snap.now stop) }
+    ensures pause { IfErr result (λ stop. (blocks : Image) (tree : Tree) (file : ℕ)
+        → IsDirectoryOf snap.now blocks tree file inode.now → IsPause stop) }
+{
+    'indexes: for index in 0..span {
+        match find_at(snap, inode, index, name)? {
+            Some(place) => return Ok(Some(place)),
+            None => {}
+        }
+    }
+    Ok(None)
+}
+
+/// What a name in a directory leads to, and where it lies. Where a block wasn't read, only the one before it is
+/// looked at, as those before that were when it wasn't read itself.
 pub fn find(snap: &Snap, inode: &Inode, name: &[u8]) -> Result<Option<Entry>, Stop>
     ensures ok { IfOk result (λ found. (blocks : Image) (tree : Tree) (file : ℕ)
         → IsDirectoryOf snap.now blocks tree file inode.now
@@ -54,11 +117,12 @@ pub fn find(snap: &Snap, inode: &Inode, name: &[u8]) -> Result<Option<Entry>, St
     let Some(span) = span_of(inode) else {
         return Err(Stop::Io);
     };
-    'indexes: for index in 0..span {
-        match find_at(snap, inode, index, name)? {
+    let index = reached(snap, inode, span);
+    if index < span {
+        match find_before(snap, inode, index, name)? {
             Some(place) => return Ok(Some(place)),
             None => {}
         }
     }
-    Ok(None)
+    find_among(snap, inode, span, name)
 }

@@ -20,6 +20,7 @@ pub mod ZeroWords
 pub mod ReadBytes
 pub mod Refused
 pub mod SlotBytes
+mod NamedSlot
 pub mod NumbersBytes
 pub mod SuperBytes
 pub mod OneGeometry

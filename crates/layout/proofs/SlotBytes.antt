@@ -19,11 +19,11 @@ use Rattle.layout.proofs.Fits.{four, part-length}
 use Rattle.layout.proofs.Refused.{chosen, chosen_fault}
 use Rattle.layout.proofs.Respelled.{all_zeros, first_four, followed}
 
-all_four : (a b c d : Bool) → (a && b && c && d) ≡ true → (a ≡ true) × (b ≡ true) × (c ≡ true) × (d ≡ true)
+pub all_four : (a b c d : Bool) → (a && b && c && d) ≡ true → (a ≡ true) × (b ≡ true) × (c ≡ true) × (d ≡ true)
 all_four true true true true e = (refl, refl, refl, refl)
 all_four _ _ _ _ e = cc
 
-no_more : (a b : ℕ) → nat_le a b ≡ true → a ≤ b
+pub no_more : (a b : ℕ) → nat_le a b ≡ true → a ≤ b
 no_more a b e = grind (arith, nat_tests)
 
 is_less : (a b : ℕ) → nat_lt a b ≡ true → a < b

@@ -1,5 +1,5 @@
 //! Slots: what the disk has of a name in a directory in 128 bytes.
-ghost use Rattle.std.specs.Prelude.{◌≡◌, ◌*◌, ◌<◌, ◌≤◌, length, take, drop, IfOk, IfErr, Option};
+ghost use Rattle.std.specs.Prelude.{◌≡◌, ◌*◌, ◌<◌, ◌≤◌, ℕ, length, take, drop, false, IfOk, IfErr, Ok, Option, Some};
 ghost use Rattle.limits.specs.declared.TheConstants.{BLOCK_BYTES, NAME_BYTES, SLOTS_PER_BLOCK};
 ghost use Rattle.layout.specs.Fields.{four_at, is_zeros};
 ghost use Rattle.layout.specs.SlotForm.{is_sound_slot, number_under, read_slot, used_bytes, IsInDirectory};
@@ -78,6 +78,20 @@ impl Slot {
         ensures { result ≡ is_zeros bytes.now }
     {
         is_zeros(bytes)
+    }
+
+    /// Whether a slot may have a name, by the length and the bytes alone that stand where it has one. Where it may
+    /// not, it has no number under the name: it is free, has another name, or is refused.
+    pub fn may_have(bytes: &[u8], name: &[u8]) -> bool
+        requires { length bytes.now ≡ SLOT_BYTES }
+        ensures { result ≡ false → (inodes number : ℕ)
+            → number_under name.now (read_slot inodes bytes.now) ≡ Ok (Some number) → ⊥ }
+    {
+        let count = four_at(bytes, COUNT_AT) as usize;
+        if count != name.len() || count > NAME_BYTES {
+            return false;
+        }
+        name.cmp(name_in(bytes)).is_eq()
     }
 
     /// The number that a slot has under a name: None where it is free or has another name. It is refused

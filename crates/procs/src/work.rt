@@ -55,7 +55,28 @@ fn answer(alloc: Global, ctx: &Ctx, call: &Call, snap: &Snap) -> Result<Draft, S
     }
 }
 
-// The same, where nothing that was read is refused, and the file of the call's first handle is read before.
+// The same, where the file of the call's first handle is read before. Where the layout refuses nothing that was
+// read, it doesn't refuse this file.
+fn answer_behind(alloc: Global, ctx: &Ctx, call: &Call, snap: &Snap) -> Result<Draft, Stop>
+    requires { has_rules call.now ≡ true }
+    ensures ok { IfOk result (λ done. EndsFrom snap.now done) }
+    ensures step { IfOk result (λ done. IsStepOf snap.now.geometry ctx.now call.now done) }
+    ensures err { IfErr result (λ stop. IsNew snap.now stop) }
+    ensures asks { IfErr result (λ stop. IsAsked snap.now stop) }
+    ensures io { IfErr result (λ stop. NoneStandFor ctx.now call.now snap.now stop) }
+    ensures sound { IfOk result (λ done. NoneRead snap.now → NoneRefusedIn snap.now call.now) }
+{
+    match first_handle(call) {
+        Some(handle) => match read_file(snap, handle) {
+            Ok(()) => answer(alloc, ctx, call, snap),
+            Err(stop) => Err(stop),
+        },
+        None => answer(alloc, ctx, call, snap),
+    }
+}
+
+// The same, where nothing that was read is refused. All of it is looked through once, when nothing more is to be
+// read.
 fn work(alloc: Global, ctx: &Ctx, call: &Call, snap: &Snap) -> Result<Draft, Stop>
     requires { has_rules call.now ≡ true }
     ensures ok { IfOk result (λ done. EndsFrom snap.now done) }
@@ -65,16 +86,15 @@ fn work(alloc: Global, ctx: &Ctx, call: &Call, snap: &Snap) -> Result<Draft, Sto
     ensures io { IfErr result (λ stop. NoneStandFor ctx.now call.now snap.now stop) }
     ensures sound { IfOk result (λ done. NoneRefusedIn snap.now call.now × NoneRead snap.now) }
 {
-    if is_refused(snap) {
-        what_is_refused_is_in_no_tree();
-        return Err(Stop::Io);
-    }
-    match first_handle(call) {
-        Some(handle) => match read_file(snap, handle) {
-            Ok(()) => answer(alloc, ctx, call, snap),
-            Err(stop) => Err(stop),
-        },
-        None => answer(alloc, ctx, call, snap),
+    match answer_behind(alloc, ctx, call, snap) {
+        Ok(done) => {
+            if is_refused(snap) {
+                what_is_refused_is_in_no_tree();
+                return Err(Stop::Io);
+            }
+            Ok(done)
+        }
+        Err(stop) => Err(stop),
     }
 }
 

@@ -5,7 +5,7 @@ use Rattle.disk.specs.Crash.{Image}
 use Rattle.model.specs.Tree.{Tree}
 use Rattle.layout.specs.Parts.{content_in}
 use Rattle.dir.specs.Slots.{IsDirectoryOf, NoneHas, slot_at}
-use Rattle.dir.proofs.finding.find.Given as goal
+use Rattle.dir.proofs.finding.find_among.Given as goal
 
 abbrev pub invariant-indexes : goal.invariant-indexes
 invariant-indexes l =
