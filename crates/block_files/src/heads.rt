@@ -1,14 +1,17 @@
 //! The files of an image by their numbers.
-ghost use Rattle.std.specs.Prelude.{◌≡◌, IfErr, IfOk};
+ghost use Rattle.std.specs.Prelude.{ℕ, ◌≡◌, ◌+◌, ◌≤◌, IfErr, IfOk};
+ghost use Rattle.limits.specs.declared.TheConstants.{FILE_INDEXES};
 ghost use Rattle.disk.specs.Crash.{Image};
 ghost use Rattle.model.specs.Tree.{Tree};
 ghost use Rattle.files.specs.Heads.{IsFileAt};
-ghost use Rattle.inode.specs.Over.{IsOver, IsPause, MayStop};
+ghost use Rattle.inode.specs.Over.{HasInode, IsOver, IsPause, MayStop};
+ghost use Rattle.inode.specs.Shown.{IsShown, body_in};
 ghost use Rattle.block_files.specs.Heads.{head_of};
 
+use dir::used_of_directory;
 use files::Head;
 use inode::{Snap, Stop, file_kind, held, used_of};
-use layout::Inode;
+use layout::{Inode, InodeKind};
 use limits::BLOCK_BYTES;
 use std::alloc::Global;
 
@@ -34,6 +37,26 @@ pub fn head_of(number: u32, inode: &Inode, used: u32) -> Head
     }
 }
 
+// How many blocks the file of an inode uses. What a directory uses is told by its size, and no block of it is read.
+fn used_in(alloc: Global, snap: &Snap, inode: &Inode) -> Result<u32, Stop>
+    ensures few { IfOk result (λ used. used ≤ FILE_INDEXES + 1) }
+    ensures ok { IfOk result (λ used. (blocks : Image) (tree : Tree) (file : ℕ)
+        → HasInode snap.now blocks tree file inode.now
+        → IsShown inode.now used (body_in snap.now.geometry blocks inode.now)) }
+    ensures err { IfErr result (λ stop. MayStop snap.now stop) }
+    ensures pause { IfErr result (λ stop. (blocks : Image) (tree : Tree) (file : ℕ)
+        → HasInode snap.now blocks tree file inode.now → IsPause stop) }
+{
+    match inode.kind {
+        InodeKind::Directory => match used_of_directory(inode) {
+            Some(used) => Ok(used),
+            None => Err(Stop::Io),
+        },
+        InodeKind::Regular => used_of(alloc, snap, inode),
+        InodeKind::Link => used_of(alloc, snap, inode),
+    }
+}
+
 /// The file of a number.
 pub(crate) fn file(alloc: Global, snap: &Snap, number: u32) -> Result<Option<Head>, Stop>
     ensures ok { IfOk result (λ found. (blocks : Image) (tree : Tree) → IsOver snap.now blocks tree
@@ -45,6 +68,6 @@ pub(crate) fn file(alloc: Global, snap: &Snap, number: u32) -> Result<Option<Hea
     let Some(inode) = held(snap, number)? else {
         return Ok(None);
     };
-    let used = used_of(alloc, snap, &inode)?;
+    let used = used_in(alloc, snap, &inode)?;
     Ok(Some(head_of(number, &inode, used)))
 }

@@ -7,3 +7,4 @@ pub mod Moved
 pub mod Passed
 pub mod Filled
 pub mod VacantIn
+pub mod UsedByDirectory

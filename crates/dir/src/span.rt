@@ -1,17 +1,18 @@
 //! The blocks that a directory spans.
-ghost use Rattle.std.specs.Prelude.{◌≡◌, ◌+◌, ◌*◌, ◌<◌, ◌≤◌, ℕ, length, IfErr, IfNone, IfOk, IfSome};
-ghost use Rattle.limits.specs.declared.TheConstants.{BLOCK_BYTES, FILE_INDEXES, SLOTS_PER_BLOCK};
+ghost use Rattle.std.specs.Prelude.{◌≡◌, ◌+◌, ◌*◌, ◌<◌, ◌≤◌, ℕ, cond, length, nat_lt, IfErr, IfNone, IfOk, IfSome};
+ghost use Rattle.limits.specs.declared.TheConstants.{BLOCK_BYTES, DIRECT_INDEXES, FILE_INDEXES, SLOTS_PER_BLOCK};
 ghost use Rattle.disk.specs.Crash.{Image};
 ghost use Rattle.model.specs.Tree.{Tree};
 ghost use Rattle.layout.specs.Decode.{span_of};
 ghost use Rattle.layout.specs.Parts.{content_in};
 ghost use Rattle.inode.specs.declared.snap.Snap.{Snap};
 ghost use Rattle.inode.specs.Over.{IsPause, MayStop};
+ghost use Rattle.inode.specs.Shown.{IsShown, body_in};
 ghost use Rattle.dir.specs.Slots.{IsDirectoryOf, block_slot, slot_at};
 
 use inode::{Snap, Stop, block_number, data_block};
 use layout::Inode;
-use limits::{BLOCK_BYTES, LARGEST_DIRECTORY};
+use limits::{BLOCK_BYTES, DIRECT_INDEXES, LARGEST_DIRECTORY};
 
 /// How many blocks a directory spans: None where it is larger than one may be.
 pub(crate) fn span_of(inode: &Inode) -> Option<usize>
@@ -24,6 +25,34 @@ pub(crate) fn span_of(inode: &Inode) -> Option<usize>
         return None;
     }
     Some((inode.size / BLOCK_BYTES as u64) as usize)
+}
+
+/// How many blocks a directory uses: those that it spans, and its indirect block where it needs one. None where it
+/// is larger than one may be.
+pub fn used_of_directory(inode: &Inode) -> Option<u32>
+    ensures few { IfSome result (λ used. used ≤ FILE_INDEXES + 1) }
+    ensures some { IfSome result (λ used. (snap : Snap) (blocks : Image) (tree : Tree) (file : ℕ)
+        → IsDirectoryOf snap blocks tree file inode.now
+        → IsShown inode.now used (body_in snap.geometry blocks inode.now)) }
+    ensures none { IfNone result ((snap : Snap) (blocks : Image) (tree : Tree) (file : ℕ)
+        → IsDirectoryOf snap blocks tree file inode.now → ⊥) }
+{
+    match span_of(inode) {
+        Some(span) => Some(with_indirect(span as u32)),
+        None => None,
+    }
+}
+
+// So many blocks, and an indirect one where an inode doesn't name them all.
+fn with_indirect(span: u32) -> u32
+    requires { span ≤ FILE_INDEXES }
+    ensures { result ≡ span + cond (nat_lt DIRECT_INDEXES span) 1 0 }
+{
+    if (span as usize) > DIRECT_INDEXES {
+        span + 1
+    } else {
+        span
+    }
 }
 
 /// The block at an index of a directory.
