@@ -1,4 +1,3 @@
-use Rattle.layout.proofs.Holding.{holds_of}
 use Rattle.procs.proofs.ChangesOf.{for_calls}
 use Rattle.procs.proofs.RefusedThere.{for_all, none_in, none_without}
 use Rattle.procs.proofs.work.answer_behind.Goals as goal

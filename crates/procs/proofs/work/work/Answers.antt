@@ -9,3 +9,7 @@ returns-then-is_refused-clause-io c = λ blocks tree sound stands saw.
       saw = saw;
       whole = λ number less. (stands.bytes number less).0;
     }))
+
+pub returns-else-is_refused-clause-sound : goal.returns-else-is_refused-clause-sound
+returns-else-is_refused-clause-sound c =
+    let nothing = c.is_refused.ensures.none c.if-is_refused.false in (c.in-Ok.ensures.sound nothing, nothing)
