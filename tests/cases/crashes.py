@@ -353,29 +353,45 @@ def test_each_call_of_an_opening_that_fails_loses_nothing(place):
                 same(f"the tree behind call {failed}", tree_of(left), tree_of(image))
 
 
+def test_an_opening_that_is_stopped_within_a_stopped_one_loses_nothing(place):
+    drawn = random.Random(12)
+    shared_library(place)
+    once = opened_in_crashes(place, logged_image(place), "an opening", drawn)
+    for number, image in enumerate(once):
+        opened_in_crashes(place, image, f"an opening of what was left, number {number}", drawn)
+
+
 # Calls on a fresh image: of the session's calls of the file the first reads the root's inode.
 FIRST_CALLS = wire.setattr_call(1, OLD_MODE) + wire.getattr_call(2) + wire.null_call(3)
 
 
-def failing(place, shared, image, behind):
-    """Has the call of the file fail that is the so manieth behind the opening."""
+def failing(place, shared, image, behind, **given):
+    """Has the call of the file fail that is the so manieth behind the opening: what came of it, and what was noted."""
     _, opening = run_noted(place, shared, ["once", set_image(place, image), "--time", str(NOW)])
     arguments = ["once", set_image(place, image), "--time", str(NOW)]
-    return run_noted(place, shared, arguments, FIRST_CALLS, FAILED_CALL=str(len(opening) + behind))[0]
+    return run_noted(place, shared, arguments, FIRST_CALLS, FAILED_CALL=str(len(opening) + behind), **given)
 
 
 def test_a_read_that_fails_breaks_nothing(place):
     shared, image = shared_library(place), contents(place.image())
     told = [wire.setattr_failed(1), wire.getattr_reply(2, NEW_MODE, MADE, MADE), wire.null_reply(3)]
-    expect("once", failing(place, shared, image, 1), 0, b"".join(told), b"")
+    expect("once", failing(place, shared, image, 1)[0], 0, b"".join(told), b"")
 
 
 def test_a_write_that_fails_breaks_the_store(place):
-    shared, image = shared_library(place), contents(place.image())
+    """The log's calls for a group of one block: its content, a barrier, the header, a barrier. Where one fails the image
+    keeps the old tree; the new one can be there only from the header's write on."""
+    shared, image, drawn = shared_library(place), contents(place.image()), random.Random(13)
+    old, new = tree_of(image), tree_of(logged_image(place))
+    is_so("the mode is changed", old != new)
     told = [wire.setattr_failed(1), wire.getattr_failed(2), wire.null_reply(3)]
-    for behind in 2, 3, 4, 5:
-        ran = failing(place, shared, image, behind)
+    for behind, given in itertools.product((2, 3, 4, 5), ({}, {"HALF_DONE": "1"})):
+        ran, events = failing(place, shared, image, behind, **given)
         expect(f"call {behind} of the session", ran, 1, b"".join(told), b"nfsd: 6 Device\n")
+        found = [tree_of(left) for left in left_by_a_crash(image, events, drawn)]
+        is_so(f"call {behind} fails: an image is neither", all(it in (old, new) for it in found))
+        is_so(f"call {behind} fails: the old tree is lost", old in found)
+        same(f"call {behind} fails: the new tree", new in found, behind == 5 or (behind == 4 and bool(given)))
 
 
 def status_of(message):
