@@ -91,8 +91,8 @@ ENDS = [(0, b""), (1, b"nfsd: 5 Device\n"), (1, b"nfsd: 6 Device\n")]
 # The calls that are drawn.
 CHANGING = [nfs.SETATTR, nfs.WRITE, nfs.CREATE, nfs.MKDIR, nfs.SYMLINK, nfs.REMOVE, nfs.RMDIR, nfs.RENAME, nfs.LINK,
             nfs.COMMIT]
-# How many images are looked at, of those that one stop may leave.
-MOST_CHOICES = 40
+# How many images are looked at, of those that one stop may leave; and where each of them is.
+MOST_CHOICES, EACH_CHOICE = 40, 1 << 20
 
 
 def run_noted(place, shared, arguments, data=b"", **given):
@@ -109,7 +109,7 @@ def run_noted(place, shared, arguments, data=b"", **given):
     return ran, events
 
 
-def left_by_a_crash(before, events, drawn):
+def left_by_a_crash(before, events, drawn, most=MOST_CHOICES):
     """The images that a crash behind these events may leave of the one before them: of each block that was written
     since the last settling any content since then."""
     settled, open_blocks = dict(enumerate_blocks(before)), {}
@@ -123,8 +123,8 @@ def left_by_a_crash(before, events, drawn):
     count = 1
     for it in open_blocks.values():
         count *= len(it)
-    if count > MOST_CHOICES:
-        some = [[drawn.randrange(len(it)) for it in open_blocks.values()] for _ in range(MOST_CHOICES)]
+    if count > most:
+        some = [[drawn.randrange(len(it)) for it in open_blocks.values()] for _ in range(most)]
         choices = [[0] * len(open_blocks), [len(it) - 1 for it in open_blocks.values()], *some]
     for choice in choices:
         left = dict(settled)
@@ -195,7 +195,7 @@ def drawn_calls(count):
     return lambda grown: grown.grow(count)
 
 
-def assert_kept_in_crashes(place, what, stream, drawn):
+def assert_kept_in_crashes(place, what, stream, drawn, most=MOST_CHOICES):
     """Runs the calls, and holds each image that a crash may leave to the calls that were answered by then. Each of them,
     with how many were."""
     shared, image = shared_library(place), place.image()
@@ -208,7 +208,7 @@ def assert_kept_in_crashes(place, what, stream, drawn):
         if stop < len(events) and events[stop][0] == "r":
             continue
         answered = answered_by(events[:stop])
-        for left in left_by_a_crash(before, events[:stop], drawn):
+        for left in left_by_a_crash(before, events[:stop], drawn, most):
             stream.assert_prefix(f"{what}, stop {stop}", tree_of(left), answered)
             seen[hash(left)] = (answered, left)
     return list(seen.values())
@@ -274,7 +274,7 @@ def written(index, stable):
 
 def test_an_unstable_write_is_lost_in_a_crash(place):
     stream = Stream(place, worked_calls(written(0, nfs.UNSTABLE)))
-    left = assert_kept_in_crashes(place, "an UNSTABLE WRITE", stream, random.Random(8))
+    left = assert_kept_in_crashes(place, "an UNSTABLE WRITE", stream, random.Random(8), EACH_CHOICE)
     found = [tree_of(image) for answered, image in left if answered == 2]
     is_so("no crash behind its answer loses it", stream.trees[1] in found)
     is_so("no crash behind its answer keeps it", stream.trees[2] in found)
@@ -282,7 +282,7 @@ def test_an_unstable_write_is_lost_in_a_crash(place):
 
 def test_a_commit_of_three_blocks(place):
     stream = Stream(place, worked_calls(*(written(it, nfs.UNSTABLE) for it in range(3)), (nfs.COMMIT, 0, 0)))
-    left = assert_kept_in_crashes(place, "a COMMIT of three blocks", stream, random.Random(9))
+    left = assert_kept_in_crashes(place, "a COMMIT of three blocks", stream, random.Random(9), EACH_CHOICE)
     same("what is left behind its answer", {tree_of(image) == stream.trees[4] for answered, image in left if answered == 5}, {True})
     is_so("no crash before its answer loses one", any(tree_of(image) == stream.trees[1] for answered, image in left if answered == 4))
 
