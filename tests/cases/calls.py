@@ -96,7 +96,13 @@ def test_a_call_is_refused_by_the_first_test_that_it_fails(place):
 
 
 def test_a_credential_may_have_sixteen_further_groups(place):
-    expect("once", place.once(place.image(), call(head=caller(16, b"m" * 255))), 0, wire.null_reply(1), b"")
+    """With memory no count of groups that a credential may have is too many, whatever is called."""
+    image = place.image()
+    told = wire.null_reply(1) + wire.getattr_reply(1, NEW_MODE, MADE, MADE)
+    for count in range(17):
+        head = caller(count, b"m" * 255)
+        stream = call(head=head) + call(procedure=1, head=head, arguments=wire.ROOT)
+        expect(f"{count} groups", place.once(image, stream), 0, told, b"")
 
 
 def test_calls_of_mount_are_answered(place):

@@ -345,6 +345,14 @@ def row_what_is_free_is_told_exactly(client):
     same("at the end", free(client), (blocks - 1, numbers))
 
 
+def row_the_space_of_a_fresh_image(client):
+    found, room = client.do(nfs.FSSTAT, ROOT), BLOCK * (1024 - 518)
+    told = found.total_bytes, found.free_bytes, found.available_bytes
+    same("bytes", told, (room, room, room))
+    same("files", (found.total_files, found.free_files, found.available_files), (63, 62, 62))
+    same("for how long", found.unchanged_seconds, 0)
+
+
 def row_the_last_free_block(client):
     same("what is free", free(client)[0], 64)
     file, count = client.create(ROOT, b"f"), 0

@@ -91,8 +91,8 @@ ENDS = [(0, b""), (1, b"nfsd: 5 Device\n"), (1, b"nfsd: 6 Device\n")]
 # The calls that are drawn.
 CHANGING = [nfs.SETATTR, nfs.WRITE, nfs.CREATE, nfs.MKDIR, nfs.SYMLINK, nfs.REMOVE, nfs.RMDIR, nfs.RENAME, nfs.LINK,
             nfs.COMMIT]
-# How many images are looked at, of those that one stop may leave.
-MOST_CHOICES = 40
+# How many images are looked at, of those that one stop may leave; and where each of them is.
+MOST_CHOICES, EACH_CHOICE = 40, 1 << 20
 
 
 def run_noted(place, shared, arguments, data=b"", **given):
@@ -109,7 +109,7 @@ def run_noted(place, shared, arguments, data=b"", **given):
     return ran, events
 
 
-def left_by_a_crash(before, events, drawn):
+def left_by_a_crash(before, events, drawn, most=MOST_CHOICES):
     """The images that a crash behind these events may leave of the one before them: of each block that was written
     since the last settling any content since then."""
     settled, open_blocks = dict(enumerate_blocks(before)), {}
@@ -123,8 +123,8 @@ def left_by_a_crash(before, events, drawn):
     count = 1
     for it in open_blocks.values():
         count *= len(it)
-    if count > MOST_CHOICES:
-        some = [[drawn.randrange(len(it)) for it in open_blocks.values()] for _ in range(MOST_CHOICES)]
+    if count > most:
+        some = [[drawn.randrange(len(it)) for it in open_blocks.values()] for _ in range(most)]
         choices = [[0] * len(open_blocks), [len(it) - 1 for it in open_blocks.values()], *some]
     for choice in choices:
         left = dict(settled)
@@ -195,7 +195,7 @@ def drawn_calls(count):
     return lambda grown: grown.grow(count)
 
 
-def assert_kept_in_crashes(place, what, stream, drawn):
+def assert_kept_in_crashes(place, what, stream, drawn, most=MOST_CHOICES):
     """Runs the calls, and holds each image that a crash may leave to the calls that were answered by then. Each of them,
     with how many were."""
     shared, image = shared_library(place), place.image()
@@ -208,7 +208,7 @@ def assert_kept_in_crashes(place, what, stream, drawn):
         if stop < len(events) and events[stop][0] == "r":
             continue
         answered = answered_by(events[:stop])
-        for left in left_by_a_crash(before, events[:stop], drawn):
+        for left in left_by_a_crash(before, events[:stop], drawn, most):
             stream.assert_prefix(f"{what}, stop {stop}", tree_of(left), answered)
             seen[hash(left)] = (answered, left)
     return list(seen.values())
@@ -274,7 +274,7 @@ def written(index, stable):
 
 def test_an_unstable_write_is_lost_in_a_crash(place):
     stream = Stream(place, worked_calls(written(0, nfs.UNSTABLE)))
-    left = assert_kept_in_crashes(place, "an UNSTABLE WRITE", stream, random.Random(8))
+    left = assert_kept_in_crashes(place, "an UNSTABLE WRITE", stream, random.Random(8), EACH_CHOICE)
     found = [tree_of(image) for answered, image in left if answered == 2]
     is_so("no crash behind its answer loses it", stream.trees[1] in found)
     is_so("no crash behind its answer keeps it", stream.trees[2] in found)
@@ -282,7 +282,7 @@ def test_an_unstable_write_is_lost_in_a_crash(place):
 
 def test_a_commit_of_three_blocks(place):
     stream = Stream(place, worked_calls(*(written(it, nfs.UNSTABLE) for it in range(3)), (nfs.COMMIT, 0, 0)))
-    left = assert_kept_in_crashes(place, "a COMMIT of three blocks", stream, random.Random(9))
+    left = assert_kept_in_crashes(place, "a COMMIT of three blocks", stream, random.Random(9), EACH_CHOICE)
     same("what is left behind its answer", {tree_of(image) == stream.trees[4] for answered, image in left if answered == 5}, {True})
     is_so("no crash before its answer loses one", any(tree_of(image) == stream.trees[1] for answered, image in left if answered == 4))
 
@@ -353,29 +353,45 @@ def test_each_call_of_an_opening_that_fails_loses_nothing(place):
                 same(f"the tree behind call {failed}", tree_of(left), tree_of(image))
 
 
+def test_an_opening_that_is_stopped_within_a_stopped_one_loses_nothing(place):
+    drawn = random.Random(12)
+    shared_library(place)
+    once = opened_in_crashes(place, logged_image(place), "an opening", drawn)
+    for number, image in enumerate(once):
+        opened_in_crashes(place, image, f"an opening of what was left, number {number}", drawn)
+
+
 # Calls on a fresh image: of the session's calls of the file the first reads the root's inode.
 FIRST_CALLS = wire.setattr_call(1, OLD_MODE) + wire.getattr_call(2) + wire.null_call(3)
 
 
-def failing(place, shared, image, behind):
-    """Has the call of the file fail that is the so manieth behind the opening."""
+def failing(place, shared, image, behind, **given):
+    """Has the call of the file fail that is the so manieth behind the opening: what came of it, and what was noted."""
     _, opening = run_noted(place, shared, ["once", set_image(place, image), "--time", str(NOW)])
     arguments = ["once", set_image(place, image), "--time", str(NOW)]
-    return run_noted(place, shared, arguments, FIRST_CALLS, FAILED_CALL=str(len(opening) + behind))[0]
+    return run_noted(place, shared, arguments, FIRST_CALLS, FAILED_CALL=str(len(opening) + behind), **given)
 
 
 def test_a_read_that_fails_breaks_nothing(place):
     shared, image = shared_library(place), contents(place.image())
     told = [wire.setattr_failed(1), wire.getattr_reply(2, NEW_MODE, MADE, MADE), wire.null_reply(3)]
-    expect("once", failing(place, shared, image, 1), 0, b"".join(told), b"")
+    expect("once", failing(place, shared, image, 1)[0], 0, b"".join(told), b"")
 
 
 def test_a_write_that_fails_breaks_the_store(place):
-    shared, image = shared_library(place), contents(place.image())
+    """The log's calls for a group of one block: its content, a barrier, the header, a barrier. Where one fails the image
+    keeps the old tree; the new one can be there only from the header's write on."""
+    shared, image, drawn = shared_library(place), contents(place.image()), random.Random(13)
+    old, new = tree_of(image), tree_of(logged_image(place))
+    is_so("the mode is changed", old != new)
     told = [wire.setattr_failed(1), wire.getattr_failed(2), wire.null_reply(3)]
-    for behind in 2, 3, 4, 5:
-        ran = failing(place, shared, image, behind)
+    for behind, given in itertools.product((2, 3, 4, 5), ({}, {"HALF_DONE": "1"})):
+        ran, events = failing(place, shared, image, behind, **given)
         expect(f"call {behind} of the session", ran, 1, b"".join(told), b"nfsd: 6 Device\n")
+        found = [tree_of(left) for left in left_by_a_crash(image, events, drawn)]
+        is_so(f"call {behind} fails: an image is neither", all(it in (old, new) for it in found))
+        is_so(f"call {behind} fails: the old tree is lost", old in found)
+        same(f"call {behind} fails: the new tree", new in found, behind == 5 or (behind == 4 and bool(given)))
 
 
 def status_of(message):

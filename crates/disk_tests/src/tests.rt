@@ -29,12 +29,12 @@ fn block(alloc: Global, byte: u8) -> Result<Block, Fail> {
     Ok(block)
 }
 
-// A call of a device: of one block, or of the home side.
+// A call of a device: of one block, or of a side.
 #[derive(Clone, Copy)]
 enum Call {
     Read(BlockNo),
     Write(BlockNo),
-    Barrier,
+    Barrier(Side),
 }
 
 // Makes a call, of a block on the device. Answers the first byte that was read or written.
@@ -42,7 +42,7 @@ fn make<D: CrashDisk>(disk: &mut D, call: Call, content: &mut Block) -> Result<u
     match call {
         Call::Read(block) if block.0 < disk.blocks() => disk.read(block, content)?,
         Call::Write(block) if block.0 < disk.blocks() => disk.write(block, content)?,
-        Call::Barrier => disk.barrier(Side::Home)?,
+        Call::Barrier(side) => disk.barrier(side)?,
         _ => return Err(Failed),
     }
     Ok(content.as_slice()[0])
@@ -119,8 +119,8 @@ fn named_calls_fail(rt: HostRuntime) -> Result<(), Fail> {
     // The read after the write that failed shows that it was made.
     let calls = [
         (Call::Read(HOME), Ok(1)),
-        (Call::Barrier, Err(Failed)),
-        (Call::Barrier, Ok(1)),
+        (Call::Barrier(Side::Home), Err(Failed)),
+        (Call::Barrier(Side::Home), Ok(1)),
         (Call::Read(HOME), Err(Failed)),
         (Call::Read(HOME), Ok(1)),
     ];

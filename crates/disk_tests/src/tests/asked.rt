@@ -41,81 +41,127 @@ fn was_written(steps: &Steps, block: &Block) -> bool {
     }
 }
 
-#[test]
-fn a_read_asks_for_its_block(rt: HostRuntime) -> Result<(), Fail> {
-    let steps = Steps::new(rt.alloc(), usize::MAX, usize::MAX);
-    let mut out = Block::zeros(rt.alloc())?;
-    let read = make(&mut over(&steps), Call::Read(BLOCK), &mut out);
-    assert!(rt; read == Ok(3) && out.as_slice().iter().all(|byte| *byte == 3));
-    assert!(rt; were_asked(steps, &[Step::ReadAt(12288, 4096)]));
-    Ok(())
+// A call of a device over a file that fails from one of its calls on and takes at most so many bytes a call; what
+// it answers, and what the file is asked.
+struct Row {
+    says: &'static str,
+    call: Call,
+    failing: usize,
+    piece: usize,
+    answer: Result<u8, Failed>,
+    asked: &'static [Step],
 }
 
-#[test]
-fn a_write_hands_its_block_over(rt: HostRuntime) -> Result<(), Fail> {
-    let steps = Steps::new(rt.alloc(), usize::MAX, usize::MAX);
-    let mut block = content(rt.alloc())?;
-    assert!(rt; make(&mut over(&steps), Call::Write(BLOCK), &mut block) == Ok(7));
-    assert!(rt; was_written(&steps, &block));
-    assert!(rt; were_asked(steps, &[Step::WriteAt(12288, 4096)]));
-    Ok(())
-}
+const NEVER: usize = usize::MAX;
 
-#[test]
-fn a_barrier_syncs_once(rt: HostRuntime) -> Result<(), Fail> {
-    for side in [Side::Log, Side::Home] {
-        let steps = Steps::new(rt.alloc(), usize::MAX, usize::MAX);
-        assert!(rt; over(&steps).barrier(side) == Ok(()));
-        assert!(rt; were_asked(steps, &[Step::SyncData]));
+const WHOLE: usize = usize::MAX;
+
+const ROWS: [Row; 9] = [
+    Row {
+        says: "a read asks for its block",
+        call: Call::Read(BLOCK),
+        failing: NEVER,
+        piece: WHOLE,
+        answer: Ok(3),
+        asked: &[Step::ReadAt(12288, 4096)],
+    },
+    Row {
+        says: "a write hands its block over",
+        call: Call::Write(BLOCK),
+        failing: NEVER,
+        piece: WHOLE,
+        answer: Ok(7),
+        asked: &[Step::WriteAt(12288, 4096)],
+    },
+    Row {
+        says: "a barrier of the log syncs once",
+        call: Call::Barrier(Side::Log),
+        failing: NEVER,
+        piece: WHOLE,
+        answer: Ok(7),
+        asked: &[Step::SyncData],
+    },
+    Row {
+        says: "a barrier of the home side syncs once",
+        call: Call::Barrier(Side::Home),
+        failing: NEVER,
+        piece: WHOLE,
+        answer: Ok(7),
+        asked: &[Step::SyncData],
+    },
+    Row {
+        says: "a short read goes on with what is left",
+        call: Call::Read(BLOCK),
+        failing: NEVER,
+        piece: 1500,
+        answer: Ok(3),
+        asked: &[
+            Step::ReadAt(12288, 4096),
+            Step::ReadAt(13788, 2596),
+            Step::ReadAt(15288, 1096),
+        ],
+    },
+    Row {
+        says: "a short write goes on with what is left",
+        call: Call::Write(BLOCK),
+        failing: NEVER,
+        piece: 1500,
+        answer: Ok(7),
+        asked: &[
+            Step::WriteAt(12288, 4096),
+            Step::WriteAt(13788, 2596),
+            Step::WriteAt(15288, 1096),
+        ],
+    },
+    // an error of the file is a failure, and the file isn't asked again
+    Row {
+        says: "a read fails",
+        call: Call::Read(BLOCK),
+        failing: 0,
+        piece: WHOLE,
+        answer: Err(Failed),
+        asked: &[Step::ReadAt(12288, 4096)],
+    },
+    Row {
+        says: "a write fails",
+        call: Call::Write(BLOCK),
+        failing: 0,
+        piece: WHOLE,
+        answer: Err(Failed),
+        asked: &[Step::WriteAt(12288, 4096)],
+    },
+    // a sync isn't tried anew, as the system may have dropped what it couldn't write
+    Row {
+        says: "a sync fails",
+        call: Call::Barrier(Side::Home),
+        failing: 0,
+        piece: WHOLE,
+        answer: Err(Failed),
+        asked: &[Step::SyncData],
+    },
+];
+
+// Whether what was read is the file's, and what was written is the block.
+fn is_whole(steps: &Steps, call: Call, block: &Block) -> bool {
+    match call {
+        Call::Read(_) => block.as_slice().iter().all(|byte| *byte == 3),
+        Call::Write(_) => was_written(steps, block),
+        Call::Barrier(_) => true,
     }
-    Ok(())
 }
 
-// A file that takes at most 1,500 bytes a call is asked for what is left.
-#[test]
-fn a_short_read_goes_on(rt: HostRuntime) -> Result<(), Fail> {
-    let steps = Steps::new(rt.alloc(), usize::MAX, 1500);
-    let mut out = Block::zeros(rt.alloc())?;
-    let read = make(&mut over(&steps), Call::Read(BLOCK), &mut out);
-    assert!(rt; read == Ok(3) && out.as_slice().iter().all(|byte| *byte == 3));
-    let wanted = [
-        Step::ReadAt(12288, 4096),
-        Step::ReadAt(13788, 2596),
-        Step::ReadAt(15288, 1096),
-    ];
-    assert!(rt; were_asked(steps, &wanted));
-    Ok(())
+fn is_met(alloc: Global, row: &Row) -> Result<bool, Fail> {
+    let steps = Steps::new(alloc, row.failing, row.piece);
+    let mut block = content(alloc)?;
+    let answer = make(&mut over(&steps), row.call, &mut block);
+    let is_whole = answer.is_err() || is_whole(&steps, row.call, &block);
+    Ok(answer == row.answer && is_whole && were_asked(steps, row.asked))
 }
 
 #[test]
-fn a_short_write_goes_on(rt: HostRuntime) -> Result<(), Fail> {
-    let steps = Steps::new(rt.alloc(), usize::MAX, 1500);
-    let mut block = content(rt.alloc())?;
-    assert!(rt; make(&mut over(&steps), Call::Write(BLOCK), &mut block) == Ok(7));
-    assert!(rt; was_written(&steps, &block));
-    let wanted = [
-        Step::WriteAt(12288, 4096),
-        Step::WriteAt(13788, 2596),
-        Step::WriteAt(15288, 1096),
-    ];
-    assert!(rt; were_asked(steps, &wanted));
-    Ok(())
-}
-
-// An error of the file is a failure, and the file isn't asked again. A sync isn't tried anew, as the system may
-// have dropped what it couldn't write.
-#[test]
-fn errors_of_a_file_are_failures(rt: HostRuntime) -> Result<(), Fail> {
-    let cases = [
-        (Call::Read(BLOCK), Step::ReadAt(12288, 4096)),
-        (Call::Write(BLOCK), Step::WriteAt(12288, 4096)),
-        (Call::Barrier, Step::SyncData),
-    ];
-    let mut block = Block::zeros(rt.alloc())?;
-    for (call, wanted) in cases {
-        let steps = Steps::new(rt.alloc(), 0, usize::MAX);
-        assert!(rt; make(&mut over(&steps), call, &mut block) == Err(Failed));
-        assert!(rt; were_asked(steps, &[wanted]));
+fn what_a_file_is_asked(rt: HostRuntime) -> Result<(), Fail> {
+    for row in &ROWS {
+        assert!(rt; is_met(rt.alloc(), row)?, "{}", row.says);
     }
     Ok(())
 }

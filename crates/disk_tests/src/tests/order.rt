@@ -53,28 +53,40 @@ fn assert_order(
     Ok(())
 }
 
-#[test]
-fn a_lock_comes_before_the_length_is_asked(rt: HostRuntime) -> Result<(), Fail> {
-    let wanted = [Step::Open, Step::Lock, Step::Sync, Step::AskLength];
-    assert_order(&rt, Deed::Open, true, &wanted)
-}
+// What is done, whether the image is there, and the calls in their order.
+const ROWS: [(Deed, bool, &[Step]); 3] = [
+    // a lock comes before the length is asked
+    (
+        Deed::Open,
+        true,
+        &[Step::Open, Step::Lock, Step::Sync, Step::AskLength],
+    ),
+    // a lock comes before the length is set
+    (
+        Deed::Create,
+        true,
+        &[Step::Open, Step::Lock, Step::Length(12288), Step::Sync],
+    ),
+    // the folder of a new file is settled
+    (
+        Deed::Create,
+        false,
+        &[
+            Step::Open,
+            Step::Make,
+            Step::OpenFolder,
+            Step::SyncFolder,
+            Step::Lock,
+            Step::Length(12288),
+            Step::Sync,
+        ],
+    ),
+];
 
 #[test]
-fn a_lock_comes_before_the_length_is_set(rt: HostRuntime) -> Result<(), Fail> {
-    let wanted = [Step::Open, Step::Lock, Step::Length(12288), Step::Sync];
-    assert_order(&rt, Deed::Create, true, &wanted)
-}
-
-#[test]
-fn the_folder_of_a_new_file_is_settled(rt: HostRuntime) -> Result<(), Fail> {
-    let wanted = [
-        Step::Open,
-        Step::Make,
-        Step::OpenFolder,
-        Step::SyncFolder,
-        Step::Lock,
-        Step::Length(12288),
-        Step::Sync,
-    ];
-    assert_order(&rt, Deed::Create, false, &wanted)
+fn what_a_file_system_is_asked(rt: HostRuntime) -> Result<(), Fail> {
+    for (deed, has_image, wanted) in &ROWS {
+        assert_order(&rt, *deed, *has_image, wanted)?;
+    }
+    Ok(())
 }

@@ -1,7 +1,7 @@
 //! That there is room where there is memory: calls that may answer want of it, past the smallest size.
 
 use crate::tests::{Call, OTHER, block, make};
-use disk::{Block, CrashDisk, Failed, MemDisk};
+use disk::{Block, CrashDisk, Failed, MemDisk, Side};
 use std::test::Fail;
 
 // Each write of a block without a barrier is kept.
@@ -27,7 +27,7 @@ fn calls_are_named_at_several_times(rt: HostRuntime) -> Result<(), Fail> {
     }
     for call in 1..=200u64 {
         let wanted = if call % 2 == 0 { Err(Failed) } else { Ok(0) };
-        assert!(rt; make(&mut disk, Call::Barrier, &mut out) == wanted);
+        assert!(rt; make(&mut disk, Call::Barrier(Side::Home), &mut out) == wanted);
     }
     Ok(())
 }
