@@ -98,15 +98,14 @@ pub record KeepsPromise (before later : Device) (tree : Tree) (first workers : �
   pub changes : ChangeTheirOwn later.size events t setting.blocks
 
 -- What a run stands on: the device keeps its model, is at rest, and holds a good image with this tree and this
--- boot number; there is one worker; and the calls that are handed over can be spelled.
-pub record MayRun (keeps_model : Type 0) (before : Device) (tree : Tree) (first workers : ℕ)
-    (events : Schedule) : Type 0 where
-  pub model : keeps_model
-  pub rest : IsAtRest before
-  pub good : (image : Image) → IsCrashImage before before.clock image
-      → IsGoodImage before.size image tree first
-  pub alone : workers ≡ 1
-  pub sound : SoundEvents events
+-- boot number; and the calls that are handed over can be spelled.
+pub record MayRun (keeps_model : Type 0) (before : Device) (tree : Tree) (first : ℕ) (events : Schedule) : Type 0
+  where
+    pub model : keeps_model
+    pub rest : IsAtRest before
+    pub good : (image : Image) → IsCrashImage before before.clock image
+        → IsGoodImage before.size image tree first
+    pub sound : SoundEvents events
 
 -- A run comes to an end: it keeps its promise, and took each event, or fewer where memory was refused to it.
 pub record EndsWell (before later : Device) (tree : Tree) (first workers : ℕ) (events : Schedule)
@@ -125,5 +124,5 @@ IsAnswered before later tree first workers events (Err cause) = IsRefused before
 abbrev pub IsPromised : Type 0 → Device → Device → Tree → ℕ → ℕ → Schedule → Result Report OpenFault
     → Type 0
 IsPromised keeps_model before later tree first workers events answer =
-    MayRun keeps_model before tree first workers events
+    MayRun keeps_model before tree first events
     → IsAnswered before later tree first workers events answer

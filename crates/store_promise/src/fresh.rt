@@ -30,7 +30,7 @@ pub fn a_made_image_may_run()
     ensures { (before later : Device) (g : Geometry) (moment : Moment) (events : Schedule)
         → IsLawful g.blocks g.inodes → SoundTime moment → SoundEvents events
         → IsAtRest before → IsFormatted before later g moment
-        → MayRun (Unit {0}) later (format_tree (geometry_of g) moment) 0 1 events }
+        → MayRun (Unit {0}) later (format_tree (geometry_of g) moment) 0 events }
 {
     a_fresh_image_is_good();
 }

@@ -1,6 +1,7 @@
 -- A call that is handed over, and a read that is made, leave a run going.
 use Rattle.std.proofs.Common.{◌≡◌, ◌∙◌, refl, sym, ap, subst, true≢false, ℕ, inr, arith, Bool, true, false}
-use Rattle.std.proofs.Common.{Option}
+use Rattle.std.proofs.Common.{Option, is_some}
+use Rattle.std.specs.Prelude.{IfSome}
 use Rattle.std.proofs.Common.{Some, None, List, [], All}
 use Rattle.std.proofs.lemmas.Bool.{eqb-true}
 use Rattle.std.proofs.lemmas.List.Elements.{All-cons, All-contains, All-nil}
@@ -31,7 +32,9 @@ use Rattle.store_promise.specs.Schedule.{Setting, Told, told_after}
 use Rattle.store_promise.specs.declared.events.Event.TheVariants as event
 use Rattle.store_promise.specs.declared.events.Step.{Step}
 use Rattle.store_workers.specs.Alone.{IsOutAlone, LeavesNothing, PlansAlone}
-use Rattle.store_runs.specs.AtWork.{IsCoreAtWork, Loads, LoadsFor, fetches_in, fetches_of}
+use Rattle.store_runs.specs.AtWork.{IsAtWork, IsCoreAtWork, Loads, LoadsFor, fetches_in, fetches_of}
+use Rattle.store_workers.specs.Beside.{NotesAll, NotesTaken}
+use Rattle.store_workers.specs.Phases.{has_transaction}
 use Rattle.store_images.specs.Fetches.{FetchesOnly}
 use Rattle.store_workers.specs.Telling.{TakesCall}
 use Rattle.store_workers.specs.Worker.{GoesWith}
@@ -43,33 +46,50 @@ use Rattle.store_workers.specs.declared.workers.parts.State.{State}
 -- ---- a call
 
 pub call_core : (ctx : Ctx) (call : Call) (old new : State) (made : Option Step) (core : CoreState)
-    → TakesCall 0 ctx call old made new → IsCoreAtWork old core → GoesWith new core → IsCoreAtWork new core
+    → TakesCall ctx call old made new → IsCoreAtWork old core → GoesWith new core → IsCoreAtWork new core
 call_core ctx call old new None core takes at with = subst (λ (s : State). IsCoreAtWork s core) (sym takes.0) at
 call_core ctx call old new (Some made) core takes at with = record {
   with = with;
   alone = record {
-    out = subst (λ (s : State). IsOutAlone s core) (sym takes.3) at.alone.out;
-    fetches = subst (λ (s : State). FetchesOnly s.begun.io core) (sym takes.3) at.alone.fetches;
-    left = subst (λ (s : State). LeavesNothing s.phase s.known) (sym takes.3) refl;
-    plans = subst (λ (s : State). PlansAlone s.phase s core) (sym takes.3) tt;
+    out = subst (λ (s : State). IsOutAlone s core) (sym takes.2) at.alone.out;
+    fetches = subst (λ (s : State). FetchesOnly s.begun.io core) (sym takes.2) at.alone.fetches;
+    left = subst (λ (s : State). LeavesNothing s.phase s.known) (sym takes.2) refl;
+    plans = subst (λ (s : State). PlansAlone s.phase s core) (sym takes.2) tt;
   };
-  loads = subst (λ (s : State). Loads s core) (sym takes.3) tt;
+  loads = subst (λ (s : State). Loads s core) (sym takes.2) tt;
 }
 
-pub call_told : (o : Setting) (told : Told) (credential : Credential) (moment : Moment)
+-- so does a worker beside others
+pub call_work : (ctx : Ctx) (call : Call) (old new : State) (made : Option Step) (core : CoreState)
+    → TakesCall ctx call old made new → IsAtWork old core → (GoesWith old core → GoesWith new core)
+    → IsAtWork new core
+call_work ctx call old new None core takes at with = subst (λ (s : State). IsAtWork s core) (sym takes.0) at
+call_work ctx call old new (Some made) core takes at with = record {
+  with = with at.with;
+  plans = subst (λ (s : State). PlansAlone s.phase s core) (sym takes.2) tt;
+  loads = subst (λ (s : State). Loads s core) (sym takes.2) tt;
+  notes = subst (λ (s : State). NotesAll s core) (sym takes.2)
+      (none_noted old.begun.tx (at.with.sound.transaction ∙ ap has_transaction takes.1));
+}
+  where
+    none_noted : (tx : Option ℕ) → is_some tx ≡ false → IfSome tx (λ n. NotesTaken core n [])
+    none_noted None none = tt
+    none_noted (Some n) some = absurd (true≢false some)
+
+pub call_told : (o : Setting) (told : Told) (number : ℕ) (credential : Credential) (moment : Moment)
     (call : Call) (ctx : Ctx) (store : StoreSide) (old new : State) (made : Option Step)
-    → TakesCall 0 ctx call old made new
-    → IsTold o told store → IsTold o (told_after told (event.Call 0 credential moment call) made) store
-call_told o told credential moment call ctx store old new None takes is = is
-call_told o told credential moment call ctx store old new (Some made) takes is =
-    subst (λ (one : Step). IsTold o (told_after told (event.Call 0 credential moment call) (Some one)) store)
+    → TakesCall ctx call old made new
+    → IsTold o told store → IsTold o (told_after told (event.Call number credential moment call) made) store
+call_told o told number credential moment call ctx store old new None takes is = is
+call_told o told number credential moment call ctx store old new (Some made) takes is =
+    subst (λ (one : Step). IsTold o (told_after told (event.Call number credential moment call) (Some one)) store)
     (sym takes.0) (record { log = is.log; begun = is.begun })
 
 pub call_fetches : (ctx : Ctx) (call : Call) (old new : State) (made : Option Step)
-    → TakesCall 0 ctx call old made new → fetches_of new ≡ fetches_of old
+    → TakesCall ctx call old made new → fetches_of new ≡ fetches_of old
 call_fetches ctx call old new None takes = ap fetches_of takes.0
 call_fetches ctx call old new (Some made) takes =
-    ap fetches_of takes.3 ∙ sym (ap (λ (p : Phase). fetches_in p old.begun.io) takes.2)
+    ap fetches_of takes.2 ∙ sym (ap (λ (p : Phase). fetches_in p old.begun.io) takes.1)
 
 -- ---- a read
 
@@ -86,6 +106,16 @@ read_core ok io content old core phase_is io_is at with = record {
     plans = subst (λ (p : Phase). PlansAlone p old core) phase_is at.alone.plans;
   };
   loads = subst (λ (p : Phase). LoadsFor p old.begun.tx old.asked old.known core) phase_is at.loads;
+}
+
+pub read_work : (ok : Bool) (io : Fetch) (content : Content) (old : State) (core : CoreState)
+    → old.phase ≡ Reading → IsAtWork old core → (GoesWith old core → GoesWith (with_read ok io content old) core)
+    → IsAtWork (with_read ok io content old) core
+read_work ok io content old core phase_is at with = record {
+  with = with at.with;
+  plans = subst (λ (p : Phase). PlansAlone p old core) phase_is at.plans;
+  loads = subst (λ (p : Phase). LoadsFor p old.begun.tx old.asked old.known core) phase_is at.loads;
+  notes = at.notes;
 }
 
 -- a block whose fetch is pending lies behind the log and within the image

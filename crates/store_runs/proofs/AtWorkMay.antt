@@ -1,9 +1,10 @@
--- Each step of a worker that is alone is one that may be made.
+-- Each step of a worker is one that may be made.
 use Rattle.std.proofs.Common.{◌≡◌, ◌∙◌, ◌↔◌, refl, sym, ap, subst, true≢false, ℕ, ◌+◌, ◌^◌, ◌≤◌, arith, Bool}
 use Rattle.std.proofs.Common.{true, false, ◌||◌, nat_eq, nat_le, IsTrue, Option, Some, None, List, [], ◌∷◌}
 use Rattle.std.proofs.Common.{◌<◌, ◌⊎◌, inl, inr, length, map, All, IfSome}
 use Rattle.std.proofs.Common.{Ok, Err}
 use Rattle.std.specs.Prelude.{IsSomeAnd}
+use Rattle.std.specs.List.{list_any}
 use Rattle.std.proofs.lemmas.List.Folds.{list_any_none}
 use Rattle.std.proofs.lemmas.Bool.{eqb-true}
 use Rattle.std.proofs.lemmas.Bool.Decides.{nat_tests}
@@ -52,21 +53,26 @@ use Rattle.store_promise.specs.declared.aims.Aim.TheVariants as aim
 use Rattle.store_promise.specs.Progress as how
 use Rattle.store_promise.specs.Running.{IsRunningOver, IsTold, StoreSide}
 use Rattle.store_promise.specs.Schedule.{HasNumbers, IsAskedFor, IsBeginning, IsClaimAskedFor, IsClaimWish}
-use Rattle.store_promise.specs.Schedule.{IsCommitting, IsStepBeside, IsStepByPlan}
+use Rattle.store_promise.specs.Schedule.{IsCommitting, IsRetaking, IsStepBeside, IsStepByPlan}
 use Rattle.store_promise.specs.Schedule.{IsStepOfCalled, IsStepOfWork}
 use Rattle.store_promise.specs.Schedule.{IsStepOfWaiting, IsWish, Setting, Told, is_held}
 use Rattle.store_promise.specs.Schedule as schedule
 use Rattle.store_promise.specs.ToldOf.{log_told}
+use Rattle.store_promise.specs.declared.events.Committing.TheVariants as committing
 use Rattle.store_promise.specs.declared.events.Ending.TheVariants as ending
 use Rattle.store_promise.specs.declared.events.Step.{Step}
 use Rattle.store_promise.specs.declared.events.Step.TheVariants as step
+use Rattle.store_promise.specs.declared.events.Wish.TheVariants as wish
 use Rattle.store_promise.proofs.ToldLog.{numbers_are, settled_is}
 use Rattle.store_runs.proofs.AtWorkStays.{some_of}
 use Rattle.store_workers.proofs.LoneWorker.{has_of, never_kept_off, seen_of}
+use Rattle.store_workers.proofs.PlansStay.{wish_by}
 use Rattle.store_workers.proofs.WorkCases.{Cases, IsWished, by_cases}
 use Rattle.store_workers.specs.Alone.{HasOfCall, LeavesNothing, PlansAlone, is_kept_off}
+use Rattle.store_workers.specs.Beside.{IsLeftOf}
 use Rattle.store_workers.specs.Knowing.{Knowing, known_in}
-use Rattle.store_runs.specs.AtWork.{IsAimLoaded, IsCoreAtWork, LoadsFor}
+use Rattle.store_runs.specs.AtWork.{IsAimLoaded, IsCoreAtWork, Loads, LoadsFor}
+use Rattle.store_runs.proofs.KeptOff.{IsCaused}
 use Rattle.store_workers.specs.Seen.{Seen, seen_in}
 use Rattle.store_workers.specs.Stages.{IsFetchOf, IsJobIn, IsWorkerAt, RunsIn, StandsAt, alone, at_fetch}
 use Rattle.store_workers.specs.Stages.{at_stage, begun_of}
@@ -98,6 +104,44 @@ differs core one other content there absent = by (nat_eq one.0 other.0) refl
     by true is = absurd (let at = same_block one other (eqb-true one.0 other.0 is) in
         let none : Some content ≡ None = sym there ∙ ap (λ (b : BlockNo). in_memory core b) at ∙ absent in cc)
 
+-- ---- a wish
+
+module _ (told : Told) (worker : ℕ) (core : CoreState) (tx : ℕ) (knowing : Knowing) (is_out : IsOut core tx)
+    (loaded : All (IsAimLoaded core tx) knowing.taken) where
+  -- nothing of a block that has to be fetched was had
+  not_loaded : (block : BlockNo) → in_memory core block ≡ None
+      → list_any (is_object_in block) knowing.taken ≡ false
+  not_loaded block absent =
+      list_any_none (is_object_in block) knowing.taken (All-weaker (IsAimLoaded core tx)
+      (λ (one : Aim). is_object_in block one ≡ false) apart knowing.taken loaded)
+    where
+      apart : (one : Aim) → IsAimLoaded core tx one → is_object_in block one ≡ false
+      apart (aim.Object a mode) is = differs core a.block block is.content is.there absent
+      apart (aim.Claim claimed) is = refl
+
+  pub want_may : (addr : Addr) → IsHomeOn core.log.blocks addr.block → (found : Option ℕ) (seen : Option Seen)
+      → (new : CoreState) (answer : Want) → IsWanted core tx addr modes.Exclusive answer new
+      → IsCaused told worker (Some (step.Wanted addr modes.Exclusive (wish_of answer)))
+      → IsWish told worker (begun_of found seen knowing) (schedule.wish_of addr modes.Exclusive) (wish_of answer)
+  want_may addr home found seen new (want.Held back bytes) is caused = tt
+  want_may addr home found seen new (want.NoMemory back) is caused = tt
+  want_may addr home found seen new (want.Busy back) is caused = caused
+  want_may addr home found seen new (want.Loading back) is caused = caused
+  want_may addr home found seen new (want.Outside back) is caused =
+      absurd (is.1 (record { out = is_out; home = home }))
+  want_may addr home found seen new (want.Fetch back io) is caused = not_loaded addr.block is.2.absent
+
+  pub claim_may : (block : BlockNo) (addr : Addr) → IsHomeOn core.log.blocks addr.block → (begun : Begun)
+      → (new : CoreState) (answer : Claim) → IsClaimed core tx addr answer new
+      → IsCaused told worker (Some (step.Claimed block (claim_wish answer)))
+      → IsClaimWish told worker begun block (claim_wish answer)
+  claim_may block addr home begun new (claim.Held back) is caused = tt
+  claim_may block addr home begun new (claim.NoMemory back) is caused = tt
+  claim_may block addr home begun new (claim.Busy back) is caused = caused
+  claim_may block addr home begun new (claim.Loading back) is caused = caused
+  claim_may block addr home begun new (claim.Outside back) is caused =
+      absurd (is.1 (record { out = is_out; home = home }))
+
 -- ---- a step by a plan
 
 module _ (o : Setting) (told : Told) (worker : ℕ) (base : Image) (store : StoreSide)
@@ -123,33 +167,17 @@ module _ (o : Setting) (told : Told) (worker : ℕ) (base : Image) (store : Stor
       alone = refl;
     }
 
-    -- nothing of a block that has to be fetched was had
-    not_loaded : in_memory store.core addr.block ≡ None → is_loaded addr.block begun ≡ false
-    not_loaded absent =
-        list_any_none (is_object_in addr.block) knowing.taken (All-weaker (IsAimLoaded store.core tx)
-        (λ (one : Aim). is_object_in addr.block one ≡ false) apart knowing.taken loaded)
-      where
-        apart : (one : Aim) → IsAimLoaded store.core tx one → is_object_in addr.block one ≡ false
-        apart (aim.Object a mode) is = differs store.core a.block addr.block is.content is.there absent
-        apart (aim.Claim block) is = refl
-
     wish_may : (new : CoreState) (answer : Want) → IsWanted store.core tx addr modes.Exclusive answer new
-        → is_kept_off (Some (step.Wanted addr modes.Exclusive (wish_of answer))) ≡ false
+        → IsCaused told worker (Some (step.Wanted addr modes.Exclusive (wish_of answer)))
         → IsWish told worker begun (schedule.wish_of addr modes.Exclusive) (wish_of answer)
-    wish_may new (want.Held back bytes) is off = tt
-    wish_may new (want.NoMemory back) is off = tt
-    wish_may new (want.Busy back) is off = absurd (true≢false off)
-    wish_may new (want.Loading back) is off = absurd (true≢false off)
-    wish_may new (want.Outside back) is off = absurd (is.1 (record {
-      out = is_out;
-      home = subst (λ (n : ℕ). IsHomeOn n addr.block) has.blocks (at_home seen.geometry addr asks);
-    }))
-    wish_may new (want.Fetch back io) is off = not_loaded is.2.absent
+    wish_may new answer is caused = want_may told worker store.core tx knowing is_out loaded addr
+        (subst (λ (n : ℕ). IsHomeOn n addr.block) has.blocks (at_home seen.geometry addr asks)) (Some tx) (Some seen)
+        new answer is caused
 
     pub wanted_may : (new : CoreState) (answer : Want) → IsWanted store.core tx addr modes.Exclusive answer new
-        → is_kept_off (Some (step.Wanted addr modes.Exclusive (wish_of answer))) ≡ false
+        → IsCaused told worker (Some (step.Wanted addr modes.Exclusive (wish_of answer)))
         → IsStepByPlan o told worker begun (step.Wanted addr modes.Exclusive (wish_of answer))
-    wanted_may new answer is off = (asked_for, wish_may new answer is off)
+    wanted_may new answer is caused = (asked_for, wish_may new answer is caused)
 
   module _ (block : BlockNo) (claims : Claims seen.geometry block)
       (new_to_it : is_claimed block seen.claims ≡ false) (addr : Addr) (whole : IsWhole block addr) where
@@ -159,24 +187,16 @@ module _ (o : Setting) (told : Told) (worker : ℕ) (base : Image) (store : Stor
       claims = subst (λ (g : Geometry). Claims g block) geometry_is claims;
     }
 
-    claim_may : (new : CoreState) (answer : Claim) → IsClaimed store.core tx addr answer new
-        → is_kept_off (Some (step.Claimed block (claim_wish answer))) ≡ false
-        → IsClaimWish told worker begun block (claim_wish answer)
-    claim_may new (claim.Held back) is off = tt
-    claim_may new (claim.NoMemory back) is off = tt
-    claim_may new (claim.Busy back) is off = absurd (true≢false off)
-    claim_may new (claim.Loading back) is off = absurd (true≢false off)
-    claim_may new (claim.Outside back) is off =
-        absurd (is.1 (record {
-          out = is_out;
-          home = subst (λ (n : ℕ). IsHomeOn n addr.block) has.blocks
-              (at_home seen.geometry addr (claimed_object seen.geometry block addr claims whole));
-        }))
-
     pub claimed_may : (new : CoreState) (answer : Claim) → IsClaimed store.core tx addr answer new
-        → is_kept_off (Some (step.Claimed block (claim_wish answer))) ≡ false
+        → IsCaused told worker (Some (step.Claimed block (claim_wish answer)))
         → IsStepByPlan o told worker begun (step.Claimed block (claim_wish answer))
-    claimed_may new answer is off = (claim_asked_for, claim_may new answer is off)
+    claimed_may new answer is caused = (
+      claim_asked_for,
+      claim_may told worker store.core tx knowing is_out loaded block addr
+          (subst (λ (n : ℕ). IsHomeOn n addr.block) has.blocks
+          (at_home seen.geometry addr (claimed_object seen.geometry block addr claims whole)))
+          begun new answer is caused,
+    )
 
 -- ---- a commit
 
@@ -193,30 +213,30 @@ module _ (o : Setting) (base : Image) (store : StoreSide) (fetches : List Fetch)
   numbers = numbers_are o store.core.log store.logging store.installing (blocks_of plan.written)
       run.since.over.lawful run.position
 
-  by_answer : {C : Type 0} (change : C) (answer : Commit C) (new : CoreState)
+  by_answer : {C : Type 0} (told : Told) (worker : ℕ) (change : C) (answer : Commit C) (new : CoreState)
       → IsCommit store.core tx plan change answer new
-      → is_kept_off (Some (step.Commit added (committing_of answer))) ≡ false
+      → IsCaused told worker (Some (step.Commit added (committing_of answer)))
       → IsCommitting o log added (committing_of answer)
-  by_answer change (commit.Committed place) new is off =
+  by_answer told worker change (commit.Committed place) new is caused =
       (is.tried.sound, is.next, numbers.1 is.tried.room.0, is.tried.room.1)
-  by_answer change (commit.Full back same) new is off =
+  by_answer told worker change (commit.Full back same) new is caused =
       (is.1.sound, numbers.1 is.1.room.0, is.1.room.1)
-  by_answer change (commit.Foreign back same) new is off = absurd (true≢false off)
-  by_answer change (commit.NoMemory back same) new is off =
+  by_answer told worker change (commit.Foreign back same) new is caused = absurd caused
+  by_answer told worker change (commit.NoMemory back same) new is caused =
       (is.1.sound, numbers.1 is.1.room.0, is.1.room.1)
-  by_answer change (commit.Broken back same) new is off = is.1
-  by_answer change (commit.Spent back same) new is off = (is.1.sound, λ has. is.1.room (numbers.0 has))
+  by_answer told worker change (commit.Broken back same) new is caused = is.1
+  by_answer told worker change (commit.Spent back same) new is caused = (is.1.sound, λ has. is.1.room (numbers.0 has))
 
   pub commit_may : {C : Type 0} (told : Told) (worker : ℕ) (far : Begun) (change : C)
       (answer : Commit C) (new : CoreState) → IsTold o told store
       → length (blocks_of plan.written) ≤ CHANGED_BLOCKS
       → IsCommit store.core tx plan change answer new
-      → is_kept_off (Some (step.Commit added (committing_of answer))) ≡ false
+      → IsCaused told worker (Some (step.Commit added (committing_of answer)))
       → IsStepByPlan o told worker far (step.Commit added (committing_of answer))
-  commit_may told worker far change answer new is_told few is off = (
+  commit_may told worker far change answer new is_told few is caused = (
     few,
     subst (λ (l : LogTold). IsCommitting o l added (committing_of answer)) (sym is_told.log)
-        (by_answer change answer new is off),
+        (by_answer told worker change answer new is caused),
   )
 
 -- ---- a place that is waited for
@@ -252,7 +272,8 @@ module _ (o : Setting) (told : Told) (number : ℕ) (base : Image) (store : Stor
     (is_told : IsTold o told store) (inodes : o.geometry.inodes ≡ store.core.inodes)
     (worker : State) (new : Side)
     (one_geometry : (g h : Geometry) → g.blocks ≡ h.blocks → g.inodes ≡ h.inodes → g ≡ h)
-    (is_out : IfSome worker.begun.tx (IsOut store.core)) where
+    (is_out : IfSome worker.begun.tx (IsOut store.core))
+    (left_of : worker.phase ≡ Planning → IsLeftOf worker) where
   abbrev old : Side
   old = side worker store.core
 
@@ -264,9 +285,9 @@ module _ (o : Setting) (told : Told) (number : ℕ) (base : Image) (store : Stor
   MayFrom progress made = IsStepOfWork o told number progress made
 
   abbrev May : Phase → Option Step → Type 0
-  May phase made = PlansAlone phase worker store.core
-      → LoadsFor phase worker.begun.tx worker.asked worker.known store.core → LeavesNothing phase worker.known
-      → StandsAt boot entries phase worker → is_kept_off made ≡ false
+  May phase made = worker.phase ≡ phase → PlansAlone phase worker store.core
+      → LoadsFor phase worker.begun.tx worker.asked worker.known store.core
+      → StandsAt boot entries phase worker → IsCaused told number made
       → MayFrom (progress_in phase worker.work.job all_begun worker.asked worker.known) made
 
   broken_is : told.log.broken ≡ store.core.log.broken
@@ -310,54 +331,90 @@ module _ (o : Setting) (told : Told) (number : ℕ) (base : Image) (store : Stor
       (subst (λ (begun : Begun). IsStepByPlan o told number begun made)
       (λ i. begun_of (sym tx_is i) (sym seen_is i) worker.known) may))
 
-  -- nothing is left to be taken again, so that the plan asks for it
-  next_of : (one : Aim) (next : Plan) → worker.known.left ≡ [] → IsWished worker one next → IsNext worker next
-  next_of one next none wished = by wished.why
-    where
-      by : ((worker.known.left ≡ []) × IsNext worker next)
-          ⊎ ((later : List Aim) × (worker.known.left ≡ one ∷ later)) → IsNext worker next
-      by (inl is) = is.1
-      by (inr is) = let never : one ∷ is.0 ≡ [] = sym is.1 ∙ none in cc
+  -- it takes again what was left
+  from_left : (job : Job) (one : Aim) (later : List Aim) (made : Step) → worker.work.job ≡ Some job
+      → worker.known.left ≡ one ∷ later → IsRetaking told number all_begun one made
+      → MayFrom (at_stage worker.work.job (how.Planning all_begun)) (Some made)
+  from_left job one later made job_is some may =
+      subst (λ (found : Option Job). MayFrom (at_stage found (how.Planning all_begun)) (Some made)) (sym job_is)
+      (subst (λ (left : List Aim). IsStepBeside left o told number all_begun made) (sym some) may)
 
   wanted_so : (tx : ℕ) (addr : Addr) (made : Step) → worker.begun.tx ≡ Some tx
       → IsWished worker (object addr) (plan.Need addr) → (has : HasWanted tx addr old made new)
       → May Planning (Some (step.Wanted addr modes.Exclusive (wish_of has.answer)))
-  wanted_so tx addr made tx_is wished has plans loads none stands off =
-      let is = next_of (object addr) (plan.Need addr) none wished in
-      from_plan is.job tx (seen_of is.snap) _ is.job_is tx_is is.snap_is none
-      (wanted_may o told number base store fetches boot first last entries run is_told inodes tx
-      (seen_of is.snap) worker.known (out_in tx tx_is)
-      (has_of worker store.core is.job tx (seen_of is.snap) is.job_is tx_is is.snap_is plans)
-      (some_of (λ n. All (IsAimLoaded store.core n) worker.known.taken) worker.begun.tx tx tx_is loads)
-      one_geometry addr is.plan.1 is.plan.0 new.core has.answer has.core off)
+  wanted_so tx addr made tx_is wished has at plans loads stands caused = by wished.why
+    where
+      loaded : All (IsAimLoaded store.core tx) worker.known.taken
+      loaded = some_of (λ n. All (IsAimLoaded store.core n) worker.known.taken) worker.begun.tx tx tx_is loads
+
+      by : ((worker.known.left ≡ []) × IsNext worker (plan.Need addr))
+          ⊎ ((later : List Aim) × (worker.known.left ≡ object addr ∷ later))
+          → MayFrom (at_stage worker.work.job (how.Planning all_begun))
+          (Some (step.Wanted addr modes.Exclusive (wish_of has.answer)))
+      by (inl (none, is)) =
+          from_plan is.job tx (seen_of is.snap) _ is.job_is tx_is is.snap_is none
+          (wanted_may o told number base store fetches boot first last entries run is_told inodes tx
+          (seen_of is.snap) worker.known (out_in tx tx_is)
+          (has_of worker store.core is.job tx (seen_of is.snap) is.job_is tx_is is.snap_is plans)
+          loaded one_geometry addr is.plan.1 is.plan.0 new.core has.answer has.core caused)
+      by (inr (later, some)) =
+          let it = wish_by worker (object addr) (plan.Need addr) (λ seen. Unit {0})
+          (λ snap planned. ((planned.1, refl), tt)) (left_of at) wished in
+          let of_call = has_of worker store.core it.job tx (seen_of it.snap) it.job_is tx_is it.snap_is plans in
+          from_left it.job (object addr) later _ it.job_is some (
+            refl,
+            want_may told number store.core tx worker.known (out_in tx tx_is) loaded addr
+                (subst (λ (n : ℕ). IsHomeOn n addr.block) of_call.blocks
+                (at_home it.snap.geometry addr it.is_aim.0))
+                worker.begun.tx (seen_in worker.work.snap) new.core has.answer has.core caused,
+          )
 
   claimed_so : (tx : ℕ) (block : BlockNo) (made : Step) → worker.begun.tx ≡ Some tx
       → IsWished worker (aim.Claim block) (plan.Claim block) → (has : HasClaimed tx block old made new)
       → May Planning (Some (step.Claimed block (claim_wish has.answer)))
-  claimed_so tx block made tx_is wished has plans loads none stands off =
-      let is = next_of (aim.Claim block) (plan.Claim block) none wished in
-      from_plan is.job tx (seen_of is.snap) _ is.job_is tx_is is.snap_is none
-      (claimed_may o told number base store fetches boot first last entries run is_told inodes tx
-      (seen_of is.snap) worker.known (out_in tx tx_is)
-      (has_of worker store.core is.job tx (seen_of is.snap) is.job_is tx_is is.snap_is plans)
-      (some_of (λ n. All (IsAimLoaded store.core n) worker.known.taken) worker.begun.tx tx tx_is loads)
-      one_geometry block is.plan.1 is.plan.0 has.core.0 has.core.1 new.core has.answer has.core.2 off)
+  claimed_so tx block made tx_is wished has at plans loads stands caused = by wished.why
+    where
+      loaded : All (IsAimLoaded store.core tx) worker.known.taken
+      loaded = some_of (λ n. All (IsAimLoaded store.core n) worker.known.taken) worker.begun.tx tx tx_is loads
+
+      by : ((worker.known.left ≡ []) × IsNext worker (plan.Claim block))
+          ⊎ ((later : List Aim) × (worker.known.left ≡ aim.Claim block ∷ later))
+          → MayFrom (at_stage worker.work.job (how.Planning all_begun))
+          (Some (step.Claimed block (claim_wish has.answer)))
+      by (inl (none, is)) =
+          from_plan is.job tx (seen_of is.snap) _ is.job_is tx_is is.snap_is none
+          (claimed_may o told number base store fetches boot first last entries run is_told inodes tx
+          (seen_of is.snap) worker.known (out_in tx tx_is)
+          (has_of worker store.core is.job tx (seen_of is.snap) is.job_is tx_is is.snap_is plans)
+          loaded one_geometry block is.plan.1 is.plan.0 has.core.0 has.core.1 new.core has.answer has.core.2 caused)
+      by (inr (later, some)) =
+          let it = wish_by worker (aim.Claim block) (plan.Claim block) (λ seen. Unit {0})
+          (λ snap planned. (planned.1, tt)) (left_of at) wished in
+          let of_call = has_of worker store.core it.job tx (seen_of it.snap) it.job_is tx_is it.snap_is plans in
+          from_left it.job (aim.Claim block) later _ it.job_is some (
+            refl,
+            claim_may told number store.core tx worker.known (out_in tx tx_is) loaded block has.core.0
+                (subst (λ (n : ℕ). IsHomeOn n has.core.0.block) of_call.blocks
+                (at_home it.snap.geometry has.core.0
+                (claimed_object it.snap.geometry block has.core.0 it.is_aim has.core.1)))
+                all_begun new.core has.answer has.core.2 caused,
+          )
 
   committed_so : (job : Job) (tx : ℕ) (done : Outcome) (made : Step) → worker.begun.tx ≡ Some tx
       → IsNext worker (plan.Done done) → worker.known.left ≡ [] → worker.work.job ≡ Some job
       → (has : HasCommitted job tx done old made new)
       → May Planning (Some (step.Commit (added_blocks store.core.log (blocks_of done.written))
       (committing_of has.answer)))
-  committed_so job tx done made tx_is is none job_is has plans loads left stands off =
+  committed_so job tx done made tx_is is none job_is has at plans loads stands caused =
       from_plan is.job tx (seen_of is.snap) _ is.job_is tx_is is.snap_is none
       (commit_may o base store fetches boot first last entries run tx (planned_of done) told number
       (begun_of (Some tx) (Some (seen_of is.snap)) worker.known) done has.answer new.core
-      is_told is.plan.1 has.core off)
+      is_told is.plan.1 has.core caused)
 
   lacked_so : (tx : ℕ) (made : Step) → worker.begun.tx ≡ Some tx → worker.known.left ≡ []
       → HasLacked tx old made new
       → May Planning (Some (step.Ended ending.NoMemory))
-  lacked_so tx made tx_is none has plans loads left stands off = by worker.work.job plans
+  lacked_so tx made tx_is none has at plans loads stands caused = by worker.work.job plans
     where
       by : (job : Option Job) → IsSomeAnd job (λ job. IsSomeAnd worker.begun.tx (λ t.
           IsSomeAnd (seen_in worker.work.snap) (λ seen. HasOfCall t store.core seen)))
@@ -405,36 +462,68 @@ module _ (o : Setting) (told : Told) (number : ℕ) (base : Image) (store : Stor
 
   may_cases : Cases old new May
   may_cases = record {
-    idle = λ is plans loads nothing stands off. refl;
-    reading = λ is plans loads nothing stands off. reading_so stands;
-    begun = λ job one job_is served has plans loads nothing stands off.
+    idle = λ is at plans loads stands caused. refl;
+    reading = λ is at plans loads stands caused. reading_so stands;
+    begun = λ job one job_is served has at plans loads stands caused.
         from_called job true (step.Begun (Ok one)) job_is served (begun_may one has.next has.sound);
-    not_begun = λ job why job_is served none core is plans loads nothing stands off.
+    not_begun = λ job why job_is served none core is at plans loads stands caused.
         from_called job true (step.Begun (Err why)) job_is served (not_begun_may why none);
-    replied = λ job job_is served core is plans loads nothing stands off.
+    replied = λ job job_is served core is at plans loads stands caused.
         from_called job false step.Replied job_is served refl;
     wanted = wanted_so;
     claimed = claimed_so;
     committed = committed_so;
     lacked = lacked_so;
-    given = λ ok io made io_is has plans loads nothing stands off. given_so ok io io_is stands;
-    refused = λ why job tx made job_is tx_is has plans loads nothing stands off.
+    given = λ ok io made io_is has at plans loads stands caused. given_so ok io io_is stands;
+    refused = λ why job tx made job_is tx_is has at plans loads stands caused.
         subst (λ (found : Option Job). MayFrom (at_stage found (how.Refused all_begun why))
         (Some (step.Ended ending.Refused))) (sym job_is) refl;
-    left = λ tx made tx_is has plans loads nothing stands off. left_so stands;
-    waited = λ place made has plans loads nothing stands off.
+    left = λ tx made tx_is has at plans loads stands caused. left_so stands;
+    waited = λ place made has at plans loads stands caused.
         subst (λ (found : Option Job). MayFrom (at_stage found (how.Waiting place.0))
         (Some (step.Stable place has.settled))) (sym stands.job_is)
         (waits_may o told base store fetches boot first last entries run is_told place has.settled
         has.settled_is);
   }
 
-  step_may_out : (made : Option Step) → GoesOn worker.phase old made new → IsCoreAtWork worker store.core
-      → IsWorkerAt boot entries worker → MayFrom (progress_of worker) made
-  step_may_out made goes at worker_at = by_cases old new May may_cases worker.phase made goes
-      at.alone.plans at.loads at.alone.left worker_at.stands
-      (never_kept_off old new run.since.over.tidy at.alone.out at.alone.fetches worker.phase made
-      at.with.sound.fetch at.alone.plans at.alone.left goes)
+  pub step_may_by : (made : Option Step) → GoesOn worker.phase old made new
+      → PlansAlone worker.phase worker store.core → Loads worker store.core → IsWorkerAt boot entries worker
+      → IsCaused told number made → MayFrom (progress_of worker) made
+  step_may_by made goes plans loads worker_at caused =
+      by_cases old new May may_cases worker.phase made goes refl plans loads worker_at.stands caused
+
+-- ---- a worker that is alone
+
+-- nothing is left to be taken again
+none_left_of : (worker : State) → LeavesNothing worker.phase worker.known → worker.phase ≡ Planning
+    → IsLeftOf worker
+none_left_of worker nothing phase_is next later some =
+    let none : worker.known.left ≡ [] = subst (λ (p : Phase). LeavesNothing p worker.known) phase_is nothing in
+    let never : next ∷ later ≡ [] = sym some ∙ none in cc
+
+-- what isn't kept off needs no cause
+not_caused : (told : Told) (number : ℕ) (made : Option Step) → is_kept_off made ≡ false
+    → IsCaused told number made
+not_caused told number (Some (step.Wanted addr mode wish.Busy)) off = absurd (true≢false off)
+not_caused told number (Some (step.Wanted addr mode wish.Loading)) off = absurd (true≢false off)
+not_caused told number (Some (step.Wanted addr mode wish.Held)) off = tt
+not_caused told number (Some (step.Wanted addr mode wish.Fetch)) off = tt
+not_caused told number (Some (step.Wanted addr mode wish.Outside)) off = tt
+not_caused told number (Some (step.Wanted addr mode wish.NoMemory)) off = tt
+not_caused told number (Some (step.Claimed block wish.Busy)) off = absurd (true≢false off)
+not_caused told number (Some (step.Claimed block wish.Loading)) off = absurd (true≢false off)
+not_caused told number (Some (step.Claimed block wish.Held)) off = tt
+not_caused told number (Some (step.Claimed block wish.Fetch)) off = tt
+not_caused told number (Some (step.Claimed block wish.Outside)) off = tt
+not_caused told number (Some (step.Claimed block wish.NoMemory)) off = tt
+not_caused told number (Some (step.Commit count committing.Foreign)) off = absurd (true≢false off)
+not_caused told number (Some (step.Commit count (committing.Committed place))) off = tt
+not_caused told number (Some (step.Commit count committing.Full)) off = tt
+not_caused told number (Some (step.Commit count committing.NoMemory)) off = tt
+not_caused told number (Some (step.Commit count committing.Broken)) off = tt
+not_caused told number (Some (step.Commit count committing.Spent)) off = tt
+not_caused told number None off = tt
+not_caused told number (Some _) off = tt
 
 pub step_may : (o : Setting) (told : Told) (number : ℕ) (base : Image) (store : StoreSide)
     (fetches : List Fetch) (boot : ℕ) (first last : Tree) (entries : List Entry)
@@ -445,5 +534,8 @@ pub step_may : (o : Setting) (told : Told) (number : ℕ) (base : Image) (store 
     → IsWorkerAt boot entries worker → IsStepOfWork o told number (progress_of worker) made
 step_may o told number base store fetches boot first last entries run is_told inodes worker new one_geometry made
     goes at worker_at =
-    step_may_out o told number base store fetches boot first last entries run is_told inodes worker new
-    one_geometry at.with.core_of.out made goes at worker_at
+    step_may_by o told number base store fetches boot first last entries run is_told inodes worker new
+    one_geometry at.with.core_of.out (none_left_of worker at.alone.left) made goes at.alone.plans at.loads worker_at
+    (not_caused told number made
+    (never_kept_off (side worker store.core) new run.since.over.tidy at.alone.out at.alone.fetches worker.phase made
+    at.with.sound.fetch at.alone.plans at.alone.left goes))

@@ -36,11 +36,14 @@ use Rattle.store_promise.specs.declared.aims.Aim.TheVariants as aim
 use Rattle.store_promise.proofs.RisingAims.{all_more}
 use Rattle.store_runs.proofs.AtWorkFetched.{now_given, now_held, one_claimed, one_given, one_held, one_wanted}
 use Rattle.store_runs.proofs.AtWorkFetched.{wanted_taken}
+use Rattle.store_workers.proofs.NotesAll.{notes_still}
+use Rattle.store_workers.proofs.PlansStay.{plans_stay}
 use Rattle.store_workers.proofs.StaysAlone.{stays_alone}
 use Rattle.store_workers.proofs.WorkCases.{Cases, by_cases}
 use Rattle.store_workers.specs.Alone.{HasOfCall, HasTaken, PlansAlone, StaysAlone, is_full}
-use Rattle.store_images.specs.Fetches.{FetchesOnly, is_fetch_of}
-use Rattle.store_runs.specs.AtWork.{FetchesFor, IsAimLoaded, IsCoreAtWork, IsLoadedBut, IsLoadedFor, Loads}
+use Rattle.store_images.specs.Fetches.{FetchesOnly}
+use Rattle.store_workers.specs.Beside.{IsFetchedBy, IsLeftOf, NoneTakenBeyond}
+use Rattle.store_runs.specs.AtWork.{FetchesFor, IsAimLoaded, IsAtWork, IsCoreAtWork, IsLoadedBut, IsLoadedFor, Loads}
 use Rattle.store_runs.specs.AtWork.{LoadsFor, has_taken}
 use Rattle.store_workers.specs.Asked.{Asking}
 use Rattle.store_workers.specs.Knowing.{with_off}
@@ -224,7 +227,7 @@ module _ (old new : Side) where
       loads_by old.worker told (subst
       (λ (p : Phase). LoadsFor p old.worker.begun.tx old.worker.asked old.worker.known new.core) (sym phase_is) tt)
 
-  module _ (pending : FetchesOnly old.worker.begun.io old.core) (boot : ℕ) (entries : List Entry) where
+  module _ (pending : IsFetchedBy old.core old.worker.begun.io) (boot : ℕ) (entries : List Entry) where
     abbrev Stays : Phase → Option Step → Type 0
     Stays phase made = old.worker.phase ≡ phase
         → LoadsFor phase old.worker.begun.tx old.worker.asked old.worker.known old.core
@@ -240,8 +243,7 @@ module _ (old new : Side) where
     given_so true io made io_is has phase_is loads at =
         loads_by _ has.worker (given_loads old.worker.begun.tx old.worker.asked io loads
         (fetch_of io io_is at.1)
-        (pending io.block ∙ ap (λ (o : Option Fetch). is_fetch_of o io.block) io_is
-        ∙ eq-eqb io.block.0 io.block.0 refl) has.leaves)
+        (subst (IsFetchedBy old.core) io_is pending) has.leaves)
     given_so false io made io_is has phase_is loads at = loads_by _ has.worker tt
 
     loads_cases : Cases old new Stays
@@ -357,6 +359,11 @@ plans_told (Read ok) worker core plans = plans
 plans_told (Refused why) worker core plans = tt
 plans_told (Waiting place) worker core plans = tt
 
+-- what it fetches is pending, where nothing else is
+fetched_only : (io : Option Fetch) (core : CoreState) → FetchesOnly io core → IsFetchedBy core io
+fetched_only None core only = tt
+fetched_only (Some io) core only = only io.block ∙ eq-eqb io.block.0 io.block.0 refl
+
 pub at_work_still : (old new : Side) (made : Option Step) (boot : ℕ) (entries : List Entry)
     → IsCoreAtWork old.worker old.core → IsWorkerAt boot entries old.worker → AreTidy old.core
     → KeepsReadsOf old new
@@ -375,5 +382,20 @@ at_work_still old new made boot entries at worker_at tidy reads goes with =
             by_cases old new (Full old new) (full_cases old new) old.worker.phase made goes room
             at.alone.plans));
       };
-      loads = loads_still old new at.alone.fetches boot entries made goes at.loads worker_at;
+      loads = loads_still old new (fetched_only old.worker.begun.io old.core at.alone.fetches) boot entries made goes
+          at.loads worker_at;
     }
+
+-- So does a worker beside others: it has of its call what it took, and has noted it.
+pub at_work_on : (old new : Side) (made : Option Step) (boot : ℕ) (entries : List Entry)
+    → IsAtWork old.worker old.core → IsWorkerAt boot entries old.worker → NoneTakenBeyond old.core
+    → (old.worker.phase ≡ Planning → IsLeftOf old.worker) → IsFetchedBy old.core old.worker.begun.io
+    → KeepsReadsOf old new
+    → GoesOn old.worker.phase old made new → GoesWith (told new.worker) new.core
+    → IsAtWork (told new.worker) new.core
+at_work_on old new made boot entries at worker_at beyond left pending reads goes with = record {
+  with = with;
+  plans = plans_told new.worker.phase new.worker new.core (plans_stay old new reads beyond left made goes at.plans);
+  loads = loads_still old new pending boot entries made goes at.loads worker_at;
+  notes = notes_still old new beyond at.notes made at.with.sound.transaction goes;
+}

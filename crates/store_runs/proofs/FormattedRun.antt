@@ -15,7 +15,7 @@ pub is_answered : (keeps_model : Type 0) (before later : Device) (tree : Tree) (
     → MatchResult answer
     (λ told. IsPromised keeps_model before later tree first workers events (Ok (report_of told)))
     (λ fault. IsPromised keeps_model before later tree first workers events (Err fault))
-    → MayRun keeps_model before tree first workers events
+    → MayRun keeps_model before tree first events
     → IsAnswered before later tree first workers events (answer_of answer)
 is_answered keeps_model before later tree first workers events (Ok told) promised may = promised may
 is_answered keeps_model before later tree first workers events (Err fault) promised may = promised may

@@ -1,5 +1,6 @@
 -- A run goes on with an event that commits nothing and ends no call: its step is all that is told with it.
-use Rattle.std.proofs.Common.{◌≡◌, refl, sym, subst, ◌+◌, List, Option, None, take}
+use Rattle.std.proofs.Common.{◌≡◌, refl, sym, subst, ℕ, ◌+◌, ◌<◌, List, [], Option, Some, None, take, arith}
+use Rattle.std.proofs.lemmas.Option.{slice_get_within}
 use Rattle.disk.specs.Crash.{Image}
 use Rattle.disk.specs.Device.{current}
 use Rattle.model.specs.Entry.{Entry}
@@ -15,43 +16,59 @@ use Rattle.store_promise.specs.Schedule.{IsOfOne, IsTaken, Setting, told_after, 
 use Rattle.store_promise.specs.Transcript.{Transcript, entries_of, transcript_of}
 use Rattle.run_law.specs.Noting.{TellsOfEvent, told_now, with_noted}
 use Rattle.run_law.specs.Run.{Beginning, GoesOn, IsRun}
-use Rattle.store_runs.specs.AtWork.{IsCoreAtWork, fetches_of}
 use Rattle.store_runs.specs.Going.{IsGoing, IsNextEvent, NotesStep}
-use Rattle.store_workers.specs.Stages.{IsWorkerAt, progress_of}
+use Rattle.store_workers.specs.Beside.{IsOneOf}
 use Rattle.store_workers.specs.declared.workers.parts.State.{State}
 use Rattle.store_runs.proofs.GoingOn.{goes_on_with, same_entries, step_alone, tells_step}
+use Rattle.store_runs.proofs.StayBeside.{AllWillStand, same_kept, so_still}
 
 -- what such an event leaves of a run: the entries that there were, over what was at home
 pub record Leaves (b : Beginning) (now : Event) (o : Setting) (base : Image) (last : Tree) (t : Transcript)
-    (old new : StoreSide) (made : Option Step) (worker : State) : Type 0 where
+    (old new : StoreSide) (made : Option Step) (workers : List State) : Type 0 where
   pub taken : IsTaken o b.workers (told_now b.events t) now made
   pub device : IsMovedBy old.device made new.device
   pub does : DoesStepBy (told_now b.events t).log made (current old.device) (current new.device)
-  pub running : IsRunningOver o base new (fetches_of worker) (b.first + 1) b.tree (entries_of t) last
+  pub running : IsRunningOver o base new [] (b.first + 1) b.tree (entries_of t) last
   pub told : IsTold o (told_after (told_now b.events t) now made) new
-  pub stands : IsWorkerAt (b.first + 1) (entries_of t) worker
-  pub at_work : IsCoreAtWork worker new.core
-  pub progress : (told_after (told_now b.events t) now made).workers 0 ≡ progress_of worker
+  pub stand : AllWillStand b base new.core t now (step_alone made) workers
+
+-- where no step is made all stand as they did
+none_moves : (b : Beginning) (now : Event) (store : StoreSide) (workers : List State) (before : Run)
+    (going : IsGoing b store workers before)
+    → AllWillStand b going.base store.core (transcript_of before) now (step_alone None) workers
+none_moves b now store workers before going = record {
+  count = going.so_far.count;
+  each = λ number worker is. let so = going.so_far.each number worker is in
+      so_still b going.base going.base store.core store.core (transcript_of before) now (step_alone None) number
+      worker refl refl (λ tx own. same_kept store.core tx) refl so.fetched so;
+  share = going.so_far.share;
+}
 
 -- an event of a worker that isn't there leaves all as it is
-pub left_alone : (b : Beginning) (now : Event) (store : StoreSide) (worker : State) (before : Run)
-    (going : IsGoing b store worker before) → (IsOfOne b.workers (worker_of now) → ⊥)
+pub left_alone : (b : Beginning) (now : Event) (store : StoreSide) (workers : List State) (before : Run)
+    (going : IsGoing b store workers before) → (IsOfOne b.workers (worker_of now) → ⊥)
     → IsMovedBy store.device None store.device
-    → Leaves b now going.setting going.base going.last (transcript_of before) store store None worker
-left_alone b now store worker before going absent still = record {
+    → Leaves b now going.setting going.base going.last (transcript_of before) store store None workers
+left_alone b now store workers before going absent still = record {
   taken = record { own = λ one. absurd (absent one); others = λ none. refl };
   device = still;
   does = λ block. refl;
   running = going.run.running;
   told = going.run.told;
-  stands = going.stands;
-  at_work = going.at_work;
-  progress = going.progress;
+  stand = none_moves b now store workers before going;
 }
 
-module _ (b : Beginning) (now : Event) (old new : StoreSide) (made : Option Step) (worker later : State)
+-- the number is that of a worker of the run
+pub is_there : (b : Beginning) (store : StoreSide) (workers : List State) (before : Run) (number : ℕ)
+    (worker : State) → IsGoing b store workers before → IsOneOf workers number worker
+    → IsOfOne b.workers (Some number)
+is_there b store workers before number worker going is =
+    let within = slice_get_within workers number worker is in
+    let count = going.so_far.count in omega (arith, within, count)
+
+module _ (b : Beginning) (now : Event) (old new : StoreSide) (made : Option Step) (workers later : List State)
     (before after : Run) (is_next : IsNextEvent b now before) (notes : NotesStep made before after)
-    (going : IsGoing b old worker before)
+    (going : IsGoing b old workers before)
     (left : Leaves b now going.setting going.base going.last (transcript_of before) old new made later) where
   abbrev pub t : Transcript
   t = transcript_of before
@@ -60,7 +77,7 @@ module _ (b : Beginning) (now : Event) (old new : StoreSide) (made : Option Step
   o = going.setting
 
   pub goes : TellsOfEvent b.events t now (step_alone made)
-      → GoesOn b o t old (step_alone made) o going.base new (fetches_of later) going.last
+      → GoesOn b o t old (step_alone made) o going.base new [] going.last
   goes tells = record {
     event = now;
     next = is_next.next;
@@ -70,8 +87,8 @@ module _ (b : Beginning) (now : Event) (old new : StoreSide) (made : Option Step
     does = left.does;
     same = refl;
     blocks = λ place within. refl;
-    running = subst (λ (es : List Entry). IsRunningOver o going.base new (fetches_of later)
-        (b.first + 1) b.tree es going.last) (sym (same_entries t made)) left.running;
+    running = subst (λ (es : List Entry). IsRunningOver o going.base new [] (b.first + 1) b.tree es going.last)
+        (sym (same_entries t made)) left.running;
     told = left.told;
     leads = subst (λ (es : List Entry). leads_to b.tree es going.last) (sym (same_entries t made))
         going.run.leads;
@@ -80,10 +97,8 @@ module _ (b : Beginning) (now : Event) (old new : StoreSide) (made : Option Step
     changes = tt;
   }
 
-  pub goes_on : IsRun b o (with_noted t (step_alone made)) going.base new (fetches_of later) going.last
+  pub goes_on : IsRun b o (with_noted t (step_alone made)) going.base new [] going.last
       → told_now b.events (with_noted t (step_alone made)) ≡ told_after (told_now b.events t) now made
       → IsGoing b new later after
   goes_on run told_then = goes_on_with b o going.base going.last new later before after (step_alone made) now
-      (tells_step made before after notes) run told_then
-      (subst (λ (es : List Entry). IsWorkerAt (b.first + 1) es later) (sym (same_entries t made)) left.stands)
-      left.at_work left.progress
+      (tells_step made before after notes) run told_then left.stand

@@ -1,6 +1,6 @@
 -- A run goes on with each event: what was told, and what the worker and its core have then.
 use Rattle.std.proofs.Common.{◌≡◌, ◌∙◌, refl, sym, ap, subst, ℕ, ◌+◌, Bool, true, false, List, map}
-use Rattle.std.proofs.Common.{Option, Some, None, is_some, take, All, inl, inr}
+use Rattle.std.proofs.Common.{Option, Some, None, [], is_some, take, All, inl, inr}
 use Rattle.std.specs.Prelude.{IsSomeAnd}
 use Rattle.std.proofs.lemmas.List.{append-nil}
 use Rattle.std.proofs.lemmas.List.Elements.{All-weaker}
@@ -13,6 +13,7 @@ use Rattle.objects.specs.declared.addr.Addr.{Addr}
 use Rattle.txn.specs.Claimed.{IsClaimedBy}
 use Rattle.txn_law.specs.Commit.{IsReadBy}
 use Rattle.txn_law.specs.Core.{CoreState}
+use Rattle.txn_law.specs.Fetch.{Fetch}
 use Rattle.txn_law.specs.Holds.{is_written}
 use Rattle.txn_law.specs.declared.hold.Hold.{Hold}
 use Rattle.store_promise.specs.declared.events.Event.{Event}
@@ -24,7 +25,8 @@ use Rattle.store_promise.specs.DeviceCalls.{DoesStepBy}
 use Rattle.store_promise.specs.Headline.{StandsAfter}
 use Rattle.store_promise.specs.LogTold.{CallTold, LogTold, idle, may_install_told, may_log_told, out, was_made}
 use Rattle.store_promise.specs.NextCall.{IsNextOfInstalling, next_log_call}
-use Rattle.store_promise.specs.Running.{GoesOnBy, IsLogStep, IsRunningOver, KeepsTransactions, StoreSide}
+use Rattle.store_promise.specs.Running.{GoesOnBy, IsFetchOver, IsLogStep, IsRunningOver, KeepsTransactions}
+use Rattle.store_promise.specs.Running.{StoreSide}
 use Rattle.store_promise.specs.Running.{home_next, told_next}
 use Rattle.store_promise.specs.Schedule.{IsNextOfInstaller, IsNextOfLog, IsStepOfInstIo, IsStepOfInstaller}
 use Rattle.store_promise.specs.Schedule.{IsStepOfLog, IsStepOfLogIo, IsTaken, Setting, Told, told_after}
@@ -39,7 +41,10 @@ use Rattle.store_promise.specs.declared.aims.Aim.{Aim}
 use Rattle.store_promise.specs.declared.aims.Aim.TheVariants as aim
 use Rattle.store_runs.specs.AtWork.{FetchesFor, IsAimLoaded, IsCoreAtWork, IsLoadedBut, IsLoadedFor, LoadsFor}
 use Rattle.store_runs.specs.AtWork.{fetches_of, has_taken}
-use Rattle.store_runs.specs.Going.{IsGoing, IsNextEvent, NotesStep, may_make}
+use Rattle.store_runs.specs.Going.{AreSoFar, IsGoing, IsNextEvent, NotesStep, may_make}
+use Rattle.store_runs.proofs.StayBeside.{AllWillStand, each_kept, so_still}
+use Rattle.store_workers.proofs.ShareCore.{share_by}
+use Rattle.store_workers.specs.Beside.{ShareCore}
 use Rattle.store_runs.specs.Running.{DoesItsStep}
 use Rattle.store_workers.specs.Seen.{Seen, seen_in}
 use Rattle.store_workers.specs.Stages.{IsWorkerAt, progress_of}
@@ -55,26 +60,43 @@ use Rattle.store_workers.specs.declared.workers.parts.State.{State}
 
 -- with what an event has told the run goes on
 pub goes_on_with : (b : Beginning) (later : Setting) (home : Image) (next : Tree) (new : StoreSide)
-    (worker : State) (before after : Run) (noted : Noted) (now : Event)
+    (workers : List State) (before after : Run) (noted : Noted) (now : Event)
     → transcript_of after ≡ with_noted (transcript_of before) noted
-    → IsRun b later (with_noted (transcript_of before) noted) home new (fetches_of worker) next
+    → IsRun b later (with_noted (transcript_of before) noted) home new [] next
     → told_now b.events (with_noted (transcript_of before) noted)
     ≡ told_after (told_now b.events (transcript_of before)) now noted.made
-    → IsWorkerAt (b.first + 1) (entries_of (with_noted (transcript_of before) noted)) worker
-    → IsCoreAtWork worker new.core
-    → (told_after (told_now b.events (transcript_of before)) now noted.made).workers 0 ≡ progress_of worker
-    → IsGoing b new worker after
-goes_on_with b later home next new worker before after noted now same run told stands at_work
-    progress = record {
-      setting = later;
-      base = home;
-      last = next;
-      run = subst (λ (t : Transcript). IsRun b later t home new (fetches_of worker) next) (sym same) run;
-      stands = subst (λ (t : Transcript). IsWorkerAt (b.first + 1) (entries_of t) worker) (sym same) stands;
-      at_work = at_work;
-      progress = ap (λ (t : Transcript). progress_now b.events t 0) same
-          ∙ ap (λ (t : Told). t.workers 0) told ∙ progress;
-    }
+    → AllWillStand b home new.core (transcript_of before) now noted workers
+    → IsGoing b new workers after
+goes_on_with b later home next new workers before after noted now same run told stand = record {
+  setting = later;
+  base = home;
+  last = next;
+  run = subst (λ (t : Transcript). IsRun b later t home new [] next) (sym same) run;
+  so_far = subst (λ (t : Transcript). AreSoFar b home new.core t workers) (sym same) (record {
+    count = stand.count;
+    each = λ number worker is. let will = stand.each number worker is in record {
+      stands = will.stands;
+      at_work = will.at_work;
+      progress = ap (λ (t : Told). t.workers number) told ∙ will.progress;
+      fetched = will.fetched;
+    };
+    share = stand.share;
+  });
+}
+
+-- the run goes on with what others have read
+pub with_fetches : (o : Setting) (base : Image) (side : StoreSide) (some others : List Fetch) (boot : ℕ)
+    (first last : Tree) (entries : List Entry) → IsRunningOver o base side some boot first entries last
+    → All (IsFetchOver base side.core) others → IsRunningOver o base side others boot first entries last
+with_fetches o base side some others boot first last entries run fetched = record {
+  since = run.since;
+  position = run.position;
+  blocks = run.blocks;
+  inodes = run.inodes;
+  stands = run.stands;
+  fetched = fetched;
+  placed = run.placed;
+}
 
 -- an event that tells its step alone
 abbrev pub step_alone : Option Step → Noted
@@ -321,12 +343,11 @@ told_log told now (Some one) = refl
 
 -- ---- an event of the log's side
 
-module _ (b : Beginning) (now : Event) (old new : StoreSide) (made : Option Step) (worker : State)
+module _ (b : Beginning) (now : Event) (old new : StoreSide) (made : Option Step) (workers : List State)
     (before after : Run)
     (is_next : IsNextEvent b now before) (is : IsLogStep (may_make now) old made new)
     (does : DoesItsStep old made new)
-    (with : GoesWith worker new.core)
-    (notes : NotesStep made before after) (going : IsGoing b old worker before) where
+    (notes : NotesStep made before after) (going : IsGoing b old workers before) where
   abbrev pub t : Transcript
   t = transcript_of before
 
@@ -336,10 +357,15 @@ module _ (b : Beginning) (now : Event) (old new : StoreSide) (made : Option Step
   abbrev told : Told
   told = told_now b.events t
 
-  went : GoesOnBy (may_make now) o going.base old made new (fetches_of worker) (b.first + 1) b.tree
-      (entries_of t) going.last
-  went = is.runs o going.base (fetches_of worker) (b.first + 1) b.tree going.last (entries_of t)
-      going.run.running
+  -- so it goes on with what anyone has read
+  went_with : (fetches : List Fetch) → All (IsFetchOver going.base old.core) fetches
+      → GoesOnBy (may_make now) o going.base old made new fetches (b.first + 1) b.tree (entries_of t) going.last
+  went_with fetches fetched = is.runs o going.base fetches (b.first + 1) b.tree going.last (entries_of t)
+      (with_fetches o going.base old [] fetches (b.first + 1) b.tree going.last (entries_of t) going.run.running
+      fetched)
+
+  went : GoesOnBy (may_make now) o going.base old made new [] (b.first + 1) b.tree (entries_of t) going.last
+  went = went_with [] going.run.running.fetched
 
   may : may_make now o told.log made
   may = subst (λ (log : LogTold). may_make now o log made) (sym going.run.told.log) went.may
@@ -357,7 +383,7 @@ module _ (b : Beginning) (now : Event) (old new : StoreSide) (made : Option Step
       → ends_of told (told_after told now made) worker ≡ false
   no_answer worker none = ap (λ (w : Option ℕ). ends_of told (told_after told now made) w) none
 
-  pub goes : GoesOn b o t old (step_alone made) o home new (fetches_of worker) going.last
+  pub goes : GoesOn b o t old (step_alone made) o home new [] going.last
   goes = record {
     event = now;
     next = is_next.next;
@@ -368,8 +394,8 @@ module _ (b : Beginning) (now : Event) (old new : StoreSide) (made : Option Step
         (sym going.run.told.log) does;
     same = refl;
     blocks = λ place within. refl;
-    running = subst (λ (es : List Entry). IsRunningOver o home new (fetches_of worker) (b.first + 1) b.tree
-        es going.last) (sym (same_entries t made)) went.running;
+    running = subst (λ (es : List Entry). IsRunningOver o home new [] (b.first + 1) b.tree es going.last)
+        (sym (same_entries t made)) went.running;
     told = record {
       log = told_log told now made ∙ ap (λ (log : LogTold). told_next log made) going.run.told.log
           ∙ sym went.told;
@@ -382,12 +408,22 @@ module _ (b : Beginning) (now : Event) (old new : StoreSide) (made : Option Step
     changes = tt;
   }
 
-  pub goes_on : IsRun b o (with_noted t (step_alone made)) home new (fetches_of worker) going.last
+  share_then : ShareCore new.core workers
+  share_then = share_by old.core new.core workers is.core.out is.core.begun is.core.fetches going.so_far.share
+
+  stand : AllWillStand b home new.core t now (step_alone made) workers
+  stand = record {
+    count = going.so_far.count;
+    each = λ number worker is_it. let so = going.so_far.each number worker is_it in
+        so_still b going.base home old.core new.core t now (step_alone made) number worker
+        (sym went.running.blocks ∙ going.run.running.blocks) is.core.inodes
+        (λ tx own. each_kept old.core new.core is.core tx) (of_side.workers_stay number)
+        (went_with (fetches_of worker) so.fetched).running.fetched so;
+    share = share_then;
+  }
+
+  pub goes_on : IsRun b o (with_noted t (step_alone made)) home new [] going.last
       → told_now b.events (with_noted t (step_alone made)) ≡ told_after told now made
-      → IsGoing b new worker after
-  goes_on run told_then = goes_on_with b o home going.last new worker before after (step_alone made) now
-      (tells_step made before after notes) run told_then
-      (subst (λ (es : List Entry). IsWorkerAt (b.first + 1) es worker) (sym (same_entries t made)) going.stands)
-      (still_at_work old.core new.core is.core (sym went.running.blocks ∙ going.run.running.blocks) worker with
-      going.at_work)
-      (of_side.workers_stay 0 ∙ going.progress)
+      → IsGoing b new workers after
+  goes_on run told_then = goes_on_with b o home going.last new workers before after (step_alone made) now
+      (tells_step made before after notes) run told_then stand

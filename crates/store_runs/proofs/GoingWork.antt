@@ -5,6 +5,7 @@ use Rattle.std.proofs.Common.{slice_get}
 use Rattle.std.proofs.Common.{Option, Some, None, length-append}
 use Rattle.std.proofs.lemmas.Bool.{le-leb, lt-leb, leb-true, leb-false}
 use Rattle.std.proofs.lemmas.List.{append-nil, length-map, map-append, take-append-le, take_all}
+use Rattle.std.proofs.lemmas.List.Elements.{All-nil}
 use Rattle.std.specs.Prelude.{All, IsSomeAnd}
 use Rattle.disk.specs.Crash.{Image}
 use Rattle.disk.specs.Device.{current}
@@ -30,7 +31,7 @@ use Rattle.store_promise.specs.History.{ctx_of}
 use Rattle.store_promise.specs.OpenSince.{HasFileBlocks, file_blocks}
 use Rattle.store_promise.specs.Progress.{Again, At, Begun, Called, Idle, Job, Planning, Progress, Read, Reading}
 use Rattle.store_promise.specs.Progress.{Refused, Stage, Waiting, is_idle, progressed}
-use Rattle.store_promise.specs.Running.{IsMovedBy, IsRunningOver, IsTold, StoreSide, with_blocks}
+use Rattle.store_promise.specs.Running.{IsFetchOver, IsMovedBy, IsRunningOver, IsTold, StoreSide, with_blocks}
 use Rattle.model.specs.Calls.{has_rules}
 use Rattle.store_promise.specs.Waiting.{AreTakenBy, HasTakenWell}
 use Rattle.store_promise.specs.declared.aims.Aim.{Aim}
@@ -42,9 +43,9 @@ use Rattle.store_promise.proofs.DeviceCalls.{does_nothing}
 use Rattle.run_law.specs.Noting.{IsAnswerOf, IsEntryOf, Noted, TellsOfEvent, clock_now}
 use Rattle.run_law.specs.Noting.{commits, ends, listed, progress_now, told_now, with_noted}
 use Rattle.run_law.specs.Run.{Beginning, ChangesOwn, ChangesOwnIn, GoesOn, IsRun}
-use Rattle.store_runs.specs.AtWork.{GoesOnWith, IsCoreAtWork, IsSeenIn, entry_by, fetches_of}
+use Rattle.store_runs.specs.AtWork.{GoesOnWith, IsAtWork, IsSeenIn, entry_by, fetches_of}
 use Rattle.store_runs.specs.AtWork.{has_committed, with_core}
-use Rattle.store_runs.specs.Going.{IsGoing, IsNextEvent, KeepsCore, NotesStep}
+use Rattle.store_runs.specs.Going.{IsGoing, IsNextEvent, IsSoFar, KeepsCore, NotesStep}
 use Rattle.store_workers.specs.Noting.{NotesAnswers, NotesHistory, NotesProcedure, NotesWork}
 use Rattle.store_workers.specs.Seen.{Seen, seen_in}
 use Rattle.store_workers.specs.Stages.{IsWorkerAt, claimed_in, held_in, progress_of}
@@ -52,7 +53,10 @@ use Rattle.store_workers.specs.Telling.{HasWorked, entries_told, told}
 use Rattle.store_workers.specs.WorkTells.{HasReplies, progress_after}
 use Rattle.store_workers.specs.WorkerSteps.{Side, side}
 use Rattle.store_workers.specs.declared.workers.parts.State.{State}
-use Rattle.store_runs.proofs.GoingOn.{goes_on_with}
+use Rattle.store_runs.proofs.GoingBeside.{is_there}
+use Rattle.store_runs.proofs.GoingOn.{goes_on_with, with_fetches}
+use Rattle.store_runs.proofs.StayBeside.{AllWillStand, all_stand, others_stay, own_moves}
+use Rattle.store_workers.specs.Beside.{LeavesOthers, Replaces}
 use Rattle.store_runs.proofs.OwnChanges.{keeps_others, planned_has}
 
 -- ---- a step of work is no call of the device
@@ -122,23 +126,25 @@ module _ (o : Setting) (told : Told) (worker : ℕ) where
 -- ---- what was noted
 
 -- a procedure more, or none
-pub data Noting (boot clock : ℕ) (progress : Progress) (made : Option Step) (before mid : Run) : Type 0 where
-  with_one : (added : ℕ) (place : Seq) → made ≡ Some (step.Commit added (committing.Committed place))
-      → NotesProcedure boot clock progress place.0 before mid → Noting boot clock progress made before mid
-  with_none : has_committed made ≡ false → commits made ≡ false → mid.history.items ≡ before.history.items
-      → Noting boot clock progress made before mid
+pub data Noting (boot number clock : ℕ) (progress : Progress) (made : Option Step) (before mid : Run) : Type 0
+  where
+    with_one : (added : ℕ) (place : Seq) → made ≡ Some (step.Commit added (committing.Committed place))
+        → NotesProcedure boot number clock progress place.0 before mid
+        → Noting boot number clock progress made before mid
+    with_none : has_committed made ≡ false → commits made ≡ false → mid.history.items ≡ before.history.items
+        → Noting boot number clock progress made before mid
 
-pub noting : (boot clock : ℕ) (progress : Progress) (made : Option Step) (before mid : Run)
-    → NotesHistory boot clock progress made before mid → Noting boot clock progress made before mid
-noting boot clock progress (Some (step.Commit added (committing.Committed place))) before mid is =
+pub noting : (boot number clock : ℕ) (progress : Progress) (made : Option Step) (before mid : Run)
+    → NotesHistory boot number clock progress made before mid → Noting boot number clock progress made before mid
+noting boot number clock progress (Some (step.Commit added (committing.Committed place))) before mid is =
     with_one added place refl is
-noting boot clock progress (Some (step.Commit added committing.Full)) before mid is = with_none refl refl is
-noting boot clock progress (Some (step.Commit added committing.Foreign)) before mid is = with_none refl refl is
-noting boot clock progress (Some (step.Commit added committing.NoMemory)) before mid is = with_none refl refl is
-noting boot clock progress (Some (step.Commit added committing.Broken)) before mid is = with_none refl refl is
-noting boot clock progress (Some (step.Commit added committing.Spent)) before mid is = with_none refl refl is
-noting boot clock progress None before mid is = with_none refl refl is
-noting boot clock progress (Some _) before mid is = with_none refl refl is
+noting boot number clock progress (Some (step.Commit added committing.Full)) before mid is = with_none refl refl is
+noting boot number clock progress (Some (step.Commit added committing.Foreign)) before mid is = with_none refl refl is
+noting boot number clock progress (Some (step.Commit added committing.NoMemory)) before mid is = with_none refl refl is
+noting boot number clock progress (Some (step.Commit added committing.Broken)) before mid is = with_none refl refl is
+noting boot number clock progress (Some (step.Commit added committing.Spent)) before mid is = with_none refl refl is
+noting boot number clock progress None before mid is = with_none refl refl is
+noting boot number clock progress (Some _) before mid is = with_none refl refl is
 
 found_entry : (cs : List Committed) (index : ℕ) (e : Entry) → slice_get (map entry_of cs) index ≡ Some e
     → (c : Committed) × (slice_get cs index ≡ Some c) × (c.reply ≡ e.reply)
@@ -160,15 +166,15 @@ both_true false other is = cc
 
 -- ---- the event
 
-module _ (b : Beginning) (clock : ℕ) (store : StoreSide) (worker new : State) (core : CoreState)
-    (made : Option Step)
-    (before mid after : Run) (is_next : IsNextEvent b (event.Work 0) before)
-    (going : IsGoing b store worker before)
+module _ (b : Beginning) (number clock : ℕ) (store : StoreSide) (workers all_then : List State) (worker new : State)
+    (core : CoreState) (made : Option Step)
+    (before mid after : Run) (is_next : IsNextEvent b (event.Work number) before)
+    (going : IsGoing b store workers before) (list : Replaces workers number worker new all_then)
     (clock_is : clock ≡ clock_now (transcript_of before))
-    (worked : HasWorked 0 clock (side worker store.core) made (side new core) before mid)
+    (worked : HasWorked number clock (side worker store.core) made (side new core) before mid)
     (kept : KeepsCore (side worker store.core) (side new core)) (last_note : NotesStep made mid after)
-    (notes : NotesWork (b.first + 1) clock (side worker store.core) made (side new core) before mid)
-    (may : IsStepOfWork going.setting (told_now b.events (transcript_of before)) 0
+    (notes : NotesWork (b.first + 1) number clock (side worker store.core) made (side new core) before mid)
+    (may : IsStepOfWork going.setting (told_now b.events (transcript_of before)) number
     (progress_of worker) made) where
   abbrev pub t : Transcript
   t = transcript_of before
@@ -179,20 +185,23 @@ module _ (b : Beginning) (clock : ℕ) (store : StoreSide) (worker new : State) 
   abbrev pub boot : ℕ
   boot = b.first + 1
 
+  abbrev pub so : IsSoFar b going.base store.core t number worker
+  so = going.so_far.each number worker list.was
+
   abbrev pub so_far : Told
   so_far = told_now b.events t
 
   abbrev pub then_told : Told
-  then_told = told_after so_far (event.Work 0) made
+  then_told = told_after so_far (event.Work number) made
 
   -- the entry
   pub record EntryPart : Type 0 where
     pub entry : Option Committed
     pub history : mid.history.items ≡ before.history.items ++ listed entry
-    pub is_of : IsEntryOf b.events t (event.Work 0) made entry
+    pub is_of : IsEntryOf b.events t (event.Work number) made entry
 
   pub entry_of_one : (added : ℕ) (place : Seq) → made ≡ Some (step.Commit added (committing.Committed place))
-      → NotesProcedure boot clock (progress_of worker) place.0 before mid → EntryPart
+      → NotesProcedure boot number clock (progress_of worker) place.0 before mid → EntryPart
   entry_of_one added place made_is n = record {
     entry = Some n.committed;
     history = n.history;
@@ -203,7 +212,7 @@ module _ (b : Beginning) (clock : ℕ) (store : StoreSide) (worker new : State) 
           (step.Commit added (committing.Committed (record { 0 = at })))) n.next;
       job = n.job;
       begun = n.begun;
-      planned = ap (λ (w : ℕ). progress_now b.events t w) n.worker ∙ going.progress ∙ n.planned;
+      planned = ap (λ (w : ℕ). progress_now b.events t w) n.worker ∙ so.progress ∙ n.planned;
       ctx = n.ctx ∙ ap (λ (boot : ℕ). ctx_of boot n.job n.begun) (sym going.run.boot);
       call = n.call;
       event = n.event;
@@ -211,7 +220,7 @@ module _ (b : Beginning) (clock : ℕ) (store : StoreSide) (worker new : State) 
     };
   }
 
-  pub entry_part : Noting boot clock (progress_of worker) made before mid → EntryPart
+  pub entry_part : Noting boot number clock (progress_of worker) made before mid → EntryPart
   entry_part (with_one added place made_is n) = entry_of_one added place made_is n
   entry_part (with_none uncommitted no_commit same) = record {
     entry = None;
@@ -220,7 +229,7 @@ module _ (b : Beginning) (clock : ℕ) (store : StoreSide) (worker new : State) 
   }
 
   abbrev pub e : EntryPart
-  e = entry_part (noting boot clock (progress_of worker) made before mid notes.history)
+  e = entry_part (noting boot number clock (progress_of worker) made before mid notes.history)
 
   -- how far the worker is then
   broken_is : so_far.log.broken ≡ store.core.log.broken
@@ -228,29 +237,30 @@ module _ (b : Beginning) (clock : ℕ) (store : StoreSide) (worker new : State) 
 
   progress_by : (m : Option Step) → progress_of new ≡ progress_after store.core.log.broken m
       (progress_of worker)
-      → (told_after so_far (event.Work 0) m).workers 0 ≡ progress_of new
-  progress_by None is = going.progress ∙ sym is
-  progress_by (Some one) is = ap (λ (p : Progress). progressed so_far.log.broken one p) going.progress
+      → (told_after so_far (event.Work number) m).workers number ≡ progress_of new
+  progress_by None is = so.progress ∙ sym is
+  progress_by (Some one) is = own_moves so_far.workers number _
+      ∙ ap (λ (p : Progress). progressed so_far.log.broken one p) so.progress
       ∙ ap (λ (t : Bool). progressed t one (progress_of worker)) broken_is ∙ sym is
 
-  pub progress_then : then_told.workers 0 ≡ progress_of new
+  pub progress_then : then_told.workers number ≡ progress_of new
   progress_then = progress_by made notes.progress
 
   -- the answer
   abbrev ends_now : Bool
   ends_now = not (is_idle (progress_of worker)) && is_idle (progress_of new)
 
-  ends_is : ends so_far (event.Work 0) made ≡ ends_now
-  ends_is = λ i. not (is_idle (going.progress i)) && is_idle (progress_then i)
+  ends_is : ends so_far (event.Work number) made ≡ ends_now
+  ends_is = λ i. not (is_idle (so.progress i)) && is_idle (progress_then i)
 
   pub record AnswerPart : Type 0 where
     pub answer : Option Answer
     pub answers : mid.answers.items ≡ before.answers.items ++ listed answer
     pub is_of : (other : Transcript) → HasReplies other (entries_of (transcript_of mid))
-        → IsAnswerOf b.events t other (event.Work 0) made answer
+        → IsAnswerOf b.events t other (event.Work number) made answer
 
   pub answer_part : (now : Bool) → ends_now ≡ now
-      → NotesAnswers now clock (progress_of worker) made before mid → AnswerPart
+      → NotesAnswers now number clock (progress_of worker) made before mid → AnswerPart
   answer_part true is n = record {
     answer = Some n.answer;
     answers = n.answers;
@@ -258,7 +268,7 @@ module _ (b : Beginning) (clock : ℕ) (store : StoreSide) (worker new : State) 
       event_is = ap event.Work (sym n.worker);
       job = n.job;
       stage = n.stage;
-      so_far = ap (λ (w : ℕ). progress_now b.events t w) n.worker ∙ going.progress ∙ n.so_far;
+      so_far = ap (λ (w : ℕ). progress_now b.events t w) n.worker ∙ so.progress ∙ n.so_far;
       step = n.step;
       made_is = n.made_is;
       ends = ap (λ (w : ℕ). is_idle (then_told.workers w)) n.worker ∙ ap is_idle progress_then
@@ -291,16 +301,16 @@ module _ (b : Beginning) (clock : ℕ) (store : StoreSide) (worker new : State) 
   pub entries_are : entries_of (with_noted t noted) ≡ entries_of (transcript_of mid)
   entries_are = ap (map entry_of) (sym e.history)
 
-  tells : TellsOfEvent b.events t (event.Work 0) noted
+  tells : TellsOfEvent b.events t (event.Work number) noted
   tells = record {
     entry = e.is_of;
     answer = a.is_of (with_noted t noted) (has_replies (with_noted t noted) mid.history.items (sym e.history));
   }
 
-  taken : IsTaken o b.workers so_far (event.Work 0) made
+  taken : IsTaken o b.workers so_far (event.Work number) made
   taken = record {
-    own = λ one. subst (λ (p : Progress). IsStepOfWork o so_far 0 p made) (sym going.progress) may;
-    others = λ none. absurd (none (let alone = is_next.alone in omega (arith, alone)));
+    own = λ one. subst (λ (p : Progress). IsStepOfWork o so_far number p made) (sym so.progress) may;
+    others = λ none. absurd (none (is_there b store workers before number worker going list.was));
   }
 
   -- ---- the run with it
@@ -312,7 +322,7 @@ module _ (b : Beginning) (clock : ℕ) (store : StoreSide) (worker new : State) 
     pub next : Tree
     pub setting : later ≡ record o { blocks = later.blocks }
     pub blocks : (place : ℕ) → place ≤ length t.history → later.blocks place ≡ o.blocks place
-    pub running : IsRunningOver later going.base then_store (fetches_of new) boot b.tree
+    pub running : IsRunningOver later going.base then_store [] boot b.tree
         (entries_of (transcript_of mid)) next
     pub leads : leads_to b.tree (entries_of (transcript_of mid)) next
     pub files : (place : ℕ) → StandsAfter later.geometry b.tree (take place (entries_of (transcript_of mid)))
@@ -321,19 +331,19 @@ module _ (b : Beginning) (clock : ℕ) (store : StoreSide) (worker new : State) 
 
   module _ (left : Left e.entry) (told_then : IsTold o then_told then_store)
       (moved : calls_device made ≡ false → IsMovedBy store.device made store.device) where
-    pub goes : GoesOn b o t store noted left.later going.base then_store (fetches_of new) left.next
+    pub goes : GoesOn b o t store noted left.later going.base then_store [] left.next
     goes = record {
-      event = event.Work 0;
+      event = event.Work number;
       next = is_next.next;
       taken = taken;
       notes = tells;
-      device = moved (work_calls_nothing o so_far 0 (progress_of worker) made may);
+      device = moved (work_calls_nothing o so_far number (progress_of worker) made may);
       does = does_nothing so_far.log.log_call so_far.log.inst_call made (current store.device)
-          (current store.device) (work_calls_nothing o so_far 0 (progress_of worker) made may)
+          (current store.device) (work_calls_nothing o so_far number (progress_of worker) made may)
           (λ block. refl);
       same = left.setting;
       blocks = left.blocks;
-      running = subst (λ (es : List Entry). IsRunningOver left.later going.base then_store (fetches_of new)
+      running = subst (λ (es : List Entry). IsRunningOver left.later going.base then_store []
           boot b.tree es left.next) (sym entries_are) left.running;
       told = record {
         log = told_then.log
@@ -347,35 +357,46 @@ module _ (b : Beginning) (clock : ℕ) (store : StoreSide) (worker new : State) 
       changes = left.changes;
     }
 
-    pub goes_on : IsRun b left.later (with_noted t noted) going.base then_store (fetches_of new) left.next
-        → told_now b.events (with_noted t noted) ≡ then_told → IsCoreAtWork new core
-        → IsGoing b then_store new after
-    goes_on run told_is at_work = goes_on_with b left.later going.base left.next then_store new
-        before after noted (event.Work 0) same run told_is
-        (subst (λ (es : List Entry). IsWorkerAt boot es new) (sym entries_are) notes.stands)
-        at_work progress_then
+    pub goes_on : IsRun b left.later (with_noted t noted) going.base then_store [] left.next
+        → told_now b.events (with_noted t noted) ≡ then_told
+        → AllWillStand b going.base core t (event.Work number) noted all_then → IsGoing b then_store all_then after
+    goes_on run told_is stand = goes_on_with b left.later going.base left.next then_store all_then
+        before after noted (event.Work number) same run told_is stand
+
+  -- the others
+  others_then : (m : Option Step) (other : ℕ) → (other ≡ number → ⊥)
+      → (told_after so_far (event.Work number) m).workers other ≡ so_far.workers other
+  others_then None other differs = refl
+  others_then (Some one) other differs = others_stay so_far.workers number other _ differs
+
+  -- and all workers, where this one is at work on the core, and fetches nothing
+  pub stand : LeavesOthers (side worker store.core) (side new core) → core.log.blocks ≡ store.core.log.blocks
+      → core.inodes ≡ store.core.inodes → IsAtWork new core → All (IsFetchOver going.base core) (fetches_of new)
+      → AllWillStand b going.base core t (event.Work number) noted all_then
+  stand left blocks inodes at_work fetched =
+      all_stand b going.base (side worker store.core) (side new core) t (event.Work number) noted number workers all_then
+      going.so_far list left blocks inodes (others_then made) (record {
+        stands = subst (λ (es : List Entry). IsWorkerAt boot es new) (sym entries_are) notes.stands;
+        at_work = at_work;
+        progress = progress_then;
+        fetched = fetched;
+      })
 
   -- ---- what it leaves, with a place and without
   module _ (state_is : new ≡ told worked.state) where
     abbrev step_to : Side
     step_to = side worked.state core
 
-    same_fetches : fetches_of new ≡ fetches_of worked.state
-    same_fetches = ap fetches_of state_is
-
     beside : has_committed made ≡ false → mid.history.items ≡ before.history.items
-        → IsRunningOver o going.base then_store (fetches_of worked.state) boot b.tree (entries_of t)
+        → IsRunningOver o going.base then_store [] boot b.tree (entries_of t)
         going.last → Left None
     beside uncommitted history running = record {
       later = o;
       next = going.last;
       setting = refl;
       blocks = λ place within. refl;
-      running = subst (λ fetches. IsRunningOver o going.base then_store fetches boot b.tree
-          (entries_of (transcript_of mid)) going.last) (sym same_fetches)
-          (subst (λ (cs : List Committed). IsRunningOver o going.base then_store
-          (fetches_of worked.state) boot b.tree
-          (map entry_of cs) going.last) (sym history) running);
+      running = subst (λ (cs : List Committed). IsRunningOver o going.base then_store [] boot b.tree
+          (map entry_of cs) going.last) (sym history) running;
       leads = subst (λ (cs : List Committed). leads_to b.tree (map entry_of cs) going.last) (sym history)
           going.run.leads;
       files = λ place. subst (λ (cs : List Committed). StandsAfter o.geometry b.tree
@@ -383,35 +404,35 @@ module _ (b : Beginning) (clock : ℕ) (store : StoreSide) (worker new : State) 
       changes = tt;
     }
 
-    module _ (goes_with : GoesOnWith o going.base store step_to boot 0 b.tree (entries_of t) going.last
+    module _ (goes_with : GoesOnWith o going.base store step_to boot number b.tree (entries_of t) going.last
         (side worker store.core))
         (has_files : HasFileBlocks going.base core goes_with.left)
         (one_geometry : (g h : Geometry) → g.blocks ≡ h.blocks → g.inodes ≡ h.inodes → g ≡ h)
         (before_it : o.blocks (length t.history) ≡ file_blocks going.base store.core) where
       abbrev entry : Entry
-      entry = entry_by 0 goes_with.taken.entry
+      entry = entry_by number goes_with.taken.entry
 
       abbrev now : Image
       now = file_blocks going.base core
 
-      abbrev later : Setting
-      later = with_blocks o (length (entries_of t)) now
+      abbrev then_set : Setting
+      then_set = with_blocks o (length (entries_of t)) now
 
       history_is : mid.history.items ≡ before.history.items
-          ++ entries_told 0 (length before.steps.items) clock (Some goes_with.taken.entry)
+          ++ entries_told number (length before.steps.items) clock (Some goes_with.taken.entry)
       history_is = worked.tells.history
-          ∙ ap (λ ready. before.history.items ++ entries_told 0 (length before.steps.items) clock ready)
+          ∙ ap (λ ready. before.history.items ++ entries_told number (length before.steps.items) clock ready)
           goes_with.taken.ready
 
       entries_then : entries_of (transcript_of mid) ≡ entries_of t ++ entry ∷ []
       entries_then = ap (map entry_of) history_is ∙ map-append entry_of before.history.items
-          (entries_told 0 (length before.steps.items) clock (Some goes_with.taken.entry))
+          (entries_told number (length before.steps.items) clock (Some goes_with.taken.entry))
 
-      early : (place : ℕ) → place ≤ length (entries_of t) → later.blocks place ≡ o.blocks place
+      early : (place : ℕ) → place ≤ length (entries_of t) → then_set.blocks place ≡ o.blocks place
       early place few = ap (λ (t : Bool). if t then o.blocks place else now)
           (le-leb place (length (entries_of t)) few)
 
-      late : (place : ℕ) → length (entries_of t) < place → later.blocks place ≡ now
+      late : (place : ℕ) → length (entries_of t) < place → then_set.blocks place ≡ now
       late place many = ap (λ (t : Bool). if t then o.blocks place else now)
           (lt-leb place (length (entries_of t)) many)
 
@@ -424,7 +445,7 @@ module _ (b : Beginning) (clock : ℕ) (store : StoreSide) (worker new : State) 
           (has_files.inodes ∙ sym goes_with.runs.inodes)) has_files.stands
 
       files_by : (place : ℕ) (few : Bool) → nat_le place (length (entries_of t)) ≡ few
-          → StandsAfter o.geometry b.tree (take place (entries_of t ++ entry ∷ [])) (later.blocks place)
+          → StandsAfter o.geometry b.tree (take place (entries_of t ++ entry ∷ [])) (then_set.blocks place)
       files_by place true is =
           let within = leb-true place (length (entries_of t)) is in
           let had = going.run.files place in
@@ -458,8 +479,8 @@ module _ (b : Beginning) (clock : ℕ) (store : StoreSide) (worker new : State) 
       others j begun planned (Some seen) is own =
           let has = planned_has worker j begun planned in
           let had = going.run.files (length t.history) in
-          let had_well : AreTakenBy o.geometry begun = subst (HasTakenWell o.geometry) (going.progress ∙ planned)
-          (taken_well o b.workers b.events t.steps going.run.well.taken (length t.steps) 0) in
+          let had_well : AreTakenBy o.geometry begun = subst (HasTakenWell o.geometry) (so.progress ∙ planned)
+          (taken_well o b.workers b.events t.steps going.run.well.taken (length t.steps) number) in
           subst (λ (image : Image). KeepsOthers b.opened.size begun (file_blocks going.base store.core) image)
           (sym goes_with.writes)
           (keeps_others o.geometry b.opened.size begun seen (file_blocks going.base store.core)
@@ -468,50 +489,48 @@ module _ (b : Beginning) (clock : ℕ) (store : StoreSide) (worker new : State) 
           (λ block within. subst (λ (image : Image). length (image block) ≡ BLOCK_BYTES) before_it
           (had.stands.bytes block (let same = going.run.geometry.blocks in omega (arith, within, same))).0))
 
-      changes : (committed : Committed) (j : Job) (begun : Begun) → committed.worker ≡ 0
+      changes : (committed : Committed) (j : Job) (begun : Begun) → committed.worker ≡ number
           → progress_of worker ≡ At j (Planning begun)
-          → ChangesOwn b.opened.size b.events t later.blocks committed
+          → ChangesOwn b.opened.size b.events t then_set.blocks committed
       changes committed j begun worker_is planned = record {
         job = j;
         begun = begun;
-        planned = ap (λ (w : ℕ). progress_now b.events t w) worker_is ∙ going.progress ∙ planned;
+        planned = ap (λ (w : ℕ). progress_now b.events t w) worker_is ∙ so.progress ∙ planned;
         others = subst (λ (next : Image). KeepsOthers b.opened.size begun
-            (later.blocks (length t.history)) next)
+            (then_set.blocks (length t.history)) next)
             (sym (late (length t.history + 1) (let same = counted in omega (arith, same))))
             (subst (λ (here : Image). KeepsOthers b.opened.size begun here now)
             (sym (early (length t.history) (let same = counted in omega (arith, same)) ∙ before_it))
             (others j begun planned (seen_in worker.work.snap) refl goes_with.taken.own));
       }
 
-      pub committed : (n : Committed) → ChangesOwn b.opened.size b.events t later.blocks n → Left (Some n)
+      pub committed : (n : Committed) → ChangesOwn b.opened.size b.events t then_set.blocks n → Left (Some n)
       committed n changed = record {
-        later = later;
+        later = then_set;
         next = goes_with.left;
         setting = refl;
         blocks = λ place within. early place (let long = length-map before.history.items entry_of in
             omega (arith, within, long));
-        running = subst (λ fetches. IsRunningOver later going.base then_store fetches boot b.tree
-            (entries_of (transcript_of mid)) goes_with.left) (sym same_fetches)
-            (subst (λ (es : List Entry). IsRunningOver later going.base then_store (fetches_of worked.state)
-            boot b.tree es
-            goes_with.left) (sym entries_then) goes_with.runs);
+        running = subst (λ (es : List Entry). IsRunningOver then_set going.base then_store [] boot b.tree es
+            goes_with.left) (sym entries_then)
+            (with_fetches then_set going.base then_store (fetches_of worked.state) [] boot b.tree goes_with.left
+            (entries_of t ++ entry ∷ []) goes_with.runs (All-nil (IsFetchOver going.base core)));
         leads = subst (λ (es : List Entry). leads_to b.tree es goes_with.left) (sym entries_then) leads;
         files = λ place. subst (λ (es : List Entry). StandsAfter o.geometry b.tree (take place es)
-            (later.blocks place)) (sym entries_then)
+            (then_set.blocks place)) (sym entries_then)
             (files_by place (nat_le place (length (entries_of t))) refl);
         changes = changed;
       }
 
     -- by whether it took a place
     pub left_by : (has_committed made ≡ false
-        → IsRunningOver o going.base then_store (fetches_of worked.state) boot b.tree
-        (entries_of t) going.last)
+        → IsRunningOver o going.base then_store [] boot b.tree (entries_of t) going.last)
         → (has_committed made ≡ true →
-        (goes : GoesOnWith o going.base store step_to boot 0 b.tree (entries_of t) going.last
+        (goes : GoesOnWith o going.base store step_to boot number b.tree (entries_of t) going.last
         (side worker store.core)) × HasFileBlocks going.base core goes.left)
         → ((g h : Geometry) → g.blocks ≡ h.blocks → g.inodes ≡ h.inodes → g ≡ h)
         → o.blocks (length t.history) ≡ file_blocks going.base store.core
-        → (n : Noting boot clock (progress_of worker) made before mid) → Left (entry_part n).entry
+        → (n : Noting boot number clock (progress_of worker) made before mid) → Left (entry_part n).entry
     unfolding entry_part entry_of_one
     left_by still took one_geometry before_it (with_one added place made_is n) =
         let goes = took (ap has_committed made_is) in

@@ -11,6 +11,10 @@ pub mod GoingCall
 pub mod GoingOn
 pub mod GoingRead
 pub mod GoingWork
+pub mod KeptOff
+pub mod MovesOne
 pub mod OwnChanges
 pub mod RunTaken
+pub mod StayBeside
+pub mod StaysWithin
 pub mod WholeRun

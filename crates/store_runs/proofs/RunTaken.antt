@@ -9,13 +9,11 @@ use Rattle.store_promise.specs.declared.events.Step.{Step}
 use Rattle.store_promise.specs.declared.transcript.Run.{Run}
 use Rattle.store_promise.specs.FailedCalls.{one_if}
 use Rattle.store_promise.specs.Running.{IsMovedBy, StoreSide}
-use Rattle.store_promise.specs.Transcript.{Transcript, calls_device, entries_of, transcript_of}
-use Rattle.run_law.specs.Noting.{clock_now, progress_now}
+use Rattle.store_promise.specs.Transcript.{Transcript, calls_device, transcript_of}
+use Rattle.run_law.specs.Noting.{clock_now}
 use Rattle.run_law.specs.Run.{Beginning, IsRun}
 use Rattle.run_law.proofs.Stops.{clock_is}
-use Rattle.store_runs.specs.AtWork.{fetches_of}
-use Rattle.store_runs.specs.Going.{IsGoing, IsRunAt, RunSide}
-use Rattle.store_workers.specs.Stages.{IsWorkerAt}
+use Rattle.store_runs.specs.Going.{AreSoFar, IsGoing, IsRunAt, RunSide}
 use Rattle.store_runs.specs.Running.{counted, one_more}
 use Rattle.store_workers.specs.Worker.{Fits, GoesWith}
 use Rattle.store_workers.specs.declared.workers.Worker.{Worker}
@@ -33,25 +31,25 @@ pub has_contents : (d : Device) → AreBlocks d → HasContents d
 has_contents d blocks block within = blocks.some d.clock block (omega arith) within
 
 -- the clock counts the calls
-calls_are : (b : Beginning) (store : StoreSide) (worker : State) (clock : ℕ) (told : Run)
-    → IsRunAt b (record { store = store; worker = worker; clock = clock }) told
+calls_are : (b : Beginning) (store : StoreSide) (workers : List State) (clock : ℕ) (told : Run)
+    → IsRunAt b (record { store = store; workers = workers; clock = clock }) told
     → clock ≡ count_by calls_device told.steps.items
-calls_are b store worker clock told at =
+calls_are b store workers clock told at =
     let moved = at.going.run.moved.calls in
     let is = at.clock in
     omega (arith, moved, is)
 
-pub clock_told : (b : Beginning) (store : StoreSide) (worker : State) (clock : ℕ) (told : Run)
-    → IsRunAt b (record { store = store; worker = worker; clock = clock }) told
+pub clock_told : (b : Beginning) (store : StoreSide) (workers : List State) (clock : ℕ) (told : Run)
+    → IsRunAt b (record { store = store; workers = workers; clock = clock }) told
     → clock ≡ clock_now (transcript_of told)
-clock_told b store worker clock told at =
-    calls_are b store worker clock told at ∙ sym (clock_is (transcript_of told))
+clock_told b store workers clock told at =
+    calls_are b store workers clock told at ∙ sym (clock_is (transcript_of told))
 
-few_calls : (b : Beginning) (store : StoreSide) (worker : State) (clock : ℕ) (told : Run)
-    → IsRunAt b (record { store = store; worker = worker; clock = clock }) told
+few_calls : (b : Beginning) (store : StoreSide) (workers : List State) (clock : ℕ) (told : Run)
+    → IsRunAt b (record { store = store; workers = workers; clock = clock }) told
     → length told.steps.items + 1 < 2 ^ 64 → clock + 1 ≤ 2 ^ 64 - 1
-few_calls b store worker clock told at few =
-    let is = calls_are b store worker clock told at in
+few_calls b store workers clock told at few =
+    let is = calls_are b store workers clock told at in
     let within = count_by-le-length calls_device told.steps.items in
     omega (arith, is, within, few)
 
@@ -67,44 +65,44 @@ counted_is clock made few = by_call (calls_device made)
     by_call false = omega arith
 
 -- with an event that may be a call of the device
-pub taken_on : (b : Beginning) (old new : StoreSide) (worker later : State) (clock next : ℕ)
+pub taken_on : (b : Beginning) (old new : StoreSide) (workers later : List State) (clock next : ℕ)
     (made : Option Step) (before after : Run)
-    → IsRunAt b (record { store = old; worker = worker; clock = clock }) before
+    → IsRunAt b (record { store = old; workers = workers; clock = clock }) before
     → length before.steps.items + 1 < 2 ^ 64 → next ≡ counted clock made → IsMovedBy old.device made new.device
-    → IsGoing b new later after → IsRunAt b (record { store = new; worker = later; clock = next }) after
-taken_on b old new worker later clock next made before after at few next_is moved going = record {
+    → IsGoing b new later after → IsRunAt b (record { store = new; workers = later; clock = next }) after
+taken_on b old new workers later clock next made before after at few next_is moved going = record {
   going = going;
   clock =
       let was = at.clock in
       let calls = moved.calls in
-      let is = next_is ∙ counted_is clock made (few_calls b old worker clock before at few) in
+      let is = next_is ∙ counted_is clock made (few_calls b old workers clock before at few) in
       omega (arith, was, calls, is);
 }
 
 -- so it is by the steps that were told
-pub read_on : (b : Beginning) (old new : StoreSide) (worker later : State) (clock next : ℕ) (made : Option Step)
-    (before after : Run) → IsRunAt b (record { store = old; worker = worker; clock = clock }) before
+pub read_on : (b : Beginning) (old new : StoreSide) (workers later : List State) (clock next : ℕ) (made : Option Step)
+    (before after : Run) → IsRunAt b (record { store = old; workers = workers; clock = clock }) before
     → length before.steps.items + 1 < 2 ^ 64 → next ≡ counted clock made
     → after.steps.items ≡ before.steps.items ++ made ∷ []
-    → IsGoing b new later after → IsRunAt b (record { store = new; worker = later; clock = next }) after
-read_on b old new worker later clock next made before after at few next_is steps going = record {
+    → IsGoing b new later after → IsRunAt b (record { store = new; workers = later; clock = next }) after
+read_on b old new workers later clock next made before after at few next_is steps going = record {
   going = going;
   clock =
-      let was = calls_are b old worker clock before at in
+      let was = calls_are b old workers clock before at in
       let calls = going.run.moved.calls in
-      let is = next_is ∙ counted_is clock made (few_calls b old worker clock before at few) in
+      let is = next_is ∙ counted_is clock made (few_calls b old workers clock before at few) in
       let count = ap (λ (xs : List (Option Step)). count_by calls_device xs) steps
       ∙ sum_by_push (λ one. one_if (calls_device one)) before.steps.items made in
       omega (arith, was, calls, is, count);
 }
 
 -- with one that is none
-pub worked_on : (b : Beginning) (old new : StoreSide) (worker later : State) (clock next : ℕ)
+pub worked_on : (b : Beginning) (old new : StoreSide) (workers later : List State) (clock next : ℕ)
     (before after : Run)
-    → IsRunAt b (record { store = old; worker = worker; clock = clock }) before → next ≡ clock
+    → IsRunAt b (record { store = old; workers = workers; clock = clock }) before → next ≡ clock
     → new.device ≡ old.device → IsGoing b new later after
-    → IsRunAt b (record { store = new; worker = later; clock = next }) after
-worked_on b old new worker later clock next before after at next_is same going = record {
+    → IsRunAt b (record { store = new; workers = later; clock = next }) after
+worked_on b old new workers later clock next before after at next_is same going = record {
   going = going;
   clock =
       let was = at.clock in
@@ -120,12 +118,10 @@ untold b run before after same at = record {
     setting = at.going.setting;
     base = at.going.base;
     last = at.going.last;
-    run = subst (λ (t : Transcript). IsRun b at.going.setting t at.going.base run.store (fetches_of run.worker)
-        at.going.last) (sym same) at.going.run;
-    stands = subst (λ (t : Transcript). IsWorkerAt (b.first + 1) (entries_of t) run.worker) (sym same)
-        at.going.stands;
-    at_work = at.going.at_work;
-    progress = ap (λ (t : Transcript). progress_now b.events t 0) same ∙ at.going.progress;
+    run = subst (λ (t : Transcript). IsRun b at.going.setting t at.going.base run.store [] at.going.last)
+        (sym same) at.going.run;
+    so_far = subst (λ (t : Transcript). AreSoFar b at.going.base run.store.core t run.workers) (sym same)
+        at.going.so_far;
   };
   clock = at.clock;
 }

@@ -1,5 +1,5 @@
--- What the steps of a worker that is alone rest on: the blocks that were fetched for its transaction, and
--- those that stand for the files after each place.
+-- What the steps of a worker rest on: the blocks that were fetched for its transaction, and those that stand for
+-- the files after each place.
 use Rattle.std.specs.Prelude.{◌≡◌, ◌⊎◌, ℕ, ◌+◌, ◌++◌, ◌∷◌, Bool, true, false, Option, Some, is_some, IsSomeAnd}
 use Rattle.std.specs.Prelude.{List, [], All, length, option_to_list}
 use Rattle.disk.specs.Crash.{Image}
@@ -25,8 +25,9 @@ use Rattle.store_promise.specs.declared.answers.Entry.{Entry}
 use Rattle.store_promise.specs.declared.events.Committing.TheVariants as committing
 use Rattle.store_promise.specs.declared.events.Step.{Step}
 use Rattle.store_promise.specs.declared.events.Step.TheVariants as step
-use Rattle.store_workers.specs.Alone.{IsAlone}
+use Rattle.store_workers.specs.Alone.{IsAlone, PlansAlone}
 use Rattle.store_workers.specs.Asked.{Asking}
+use Rattle.store_workers.specs.Beside.{NotesAll}
 use Rattle.store_workers.specs.Knowing.{Knowing}
 use Rattle.store_workers.specs.Seen.{Seen, seen_in}
 use Rattle.store_workers.specs.Worker.{GoesWith}
@@ -97,6 +98,15 @@ pub record IsCoreAtWork (worker : State) (core : CoreState) : Type 0 where
   pub with : GoesWith worker core
   pub alone : IsAlone worker core
   pub loads : Loads worker core
+
+-- A core and one of its workers, beside which others may have some of it: it fits the worker, the worker has of
+-- its call what it has taken, each object of that is in memory while it goes by its plans, and all that its
+-- transaction has taken is noted.
+pub record IsAtWork (worker : State) (core : CoreState) : Type 0 where
+  pub with : GoesWith worker core
+  pub plans : PlansAlone worker.phase worker core
+  pub loads : Loads worker core
+  pub notes : NotesAll worker core
 
 -- a fetch that was made well, and isn't given back yet
 abbrev pub fetches_in : Phase → Option Fetch → List Fetch

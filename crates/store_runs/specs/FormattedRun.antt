@@ -29,10 +29,9 @@ pub record IsNewDevice (blocks : ℕ) (d : Device) : Type 0 where
   pub failures : d.failures ≡ 0
   pub rest : IsAtRest d
 
--- A fresh image with these counts was made on a new device at this moment. So a run of one worker may stand
--- on it, with the root alone as its tree; these events were taken on it, and the run was answered as it
--- promises.
-pub record HasRunOnMade (blocks inodes : ℕ) (made : Moment) (events : Schedule) (later : Device)
+-- A fresh image with these counts was made on a new device at this moment. So a run may stand on it, with the
+-- root alone as its tree; so many workers took these events on it, and the run was answered as it promises.
+pub record HasRunOnMade (blocks inodes : ℕ) (made : Moment) (workers : ℕ) (events : Schedule) (later : Device)
     (answer : Result Run OpenFault) : Type 0 where
   pub empty : Device
   pub is_new : IsNewDevice blocks empty
@@ -42,8 +41,9 @@ pub record HasRunOnMade (blocks inodes : ℕ) (made : Moment) (events : Schedule
   pub blocks_are : geometry.blocks ≡ blocks
   pub inodes_are : geometry.inodes ≡ inodes
   pub formatted : IsFormatted empty before geometry made
-  pub may : MayRun (Unit {0}) before (format_tree (geometry_of geometry) made) 0 1 events
-  pub answered : IsAnswered before later (format_tree (geometry_of geometry) made) 0 1 events (answer_of answer)
+  pub may : MayRun (Unit {0}) before (format_tree (geometry_of geometry) made) 0 events
+  pub answered : IsAnswered before later (format_tree (geometry_of geometry) made) 0 workers events
+      (answer_of answer)
 
 -- why no image is made on a device in memory
 abbrev pub IsNotMade : FormatFault → ℕ → ℕ → Type 0

@@ -1,5 +1,5 @@
 -- What holds of a run between two events, as the code has it.
-use Rattle.std.specs.Prelude.{◌≡◌, ℕ, ◌+◌, ◌++◌, ◌∷◌, [], Option, Some, length, slice_get}
+use Rattle.std.specs.Prelude.{◌≡◌, ℕ, ◌+◌, ◌++◌, ◌∷◌, [], All, List, Option, Some, length, slice_get}
 use Rattle.disk.specs.Crash.{Image}
 use Rattle.disk.specs.Device.{Device}
 use Rattle.model.specs.Tree.{Tree}
@@ -8,15 +8,16 @@ use Rattle.store_promise.specs.declared.events.Event.TheVariants as event
 use Rattle.store_promise.specs.declared.events.Step.{Step}
 use Rattle.store_promise.specs.declared.transcript.Run.{Run}
 use Rattle.store_promise.specs.LogTold.{LogTold}
-use Rattle.store_promise.specs.Running.{StoreSide}
+use Rattle.store_promise.specs.Running.{IsFetchOver, StoreSide}
 use Rattle.store_promise.specs.Headline.{MayRun}
 use Rattle.store_promise.specs.Schedule.{Schedule, Setting, SoundEvent}
-use Rattle.store_promise.specs.Transcript.{entries_of, transcript_of}
+use Rattle.store_promise.specs.Transcript.{Transcript, entries_of, transcript_of}
 use Rattle.run_law.specs.Noting.{progress_now}
 use Rattle.run_law.specs.Run.{Beginning, IsRun}
-use Rattle.store_runs.specs.AtWork.{IsCoreAtWork, fetches_of}
+use Rattle.store_runs.specs.AtWork.{IsAtWork, fetches_of}
 use Rattle.store_images.specs.LogSide.{MayInstIo, MayInstall, MayLog, MayLogIo}
-use Rattle.store_runs.specs.Running.{side_of}
+use Rattle.store_runs.specs.Running.{side_of, states_of}
+use Rattle.store_workers.specs.Beside.{IsOneOf, ShareCore}
 use Rattle.store_workers.specs.Stages.{IsWorkerAt, progress_of}
 use Rattle.store_workers.specs.Worker.{GoesWith}
 use Rattle.store_workers.specs.WorkerSteps.{KeepsHomeOf, KeepsReadsOf, Side}
@@ -24,22 +25,36 @@ use Rattle.wal_law.specs.Log.{IsLawful}
 use Rattle.txn_law.specs.Core.{CoreState}
 use Rattle.txn_law.specs.Tidy.{AreTidy}
 use Rattle.store_runs.specs.declared.runs.running.Calls.{Calls}
+use Rattle.store_workers.specs.declared.workers.Worker.{Worker}
 use Rattle.store_workers.specs.declared.workers.parts.State.{State}
 
--- A run goes on, of one worker: it is one so far, and the worker stands where its steps have told, at work on
--- the core.
-pub record IsGoing (b : Beginning) (store : StoreSide) (worker : State) (told : Run) : Type 0 where
+-- The worker of a number stands where its steps have told, at work on the core, and what it has read and hasn't
+-- given back is what is at home.
+pub record IsSoFar (b : Beginning) (base : Image) (core : CoreState) (t : Transcript) (number : ℕ)
+    (worker : State) : Type 0 where
+  pub stands : IsWorkerAt (b.first + 1) (entries_of t) worker
+  pub at_work : IsAtWork worker core
+  pub progress : progress_now b.events t number ≡ progress_of worker
+  pub fetched : All (IsFetchOver base core) (fetches_of worker)
+
+-- so does each of them, as many as there are, and they share the core
+pub record AreSoFar (b : Beginning) (base : Image) (core : CoreState) (t : Transcript) (workers : List State)
+    : Type 0 where
+  pub count : length workers ≡ b.workers
+  pub each : (number : ℕ) (worker : State) → IsOneOf workers number worker
+      → IsSoFar b base core t number worker
+  pub share : ShareCore core workers
+
+-- A run goes on: it is one so far, and so are its workers.
+pub record IsGoing (b : Beginning) (store : StoreSide) (workers : List State) (told : Run) : Type 0 where
   pub setting : Setting
   pub base : Image
   pub last : Tree
-  pub run : IsRun b setting (transcript_of told) base store (fetches_of worker) last
-  pub stands : IsWorkerAt (b.first + 1) (entries_of (transcript_of told)) worker
-  pub at_work : IsCoreAtWork worker store.core
-  pub progress : progress_now b.events (transcript_of told) 0 ≡ progress_of worker
+  pub run : IsRun b setting (transcript_of told) base store [] last
+  pub so_far : AreSoFar b base store.core (transcript_of told) workers
 
 -- this event is next, and a call that can be spelled
 pub record IsNextEvent (b : Beginning) (now : Event) (told : Run) : Type 0 where
-  pub alone : b.workers ≡ 1
   pub next : slice_get b.events (length told.steps.items) ≡ Some now
   pub sound : SoundEvent now
 
@@ -66,24 +81,24 @@ pub record KeepsCore (old new : Side) : Type 0 where
   pub reads : KeepsReadsOf old new
   pub lawful : IsLawful new.core.log
   pub tidy : AreTidy new.core
-  pub with : GoesWith new.worker new.core
+  pub with : GoesWith old.worker old.core → GoesWith new.worker new.core
 
 -- ---- with its clock
 
--- the device and the core with the calls that are out, the worker, and how many device calls the events have
+-- the device and the core with the calls that are out, the workers, and how many device calls the events have
 -- made
 pub record RunSide : Type 0 where
   pub store : StoreSide
-  pub worker : State
+  pub workers : List State
   pub clock : ℕ
 
-abbrev pub run_side : Device → CoreState → Calls → State → ℕ → RunSide
-run_side device core calls worker clock =
-    record { store = side_of device core calls; worker = worker; clock = clock }
+abbrev pub run_side : Device → CoreState → Calls → List Worker → ℕ → RunSide
+run_side device core calls workers clock =
+    record { store = side_of device core calls; workers = states_of workers; clock = clock }
 
 -- a run goes on, whose clock has counted the calls since its opening
 pub record IsRunAt (b : Beginning) (run : RunSide) (told : Run) : Type 0 where
-  pub going : IsGoing b run.store run.worker told
+  pub going : IsGoing b run.store run.workers told
   pub clock : run.store.device.clock ≡ b.opened.clock + run.clock
 
 -- with this event it goes on, where the device keeps its model
@@ -91,24 +106,24 @@ abbrev pub LeavesGoing : Type 0 → Event → RunSide → Run → RunSide → Ru
 LeavesGoing keeps_model now old before new after =
     (b : Beginning) → keeps_model → IsNextEvent b now before → IsRunAt b old before → IsRunAt b new after
 
--- What a run stands on, of a device that was opened for it: one worker takes these events.
-abbrev pub begins : Device → Device → Tree → ℕ → Schedule → Beginning
-begins before opened tree first events = record {
+-- What a run stands on, of a device that was opened for it: so many workers take these events.
+abbrev pub begins : Device → Device → Tree → ℕ → ℕ → Schedule → Beginning
+begins before opened tree first workers events = record {
   before = before;
   opened = opened;
   tree = tree;
   first = first;
-  workers = 1;
+  workers = workers;
   events = events;
 }
 
 -- a run is on its way, from a device that held this tree
-pub record HasGone (before : Device) (tree : Tree) (first : ℕ) (events : Schedule) (run : RunSide) (told : Run)
+pub record HasGone (before : Device) (tree : Tree) (first workers : ℕ) (events : Schedule) (run : RunSide) (told : Run)
     : Type 0 where
   pub opened : Device
-  pub at : IsRunAt (begins before opened tree first events) run told
+  pub at : IsRunAt (begins before opened tree first workers events) run told
 
 -- so it is where the device held it, the calls of its events can be spelled, and the device keeps its model
-abbrev pub GoesOnWell : Type 0 → Device → Schedule → RunSide → Run → Type 0
-GoesOnWell keeps_model before events run told = (tree : Tree) (first : ℕ)
-    → MayRun keeps_model before tree first 1 events → HasGone before tree first events run told
+abbrev pub GoesOnWell : Type 0 → Device → ℕ → Schedule → RunSide → Run → Type 0
+GoesOnWell keeps_model before workers events run told = (tree : Tree) (first : ℕ)
+    → MayRun keeps_model before tree first events → HasGone before tree first workers events run told

@@ -1,5 +1,6 @@
 -- What is true of a run that goes on.
-use Rattle.std.specs.Prelude.{◌≡◌, ℕ, ◌+◌, ◌-◌, ◌^◌, Bool, Option, Some, None, IfSome, if◌then◌else◌, min}
+use Rattle.std.specs.Prelude.{◌≡◌, ℕ, ◌+◌, ◌-◌, ◌^◌, All, Bool, List, Option, Some, None, IfSome, if◌then◌else◌, map}
+use Rattle.std.specs.Prelude.{min}
 use Rattle.disk.specs.Device.{Device, current}
 use Rattle.txn.specs.Core.{CoreState}
 use Rattle.wal.specs.Io.{Io, IsCallWithin}
@@ -9,9 +10,11 @@ use Rattle.store_promise.specs.Running.{StoreSide}
 use Rattle.store_promise.specs.ToldOf.{call_told}
 use Rattle.store_promise.specs.Transcript.{calls_device}
 use Rattle.store_images.specs.LogSide.{pending_of}
-use Rattle.store_workers.specs.Worker.{Fits}
+use Rattle.store_workers.specs.Beside.{Replaces}
+use Rattle.store_workers.specs.Worker.{Fits, ReadsWithin, at_rest}
 use Rattle.store_runs.specs.declared.runs.running.Calls.{Calls}
 use Rattle.store_workers.specs.declared.workers.Worker.{Worker}
+use Rattle.store_workers.specs.declared.workers.parts.State.{State}
 
 -- a device and a core, with the calls that are out
 abbrev pub side_of : Device → CoreState → Calls → StoreSide
@@ -36,9 +39,29 @@ abbrev pub IsMadeOf : Option Io → Option Bool → Type 0
 IsMadeOf None made = made ≡ None
 IsMadeOf (Some io) made = Unit {0}
 
--- the worker fits the core, and what is out goes to blocks of the image
-pub record RunsWell (worker : Worker) (core : CoreState) (calls : Calls) : Type 0 where
-  pub fits : Fits worker core
+-- the states of workers
+abbrev pub states_of : List Worker → List State
+states_of workers = map (λ (worker : Worker). worker.state) workers
+
+-- it has done nothing yet
+abbrev pub IsAtRest : ℕ → Worker → Type 0
+IsAtRest boot worker = worker.state ≡ at_rest boot
+
+-- it fits each core that it fitted
+abbrev pub KeepsFits : Worker → Worker → Type 0
+KeepsFits old new = (core : CoreState) → Fits old core → Fits new core
+
+-- One of the workers did this, and is another now; the others are as they were.
+pub record MovesOne (workers : List Worker) (number : ℕ) (Does : Worker → Worker → Type 0) (later : List Worker)
+    : Type 0 where
+  pub old : Worker
+  pub new : Worker
+  pub list : Replaces (states_of workers) number old.state new.state (states_of later)
+  pub does : Does old new
+
+-- what workers read, and what is out, goes to blocks of the image
+pub record RunsWell (workers : List Worker) (core : CoreState) (calls : Calls) : Type 0 where
+  pub reads : All (λ (worker : Worker). ReadsWithin core.log.blocks worker.state) workers
   pub log_within : IsWithin core.log.blocks calls.log
   pub inst_within : IsWithin core.log.blocks calls.inst
   pub log_made_is : IsMadeOf calls.log calls.log_made

@@ -1,5 +1,5 @@
-//! Laws on a worker that is alone in its store: what was fetched for its transaction stays until it ends, and
-//! each of its steps is one that may be made, and leaves the run going.
+//! Laws on a worker: what was fetched for its transaction stays until it ends, each of its steps is one that may be
+//! made, and leaves the run going.
 ghost use Rattle.std.specs.Prelude.{◌≡◌, ◌≤◌, ◌+◌, ◌++◌, ◌∷◌, ℕ, Bool, [], List, Option, Some, length, false};
 ghost use Rattle.std.specs.Prelude.{true};
 ghost use Rattle.disk.specs.Crash.{Image};
@@ -126,14 +126,14 @@ pub fn a_worker_leaves_the_run_going()
 /// they are.
 pub fn a_call_leaves_the_run_going()
     ensures core { (ctx : Ctx) (call : Call) (old new : State) (made : Option Step) (core : CoreState)
-        → TakesCall 0 ctx call old made new → IsCoreAtWork old core → GoesWith new core
+        → TakesCall ctx call old made new → IsCoreAtWork old core → GoesWith new core
         → IsCoreAtWork new core }
-    ensures told { (o : Setting) (told : Told) (credential : Credential) (moment : Moment)
+    ensures told { (o : Setting) (told : Told) (number : ℕ) (credential : Credential) (moment : Moment)
         (call : Call) (ctx : Ctx) (store : StoreSide) (old new : State) (made : Option Step)
-        → TakesCall 0 ctx call old made new
-        → IsTold o told store → IsTold o (told_after told (event.Call 0 credential moment call) made) store }
+        → TakesCall ctx call old made new
+        → IsTold o told store → IsTold o (told_after told (event.Call number credential moment call) made) store }
     ensures fetches { (ctx : Ctx) (call : Call) (old new : State) (made : Option Step)
-        → TakesCall 0 ctx call old made new → fetches_of new ≡ fetches_of old }
+        → TakesCall ctx call old made new → fetches_of new ≡ fetches_of old }
 {}
 
 /// A read leaves the run going: what it brought is what is at home, until it is given back.

@@ -14,10 +14,10 @@ use std::alloc::Global;
 use store_images::{close, open};
 use store_promise::{Event, OpenFault, Run};
 
-/// Opens a store and takes events one by one, with one worker for now. An event that doesn't apply does
-/// nothing; each other makes one step. All events are taken, or fewer where there was no memory to tell of
-/// the next, which is noted. The disk comes back as the run left it. What it promises of a device that keeps its model is
-/// `promised`: it holds at each stop of the run, its opening included.
+/// Opens a store and takes events one by one, with so many workers. An event that doesn't apply does nothing; each
+/// other makes one step. All events are taken, or fewer where there was no memory to tell of the next, which is noted.
+/// The disk comes back as the run left it. What it promises of a device that keeps its model is `promised`: it holds
+/// at each stop of the run, its opening included.
 pub fn run<D: CrashDisk>(
     alloc: Global,
     disk: D,
@@ -35,12 +35,18 @@ pub fn run<D: CrashDisk>(
 {
     run_law::a_run_begins();
     run_law::a_run_keeps_its_promise();
+    let Ok(room) = Vec::with_capacity(alloc, workers) else {
+        return (disk, Err(OpenFault::NoMemory));
+    };
     let store = match open(alloc, disk) {
         Ok(store) => store,
-        Err((disk, fault)) => return (disk, Err(fault)),
+        Err((disk, fault)) => {
+            room.destroy_empty();
+            return (disk, Err(fault));
+        }
     };
     let mut run = Run::new(alloc, store.boot());
-    let mut running = Running::new(alloc, store);
+    let mut running = Running::new(alloc, store, workers, room);
     'events: for event in events {
         if !running.take(alloc, event, &mut run) {
             break;

@@ -70,13 +70,13 @@ takes_none boot entries state phase stands busy = by phase stands busy
 pub call_told : (boot : ℕ) (entries : List Entry) (credential : Credential) (moment : Moment) (call : Call)
     (old new : State) (made : Option Step) → SoundCall credential moment call
     → IsWorkerAt boot entries old
-    → TakesCall 0 (ctx_of credential moment old.boot) call old made new
+    → TakesCall (ctx_of credential moment old.boot) call old made new
     → TellsCall boot entries (record { credential = credential; moment = moment; call = call }) old made new
 call_told boot entries credential moment call old new (Some made) sound at takes = record {
   may = subst (λ p. IsStepOfCall (progress_in p old.work.job (begun_of old.begun.tx (seen_in old.work.snap)
-      old.known) old.asked old.known) (Some made)) (sym takes.2) (ap (λ m. Some m) takes.0);
-  progress = ap progress_of takes.3;
-  stands = subst (λ s. IsWorkerAt boot entries s) (sym takes.3) (record {
+      old.known) old.asked old.known) (Some made)) (sym takes.1) (ap (λ m. Some m) takes.0);
+  progress = ap progress_of takes.2;
+  stands = subst (λ s. IsWorkerAt boot entries s) (sym takes.2) (record {
     boot_is = at.boot_is;
     entry = at.entry;
     answer = at.answer;
@@ -84,7 +84,7 @@ call_told boot entries credential moment call old new (Some made) sound at takes
   });
 }
 call_told boot entries credential moment call old new None sound at takes = record {
-  may = takes_none boot entries old old.phase at.stands (λ idle. takes.1 (refl, idle));
+  may = takes_none boot entries old old.phase at.stands takes.1;
   progress = ap progress_of takes.0;
   stands = subst (λ s. IsWorkerAt boot entries s) (sym takes.0) at;
 }

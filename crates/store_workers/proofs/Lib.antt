@@ -11,3 +11,7 @@ pub mod WorkCases
 pub mod Placing
 pub mod LeavesNothing
 pub mod StillFits
+pub mod PlansStay
+pub mod LeavesOthers
+pub mod NotesAll
+pub mod ShareCore

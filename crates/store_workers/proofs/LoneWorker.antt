@@ -19,8 +19,9 @@ use Rattle.procs.specs.declared.next.Plan.TheVariants as plan
 use Rattle.inode.specs.declared.snap.Snap.{Snap}
 use Rattle.txn.specs.Claimed.{IsAmongRead, IsClaimedBy, IsClaimedObject}
 use Rattle.txn.specs.Commit.{IsOwn, IsReadBy}
-use Rattle.txn.specs.Core.{CoreState}
+use Rattle.txn.specs.Core.{CoreState, IsOut}
 use Rattle.txn.specs.Fetch.{Fetch}
+use Rattle.txn.specs.Leaves.{is_fetching}
 use Rattle.txn.specs.Object.{ObjectBytes}
 use Rattle.txn.specs.Outcomes.{IsClaimed, IsCommit, IsWanted}
 use Rattle.txn.specs.Tidy.{AreTidy}
@@ -119,6 +120,36 @@ has_so worker core job tx seen job_is tx_is seen_is has =
     (λ s. HasOfCall t core s)))
     (sym tx_is) (subst (λ (o : Option Seen). IsSomeAnd o (λ s. HasOfCall tx core s)) (sym seen_is) has))
 
+-- ---- a change
+
+-- The change that a plan ends in is its transaction's own, where no block that it writes is fetched.
+module _ (core : CoreState) (tx : ℕ) (snap : Snap) (tidy : AreTidy core) (out : IsOut core tx)
+    (has : HasOfCall tx core (seen_of snap)) (done : Outcome) (ends : EndsFrom snap done) where
+  pub was_read : All (IsReadBy core tx) done.read
+  was_read = subst (λ (os : List ObjectBytes). All (IsReadBy core tx) os) (sym ends.named.read) has.read
+
+  pub was_had : (object : ObjectBytes) → IsWritable snap object
+      → IsAmongRead done.read object ⊎ IsClaimedObject core tx object
+  was_had object (inl seen) =
+      let found = seen_there object.addr snap.objects.items seen in inl (
+        found.0,
+        subst (λ (os : List ObjectBytes). Contains os found.0) (sym ends.named.read) found.1,
+        found.2,
+      )
+  was_had object (inr claimed) = inr (
+    claimed_so (IsClaimedBy core tx) object.addr.block snap.claims.items has.claimed claimed.0,
+    claimed.1,
+  )
+
+  pub had : (object : ObjectBytes) → Contains done.written object
+      → IsAmongRead done.read object ⊎ IsClaimedObject core tx object
+  had object there = was_had object (All-contains (IsWritable snap) done.written object ends.writable there)
+
+  pub own_change : ((object : ObjectBytes) → Contains done.written object
+      → is_fetching core object.addr.block ≡ false) → IsOwn core tx (planned_of done)
+  own_change settled = is_own core tx tidy out (planned_of done) (ends.named.blocks ∙ has.blocks)
+      (ends.named.inodes ∙ has.inodes) was_read had has.exclusive settled
+
 -- ---- a plan
 
 module _ (core : CoreState) (tx : ℕ) (snap : Snap) (tidy : AreTidy core) (out : core.out ≡ tx ∷ [])
@@ -151,26 +182,9 @@ module _ (core : CoreState) (tx : ℕ) (snap : Snap) (tidy : AreTidy core) (out 
       absurd (never_loading core tx addr modes.Exclusive (none addr.block) is.1)
 
   module _ (done : Outcome) (ends : EndsFrom snap done) where
-    was_had : (object : ObjectBytes) → IsWritable snap object
-        → IsAmongRead done.read object ⊎ IsClaimedObject core tx object
-    was_had object (inl seen) =
-        let found = seen_there object.addr snap.objects.items seen in inl (
-          found.0,
-          subst (λ (os : List ObjectBytes). Contains os found.0) (sym ends.named.read) found.1,
-          found.2,
-        )
-    was_had object (inr claimed) = inr (
-      claimed_so (IsClaimedBy core tx) object.addr.block snap.claims.items has.claimed claimed.0,
-      claimed.1,
-    )
-
     own : IsOwn core tx (planned_of done)
-    own = is_own core tx tidy (alone_is_out core tx out) (planned_of done) (ends.named.blocks ∙ has.blocks)
-        (ends.named.inodes ∙ has.inodes) (subst (λ (os : List ObjectBytes). All (IsReadBy core tx) os)
-        (sym ends.named.read) has.read)
-        (λ object there. was_had object (All-contains (IsWritable snap) done.written object
-        ends.writable there))
-        has.exclusive (λ object there. none object.addr.block)
+    own = own_change core tx snap tidy (alone_is_out core tx out) has done ends
+        (λ object there. none object.addr.block)
 
     committed_well : (new : CoreState) (added : ℕ) (answer : Commit Outcome)
         → IsCommit core tx (planned_of done) done answer new

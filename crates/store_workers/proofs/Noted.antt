@@ -25,32 +25,32 @@ as_noted : (worker event clock : ℕ) (entry : Option ready.Entry)
 as_noted worker event clock None = refl
 as_noted worker event clock (Some entry) = refl
 
-module _ (boot clock : ℕ) (old : Side) (made : Option Step) (new : Side) (before after : Run)
+module _ (boot number clock : ℕ) (old : Side) (made : Option Step) (new : Side) (before after : Run)
     (at : IsWorkerAt boot (entries_of (transcript_of before)) old.worker)
     (places : old.core.log.places ≡ length before.history.items)
-    (has : HasWorked 0 clock old made new before after) where
-  tells : TellsStep boot 0 (entries_of (transcript_of before)) old made (side has.state new.core)
-  tells = step_tells boot 0 (entries_of (transcript_of before)) old (side has.state new.core) at
+    (has : HasWorked number clock old made new before after) where
+  tells : TellsStep boot number (entries_of (transcript_of before)) old made (side has.state new.core)
+  tells = step_tells boot number (entries_of (transcript_of before)) old (side has.state new.core) at
       (places ∙ sym (length-map before.history.items entry_of)) made has.goes
 
   noted_entries : entries_of (transcript_of after)
-      ≡ with_ready 0 (entries_of (transcript_of before)) has.state
+      ≡ with_ready number (entries_of (transcript_of before)) has.state
   noted_entries = ap (map entry_of) has.tells.history
       ∙ map-append entry_of before.history.items
-      (entries_told 0 (length before.steps.items) clock has.state.work.entry)
+      (entries_told number (length before.steps.items) clock has.state.work.entry)
       ∙ ap (λ more. map entry_of before.history.items ++ more)
-      (as_noted 0 (length before.steps.items) clock has.state.work.entry)
+      (as_noted number (length before.steps.items) clock has.state.work.entry)
 
   -- the history
   procedure : (place : ℕ) (entry : Option ready.Entry)
-      → after.history.items ≡ before.history.items ++ entries_told 0 (length before.steps.items) clock entry
+      → after.history.items ≡ before.history.items ++ entries_told number (length before.steps.items) clock entry
       → place ≡ length (entries_of (transcript_of before)) + 1
       → IsSomeAnd entry (IsEntryOf boot (progress_of old.worker))
-      → NotesProcedure boot clock (progress_of old.worker) place before after
+      → NotesProcedure boot number clock (progress_of old.worker) place before after
   procedure place None history next of = absurd of
   procedure place (Some entry) history next of = record {
     committed = record {
-      worker = 0;
+      worker = number;
       ctx = entry.ctx;
       call = entry.call;
       reply = entry.reply;
@@ -70,16 +70,16 @@ module _ (boot clock : ℕ) (old : Side) (made : Option Step) (new : Side) (befo
   }
 
   unchanged : (entry : Option ready.Entry) → entry ≡ None
-      → after.history.items ≡ before.history.items ++ entries_told 0 (length before.steps.items) clock entry
+      → after.history.items ≡ before.history.items ++ entries_told number (length before.steps.items) clock entry
       → after.history.items ≡ before.history.items
   unchanged entry none history =
-      history ∙ ap (λ e. before.history.items ++ entries_told 0 (length before.steps.items) clock e) none
+      history ∙ ap (λ e. before.history.items ++ entries_told number (length before.steps.items) clock e) none
       ∙ append-nil before.history.items
 
   history_noted : (made : Option Step) (entry : Option ready.Entry)
-      → after.history.items ≡ before.history.items ++ entries_told 0 (length before.steps.items) clock entry
+      → after.history.items ≡ before.history.items ++ entries_told number (length before.steps.items) clock entry
       → TellsEntry boot (length (entries_of (transcript_of before))) (progress_of old.worker) made entry
-      → NotesHistory boot clock (progress_of old.worker) made before after
+      → NotesHistory boot number clock (progress_of old.worker) made before after
   history_noted None entry history is = unchanged entry is history
   history_noted (Some (step.Commit added (committing.Committed place))) entry history is =
       procedure place.0 entry history is.0 is.1
@@ -107,15 +107,15 @@ module _ (boot clock : ℕ) (old : Side) (made : Option Step) (new : Side) (befo
 
   -- the answers
   answered : (given : Option CallAnswer) (ends : Bool) → is_some given ≡ ends
-      → after.answers.items ≡ before.answers.items ++ answers_told 0 (length before.steps.items) clock given
+      → after.answers.items ≡ before.answers.items ++ answers_told number (length before.steps.items) clock given
       → IfSome given (IsAnswerOf (entries_of (transcript_of after)) (progress_of old.worker) made)
-      → NotesAnswers ends clock (progress_of old.worker) made before after
+      → NotesAnswers ends number clock (progress_of old.worker) made before after
   answered None true is answers of = absurd (true≢false (sym is))
   answered (Some given) false is answers of = absurd (true≢false is)
   answered None false is answers of = answers ∙ append-nil before.answers.items
   answered (Some given) true is answers of = record {
     answer = record {
-      worker = 0;
+      worker = number;
       verdict = given.verdict;
       place = given.place;
       event = length before.steps.items;
@@ -136,7 +136,7 @@ module _ (boot clock : ℕ) (old : Side) (made : Option Step) (new : Side) (befo
   progress_same : progress_of new.worker ≡ progress_of has.state
   progress_same = ap progress_of has.taken
 
-  pub work_noted : NotesWork boot clock old made new before after
+  pub work_noted : NotesWork boot number clock old made new before after
   work_noted = record {
     progress = progress_same ∙ tells.progress;
     history = history_noted made has.state.work.entry has.tells.history tells.entry;

@@ -186,17 +186,17 @@ module _ (core mid : CoreState) (tx : ℕ) (addr : Addr) (taken : Hold) (at : ta
           || (had.is_claimed || taken.is_claimed))) (exclusive (Some had))
           ∙ either (is_exclusive had.mode) had.is_read had.is_claimed taken.is_read taken.is_claimed is
 
-alone_for_reading : (tx : ℕ) (addr : Addr) (had : Option Hold)
+pub alone_for_reading : (tx : ℕ) (addr : Addr) (had : Option Hold)
     → (joined had (for_reading tx addr modes.Exclusive)).mode ≡ modes.Exclusive
 alone_for_reading tx addr None = refl
 alone_for_reading tx addr (Some had) = refl
 
-alone_for_fetching : (tx : ℕ) (addr : Addr) (had : Option Hold)
+pub alone_for_fetching : (tx : ℕ) (addr : Addr) (had : Option Hold)
     → (joined had (for_fetching tx addr modes.Exclusive)).mode ≡ modes.Exclusive
 alone_for_fetching tx addr None = refl
 alone_for_fetching tx addr (Some had) = refl
 
-alone_for_writing : (tx : ℕ) (addr : Addr) (had : Option Hold)
+pub alone_for_writing : (tx : ℕ) (addr : Addr) (had : Option Hold)
     → (joined had (for_writing tx addr)).mode ≡ modes.Exclusive
 alone_for_writing tx addr None = refl
 alone_for_writing tx addr (Some had) = refl
@@ -248,7 +248,7 @@ module _ (core mid : CoreState) (tx : ℕ) (snap : Snap) (addr : Addr)
       }
 
 -- addresses of one whole block are one
-one_whole : (block : BlockNo) (a b : Addr) → IsWhole block a → IsWhole block b → a ≡ b
+pub one_whole : (block : BlockNo) (a b : Addr) → IsWhole block a → IsWhole block b → a ≡ b
 one_whole block a b one other = again.same_addr a b
     (ap (λ (k : BlockNo). k.0) one.0 ∙ sym (ap (λ (k : BlockNo). k.0) other.0)) (one.1 ∙ sym other.1)
     (one.2 ∙ sym other.2)

@@ -13,3 +13,4 @@ pub mod Worker
 pub mod WorkerAnswers
 pub mod WorkerReads
 pub mod WorkerSteps
+pub mod Beside

@@ -16,11 +16,11 @@ use Rattle.store_workers.specs.WorkerSteps.{Side}
 
 -- A procedure is noted more, with the next place: it is that of the call that the worker planned, and was
 -- committed at the event now taken.
-pub record NotesProcedure (boot clock : ℕ) (progress : Progress) (place : ℕ) (before after : Run) : Type 0 where
+pub record NotesProcedure (boot number clock : ℕ) (progress : Progress) (place : ℕ) (before after : Run) : Type 0 where
   pub committed : Committed
   pub history : after.history.items ≡ before.history.items ++ committed ∷ []
   pub next : place ≡ length before.history.items + 1
-  pub worker : committed.worker ≡ 0
+  pub worker : committed.worker ≡ number
   pub event : committed.event ≡ length before.steps.items
   pub clock_is : committed.clock ≡ clock
   pub job : Job
@@ -30,18 +30,18 @@ pub record NotesProcedure (boot clock : ℕ) (progress : Progress) (place : ℕ)
   pub call : committed.call ≡ job.call
 
 -- so it is with a step that commits, and with no other
-abbrev pub NotesHistory : ℕ → ℕ → Progress → Option Step → Run → Run → Type 0
-NotesHistory boot clock progress (Some (step.Commit added (committing.Committed place))) before after =
-    NotesProcedure boot clock progress place.0 before after
-NotesHistory boot clock progress _ before after = after.history.items ≡ before.history.items
+abbrev pub NotesHistory : ℕ → ℕ → ℕ → Progress → Option Step → Run → Run → Type 0
+NotesHistory boot number clock progress (Some (step.Commit added (committing.Committed place))) before after =
+    NotesProcedure boot number clock progress place.0 before after
+NotesHistory boot number clock progress _ before after = after.history.items ≡ before.history.items
 
 -- An answer is noted more: the one that the promise wants with the step, in each transcript that has the
 -- procedures noted so far.
-pub record NotesAnswer (clock : ℕ) (progress : Progress) (made : Option Step)
+pub record NotesAnswer (number clock : ℕ) (progress : Progress) (made : Option Step)
     (before after : Run) : Type 0 where
   pub answer : Answer
   pub answers : after.answers.items ≡ before.answers.items ++ answer ∷ []
-  pub worker : answer.worker ≡ 0
+  pub worker : answer.worker ≡ number
   pub event : answer.event ≡ length before.steps.items
   pub clock_is : answer.clock ≡ clock
   pub job : Job
@@ -53,17 +53,17 @@ pub record NotesAnswer (clock : ℕ) (progress : Progress) (made : Option Step)
       → HasVerdict t job.call stage step answer
 
 -- so it is where the call ends, and nowhere else
-abbrev pub NotesAnswers : Bool → ℕ → Progress → Option Step → Run → Run → Type 0
-NotesAnswers true clock progress made before after = NotesAnswer clock progress made before after
-NotesAnswers false clock progress made before after = after.answers.items ≡ before.answers.items
+abbrev pub NotesAnswers : Bool → ℕ → ℕ → Progress → Option Step → Run → Run → Type 0
+NotesAnswers true number clock progress made before after = NotesAnswer number clock progress made before after
+NotesAnswers false number clock progress made before after = after.answers.items ≡ before.answers.items
 
 -- What a run notes with a step of its worker. The worker is then as far as the step tells.
-pub record NotesWork (boot clock : ℕ) (old : Side) (made : Option Step) (new : Side)
+pub record NotesWork (boot number clock : ℕ) (old : Side) (made : Option Step) (new : Side)
     (before after : Run) : Type 0 where
   pub progress : progress_of new.worker ≡ progress_after old.core.log.broken made (progress_of old.worker)
-  pub history : NotesHistory boot clock (progress_of old.worker) made before after
+  pub history : NotesHistory boot number clock (progress_of old.worker) made before after
   pub answers : NotesAnswers (not (is_idle (progress_of old.worker)) && is_idle
-      (progress_of new.worker)) clock (progress_of old.worker) made before after
+      (progress_of new.worker)) number clock (progress_of old.worker) made before after
   pub steps : after.steps ≡ before.steps
   pub boot_is : after.boot ≡ before.boot
   pub stands : IsWorkerAt boot (entries_of (transcript_of after)) new.worker

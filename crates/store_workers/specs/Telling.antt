@@ -14,10 +14,10 @@ use Rattle.store_workers.specs.WorkerSteps.{GoesOn, Side, side}
 use Rattle.store_workers.specs.declared.workers.parts.Phase.TheVariants.{Idle}
 use Rattle.store_workers.specs.declared.workers.parts.State.{State}
 
--- the one worker takes a call where it is idle; else nothing happens
-abbrev pub TakesCall : ℕ → Ctx → Call → State → Option Step → State → Type 0
-TakesCall worker ctx call old None new = (new ≡ old) × ((worker ≡ 0) × (old.phase ≡ Idle) → ⊥)
-TakesCall worker ctx call old (Some made) new = (made ≡ step.Called) × (worker ≡ 0) × (old.phase ≡ Idle)
+-- a worker takes a call where it is idle; else nothing happens
+abbrev pub TakesCall : Ctx → Call → State → Option Step → State → Type 0
+TakesCall ctx call old None new = (new ≡ old) × (old.phase ≡ Idle → ⊥)
+TakesCall ctx call old (Some made) new = (made ≡ step.Called) × (old.phase ≡ Idle)
     × (new ≡ with_call ctx call old)
 
 -- the procedure that was committed at the event now taken, if one was

@@ -30,9 +30,9 @@ pub record HasReadBlock (keeps_model : Type 0) (before : Device) (old : State) (
   pub brings : keeps_model → before.spoiled io.block.0 ≡ false → is_ok answer ≡ true
       → content ≡ newest (current before io.block.0)
 
--- the one worker makes the read that is due; else nothing happens
-abbrev pub MakesRead : ℕ → Type 0 → Device → State → Option Step → Device → State → Type 0
-MakesRead worker keeps_model before old None after new = (new ≡ old) × (after ≡ before)
-    × ((worker ≡ 0) × (old.phase ≡ Reading) → ⊥)
-MakesRead worker keeps_model before old (Some made) after new = (worker ≡ 0) × (old.phase ≡ Reading)
+-- a worker makes the read that is due; else nothing happens
+abbrev pub MakesRead : Type 0 → Device → State → Option Step → Device → State → Type 0
+MakesRead keeps_model before old None after new = (new ≡ old) × (after ≡ before)
+    × (old.phase ≡ Reading → ⊥)
+MakesRead keeps_model before old (Some made) after new = (old.phase ≡ Reading)
     × HasReadBlock keeps_model before old made after new

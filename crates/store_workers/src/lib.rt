@@ -1,12 +1,16 @@
-//! A worker, which runs one procedure as steps of the core, and laws on what it tells and on one that is
-//! alone in its store.
+//! A worker, which runs one procedure as steps of the core, and laws on what it tells, on one that is alone in
+//! its store, and on workers that share one.
 #![tactic(auto)]
 
 mod alone;
+mod beside;
 mod options;
 mod workers;
 
 pub use alone::{a_lone_worker_is_never_kept_off, a_lone_worker_stays_alone};
+pub use beside::{
+    a_step_leaves_what_others_have, a_worker_has_what_it_takes, workers_share_a_core,
+};
 pub use options::put;
 pub use workers::{
     Worker, a_run_notes_its_workers_steps, a_worker_tells_its_call, a_worker_tells_its_read,

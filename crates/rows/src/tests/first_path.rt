@@ -1,8 +1,9 @@
 //! A fresh image, and the calls that are served so far, through both bodies.
 
-use crate::tests::compared::{is_same_reply, is_tree_of};
+use crate::tests::compared::is_same_reply;
 use crate::tests::plain::{DATA_BLOCKS, fresh, plain_reply_to, reply_in};
 use crate::tests::served::{Host, INODES, Served, formatted, has_replies, reopened, serve};
+use compared_trees::is_tree_of;
 use disk::MemDisk;
 use limits::LEAST_BLOCKS;
 use nfs_types::{Procedure, Reply};

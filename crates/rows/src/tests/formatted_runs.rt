@@ -15,7 +15,7 @@ fn a_run_on_an_image_that_was_made_for_it(rt: HostRuntime) -> Result<(), Fail> {
     let alloc = rt.alloc();
     let events = schedule(alloc)?;
     let count = events.len();
-    let (disk, ran) = format_and_run(alloc, LEAST_BLOCKS, INODES, MADE, &[], events)?;
+    let (disk, ran) = format_and_run(alloc, LEAST_BLOCKS, INODES, MADE, &[], 1, events)?;
     let run = ran?;
     assert_eq!(rt; run.boot, 1);
     assert_eq!(rt; run.steps.len(), count);
@@ -34,7 +34,7 @@ fn refusal(
     inodes: u32,
     fails: &[u64],
 ) -> Result<Option<FormatFault>, Fail> {
-    match format_and_run(alloc, blocks, inodes, MADE, fails, schedule(alloc)?) {
+    match format_and_run(alloc, blocks, inodes, MADE, fails, 1, schedule(alloc)?) {
         Ok(_) => Ok(None),
         Err(fault) => Ok(Some(fault)),
     }
@@ -57,7 +57,15 @@ fn a_device_that_fails(rt: HostRuntime) -> Result<(), Fail> {
     assert_eq!(rt; refused, Some(FormatFault::Device));
     // the first call of the opening
     let next = [formatted(alloc)?.calls().saturating_add(1)];
-    let (_, ran) = format_and_run(alloc, LEAST_BLOCKS, INODES, MADE, &next, schedule(alloc)?)?;
+    let (_, ran) = format_and_run(
+        alloc,
+        LEAST_BLOCKS,
+        INODES,
+        MADE,
+        &next,
+        1,
+        schedule(alloc)?,
+    )?;
     assert_eq!(rt; ran.err(), Some(OpenFault::Device));
     Ok(())
 }

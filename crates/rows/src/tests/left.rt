@@ -1,9 +1,9 @@
 //! What a crash leaves while a SETATTR of the root's mode is served: the tree before it or after it, as the
 //! next session tells, and as the image is decoded.
 
-use crate::tests::compared::is_tree_of;
 use crate::tests::plain::{changed_by, fresh};
 use crate::tests::served::{Host, has_replies, serve};
+use compared_trees::is_tree_of;
 use disk::MemDisk;
 use plain_image::{PlainImage, read_image};
 use std::alloc::Global;

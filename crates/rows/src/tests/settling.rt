@@ -2,9 +2,9 @@
 ghost use Rattle.std.specs.Prelude.{IfOk};
 ghost use Rattle.store_images.specs.Settling.{IsIdle};
 
-use crate::tests::compared::is_tree_of;
 use crate::tests::plain::fresh;
 use crate::tests::served::formatted;
+use compared_trees::is_tree_of;
 use disk::MemDisk;
 use limits::{MOST_KEPT_COMMITS, ROOT};
 use nfs_types::{Call, Credential, Handle, NewAttributes, NumberList, Reply, SetTime, Stamp};

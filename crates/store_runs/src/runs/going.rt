@@ -1,5 +1,5 @@
 //! Laws on a run as the code has it: each event leaves it going.
-ghost use Rattle.std.specs.Prelude.{◌≡◌, ℕ, None, Option};
+ghost use Rattle.std.specs.Prelude.{◌≡◌, ◌<◌, ℕ, List, None, Option, length};
 ghost use Rattle.txn_law.specs.Core.{CoreState};
 ghost use Rattle.store_promise.specs.declared.events.Event.{Event};
 ghost use Rattle.store_promise.specs.declared.events.Event.TheVariants as event;
@@ -11,39 +11,37 @@ ghost use Rattle.store_promise.specs.Transcript.{transcript_of};
 ghost use Rattle.run_law.specs.Noting.{clock_now};
 ghost use Rattle.store_runs.specs.Going.{IsGoing, IsNextEvent, KeepsCore, NotesStep, may_make};
 ghost use Rattle.store_runs.specs.Running.{DoesItsStep};
+ghost use Rattle.store_workers.specs.Beside.{Replaces};
 ghost use Rattle.store_workers.specs.Telling.{HasWorked};
 ghost use Rattle.store_workers.specs.WorkerSteps.{side};
-ghost use Rattle.store_workers.specs.Worker.{GoesWith};
 ghost use Rattle.store_workers.specs.declared.workers.parts.State.{State};
 
 // The log's events and the installer's leave a run going.
 pub(super) fn a_log_event_leaves_a_run_going()
-    ensures { (b : Beginning) (now : Event) (old new : StoreSide) (made : Option Step) (worker : State)
+    ensures { (b : Beginning) (now : Event) (old new : StoreSide) (made : Option Step) (workers : List State)
         (before after : Run) → IsNextEvent b now before → IsLogStep (may_make now) old made new
-        → DoesItsStep old made new
-        → GoesWith worker new.core → NotesStep made before after
-        → IsGoing b old worker before → IsGoing b new worker after }
+        → DoesItsStep old made new → NotesStep made before after
+        → IsGoing b old workers before → IsGoing b new workers after }
 {
     run_law::a_run_goes_on();
     run_law::what_is_told_grows();
 }
 
-// So does a step of the worker's work, once what it tells was told.
+// So does a step of a worker's work, once what it tells was told, and one of a worker that isn't there.
 pub(super) fn a_work_event_leaves_a_run_going()
-    ensures absent { (b : Beginning) (number : ℕ) (store : StoreSide) (worker : State) (before after : Run)
-        → IsNextEvent b (event.Work number) before → (number ≡ 0 → ⊥) → NotesStep None before after
-        → IsGoing b store worker before → IsGoing b store worker after }
-    ensures goes { (b : Beginning) (clock : ℕ) (store : StoreSide) (worker new : State) (core : CoreState)
-        (made : Option Step) (before mid after : Run) → IsNextEvent b (event.Work 0) before
-        → IsGoing b store worker before → clock ≡ clock_now (transcript_of before)
-        → HasWorked 0 clock (side worker store.core) made (side new core) before mid
+    ensures absent { (b : Beginning) (number : ℕ) (store : StoreSide) (workers : List State) (before after : Run)
+        → IsNextEvent b (event.Work number) before → (number < length workers → ⊥) → NotesStep None before after
+        → IsGoing b store workers before → IsGoing b store workers after }
+    ensures goes { (b : Beginning) (number clock : ℕ) (store : StoreSide) (workers later : List State)
+        (worker new : State) (core : CoreState) (made : Option Step) (before mid after : Run)
+        → IsNextEvent b (event.Work number) before → IsGoing b store workers before
+        → Replaces workers number worker new later → clock ≡ clock_now (transcript_of before)
+        → HasWorked number clock (side worker store.core) made (side new core) before mid
         → KeepsCore (side worker store.core) (side new core) → NotesStep made mid after
-        → IsGoing b (record store { core = core }) new after }
+        → IsGoing b (record store { core = core }) later after }
 {
-    crate::at_work::a_core_at_work_stays_so();
     crate::at_work::a_worker_leaves_the_run_going();
     crate::at_work::a_workers_step_is_told();
-    crate::at_work::a_workers_step_may_be_made();
     store_workers::a_run_notes_its_workers_steps();
     layout::counts_make_one_geometry();
     run_law::a_run_goes_on();

@@ -1,5 +1,5 @@
-//! Laws on a run as the code has it: a call that is handed to its worker, and a read of it, leave it going.
-ghost use Rattle.std.specs.Prelude.{ℕ, Option};
+//! Laws on a run as the code has it: a call that is handed to a worker, and a read of one, leave it going.
+ghost use Rattle.std.specs.Prelude.{◌<◌, ℕ, List, None, Option, length};
 ghost use Rattle.disk.specs.Device.{Device};
 ghost use Rattle.nfs_types.specs.declared.call.Call.{Call};
 ghost use Rattle.nfs_types.specs.declared.ctx.Credential.{Credential};
@@ -11,6 +11,7 @@ ghost use Rattle.store_promise.specs.declared.transcript.Run.{Run};
 ghost use Rattle.store_promise.specs.Running.{StoreSide};
 ghost use Rattle.run_law.specs.Run.{Beginning};
 ghost use Rattle.store_runs.specs.Going.{IsGoing, IsNextEvent, NotesStep};
+ghost use Rattle.store_workers.specs.Beside.{Replaces};
 ghost use Rattle.store_workers.specs.Telling.{TakesCall};
 ghost use Rattle.store_workers.specs.Worker.{GoesWith, ctx_of};
 ghost use Rattle.store_workers.specs.WorkerReads.{MakesRead};
@@ -18,12 +19,18 @@ ghost use Rattle.store_workers.specs.declared.workers.parts.State.{State};
 
 // A call that is handed over leaves a run going, taken or not, and so does one for a worker that isn't there.
 pub(super) fn a_call_leaves_a_run_going()
-    ensures { (b : Beginning) (number : ℕ) (credential : Credential) (moment : Moment) (call : Call)
-        (store : StoreSide) (worker new : State) (made : Option Step) (before after : Run)
+    ensures absent { (b : Beginning) (number : ℕ) (credential : Credential) (moment : Moment) (call : Call)
+        (store : StoreSide) (workers : List State) (before after : Run)
         → IsNextEvent b (event.Call number credential moment call) before
-        → TakesCall number (ctx_of credential moment worker.boot) call worker made new
-        → GoesWith new store.core → NotesStep made before after
-        → IsGoing b store worker before → IsGoing b store new after }
+        → (number < length workers → ⊥) → NotesStep None before after
+        → IsGoing b store workers before → IsGoing b store workers after }
+    ensures goes { (b : Beginning) (number : ℕ) (credential : Credential) (moment : Moment) (call : Call)
+        (store : StoreSide) (workers later : List State) (worker new : State) (made : Option Step)
+        (before after : Run) → IsNextEvent b (event.Call number credential moment call) before
+        → Replaces workers number worker new later
+        → TakesCall (ctx_of credential moment worker.boot) call worker made new
+        → (GoesWith worker store.core → GoesWith new store.core) → NotesStep made before after
+        → IsGoing b store workers before → IsGoing b store later after }
 {
     crate::at_work::a_call_leaves_the_run_going();
     store_workers::a_worker_tells_its_call();
@@ -35,12 +42,15 @@ pub(super) fn a_call_leaves_a_run_going()
 
 // So does a read, made or not, whose device keeps its model: so it brings the newest content.
 pub(super) fn a_read_leaves_a_run_going()
-    ensures { (b : Beginning) (number : ℕ) (store : StoreSide) (device : Device) (worker new : State)
-        (made : Option Step) (before after : Run)
-        → IsNextEvent b (event.Read number) before → HasContents store.device
-        → MakesRead number (Unit {0}) store.device worker made device new
-        → GoesWith new store.core → NotesStep made before after
-        → IsGoing b store worker before → IsGoing b (record store { device = device }) new after }
+    ensures absent { (b : Beginning) (number : ℕ) (store : StoreSide) (workers : List State) (before after : Run)
+        → IsNextEvent b (event.Read number) before → (number < length workers → ⊥) → NotesStep None before after
+        → IsGoing b store workers before → IsGoing b store workers after }
+    ensures goes { (b : Beginning) (number : ℕ) (store : StoreSide) (device : Device)
+        (workers later : List State) (worker new : State) (made : Option Step) (before after : Run)
+        → IsNextEvent b (event.Read number) before → Replaces workers number worker new later
+        → HasContents store.device → MakesRead (Unit {0}) store.device worker made device new
+        → (GoesWith worker store.core → GoesWith new store.core) → NotesStep made before after
+        → IsGoing b store workers before → IsGoing b (record store { device = device }) later after }
 {
     crate::at_work::a_read_leaves_the_run_going();
     store_workers::a_worker_tells_its_read();

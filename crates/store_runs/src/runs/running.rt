@@ -1,22 +1,19 @@
 //! The events of a run.
-ghost use Rattle.std.specs.Prelude.{◌≡◌, ℕ, ◌+◌, ◌^◌, ◌<◌, ◌++◌, IsTrue, List, [], None, length, vec_len};
+ghost use Rattle.std.specs.Prelude.{◌≡◌, ◌+◌, ◌^◌, ◌<◌, ◌≤◌, ◌++◌, All, IsTrue, [], None, length, vec_len};
 ghost use Rattle.std.specs.Prelude.{IsFalse, false, vec_capacity};
-ghost use Rattle.model.specs.Entry.{Entry as ToldEntry};
-ghost use Rattle.txn.specs.Core.{CoreState};
+ghost use Rattle.layout.specs.Geometry.{IsLawful};
 ghost use Rattle.store_promise.specs.Room.{HasRoom};
 ghost use Rattle.store_promise.specs.Running.{IsLogStep};
-ghost use Rattle.procs.specs.SoundCalls.{SoundCall};
-ghost use Rattle.store_promise.specs.Transcript.{calls_device, entries_of, refusals, transcript_of};
+ghost use Rattle.store_promise.specs.Transcript.{calls_device, refusals};
 ghost use Rattle.store_images.specs.LogSide.{MayInstIo, MayInstall, MayLog, MayLogIo};
 ghost use Rattle.store_runs.specs.Going.{KeepsCore, LeavesGoing, run_side};
-ghost use Rattle.store_workers.specs.Noting.{NotesWork};
-ghost use Rattle.store_runs.specs.Running.{DoesItsStep, RunsWell, counted, one_more, side_of};
+ghost use Rattle.store_runs.specs.Running.{DoesItsStep, IsAtRest, KeepsFits, MovesOne, RunsWell, counted};
+ghost use Rattle.store_runs.specs.Running.{one_more, side_of};
+ghost use Rattle.store_images.specs.Counts.{SameFrame};
 ghost use Rattle.store_images.specs.Settling.{IsIdle};
 ghost use Rattle.store_workers.specs.Telling.{HasWorked, TakesCall, TellsWork, answers_told};
 ghost use Rattle.store_workers.specs.Telling.{entries_told, told};
-ghost use Rattle.store_workers.specs.Stages.{IsWorkerAt};
-ghost use Rattle.store_workers.specs.WorkTells.{TellsCall, TellsRead};
-ghost use Rattle.store_workers.specs.Worker.{Fits, at_rest, ctx_of};
+ghost use Rattle.store_workers.specs.Worker.{ReadsWithin, ctx_of};
 ghost use Rattle.store_workers.specs.WorkerReads.{MakesRead};
 ghost use Rattle.store_workers.specs.WorkerSteps.{side};
 
@@ -32,16 +29,14 @@ use store_promise::{
     the_installer_leaves_the_store_open, the_logger_leaves_the_store_open,
     what_was_read_is_at_home,
 };
-use store_workers::{
-    Worker, a_run_notes_its_workers_steps, a_worker_tells_its_call, a_worker_tells_its_read, put,
-};
+use store_workers::{Worker, put};
 use txn::{Core, InstIo, LogIo};
 
-/// A run that goes on: the store with its worker, the device calls that are out, and how many device calls
+/// A run that goes on: the store with its workers, the device calls that are out, and how many device calls
 /// the events have made.
 pub(super) struct Running<D: CrashDisk> {
     store: Store<D>,
-    worker: Worker,
+    workers: Vec<Worker>,
     calls: Calls,
     clock: u64,
 }
@@ -55,20 +50,28 @@ pub(super) struct Calls {
 }
 
 impl<D: CrashDisk> Running<D> {
-    /// A run of an opened store in which nothing has happened yet.
-    pub(super) fn new(alloc: Global, store: Store<D>) -> Running<D>
-        requires { IsIdle store.core }
-        ensures well { RunsWell result.worker result.store.core result.calls }
+    /// A run of an opened store in which nothing has happened yet, with as many workers as there is room made for.
+    pub(super) fn new(
+        alloc: Global,
+        store: Store<D>,
+        workers: usize,
+        room: Vec<Worker>,
+    ) -> Running<D>
+        requires idle { IsIdle store.core }
+        requires empty { room.items ≡ [] }
+        requires room { workers ≤ vec_capacity room }
+        ensures well { RunsWell result.workers.items result.store.core result.calls }
         ensures store { result.store ≡ store }
-        ensures worker { result.worker.state ≡ at_rest store.boot }
-        ensures stands { IsWorkerAt store.boot [] result.worker.state }
+        ensures lawful { IsLawful result.store.core.log.blocks result.store.core.inodes }
+        ensures count { length result.workers.items ≡ workers }
+        ensures workers { All (IsAtRest store.boot) result.workers.items }
         ensures calls { result.calls ≡ record { log = None; log_made = None; inst = None; inst_made = None } }
         ensures clock { result.clock ≡ 0 }
     {
         let boot = store.boot();
         Running {
             store,
-            worker: Worker::new(alloc, boot),
+            workers: new_workers(alloc, boot, workers, room),
             calls: Calls {
                 log: None,
                 log_made: None,
@@ -81,13 +84,13 @@ impl<D: CrashDisk> Running<D> {
 
     /// Takes an event, and answers whether it did: it doesn't where there is no memory to tell of it.
     pub(super) fn take(&mut self, alloc: Global, event: Event, run: &mut Run) -> bool
-        requires { RunsWell self.old.worker self.old.store.core self.old.calls }
-        ensures well { RunsWell self.new.worker self.new.store.core self.new.calls }
+        requires { RunsWell self.old.workers.items self.old.store.core self.old.calls }
+        ensures well { RunsWell self.new.workers.items self.new.store.core self.new.calls }
         ensures model { D.keeps_model self.new.store.disk → D.keeps_model self.old.store.disk }
         ensures goes { LeavesGoing (D.keeps_model self.new.store.disk) event
-            (run_side (D.device self.old.store.disk) self.old.store.core self.old.calls self.old.worker.state
+            (run_side (D.device self.old.store.disk) self.old.store.core self.old.calls self.old.workers.items
             self.old.clock) run.old
-            (run_side (D.device self.new.store.disk) self.new.store.core self.new.calls self.new.worker.state
+            (run_side (D.device self.new.store.disk) self.new.store.core self.new.calls self.new.workers.items
             self.new.clock) run.new }
         ensures told { IsTrue result → length run.new.steps.items ≡ length run.old.steps.items + 1 }
         ensures refused { IsFalse result → 0 < refusals run.new }
@@ -101,14 +104,14 @@ impl<D: CrashDisk> Running<D> {
 
     // Makes the step of an event, if it applies, and tells of it.
     fn make(&mut self, alloc: Global, event: Event, run: &mut Run)
-        requires well { RunsWell self.old.worker self.old.store.core self.old.calls }
+        requires well { RunsWell self.old.workers.items self.old.store.core self.old.calls }
         requires room { HasRoom run.old }
-        ensures well { RunsWell self.new.worker self.new.store.core self.new.calls }
+        ensures well { RunsWell self.new.workers.items self.new.store.core self.new.calls }
         ensures model { D.keeps_model self.new.store.disk → D.keeps_model self.old.store.disk }
         ensures goes { LeavesGoing (D.keeps_model self.new.store.disk) event
-            (run_side (D.device self.old.store.disk) self.old.store.core self.old.calls self.old.worker.state
+            (run_side (D.device self.old.store.disk) self.old.store.core self.old.calls self.old.workers.items
             self.old.clock) run.old
-            (run_side (D.device self.new.store.disk) self.new.store.core self.new.calls self.new.worker.state
+            (run_side (D.device self.new.store.disk) self.new.store.core self.new.calls self.new.workers.items
             self.new.clock) run.new }
         ensures told { length run.new.steps.items ≡ length run.old.steps.items + 1 }
     {
@@ -154,7 +157,7 @@ impl<D: CrashDisk> Running<D> {
         }
     }
 
-    // Hands the worker a call.
+    // Hands a worker a call.
     fn hand(
         &mut self,
         worker: usize,
@@ -162,86 +165,72 @@ impl<D: CrashDisk> Running<D> {
         moment: Moment,
         call: Call,
     ) -> Option<Step>
-        requires { RunsWell self.old.worker self.old.store.core self.old.calls }
-        ensures well { RunsWell self.new.worker self.new.store.core self.new.calls }
-        ensures rest { self.new ≡ record self.old { worker = self.new.worker } }
-        ensures step { TakesCall worker (ctx_of credential moment self.old.worker.state.boot) call
-            self.old.worker.state result self.new.worker.state }
-        ensures told { worker ≡ 0 → (boot : ℕ) (entries : List ToldEntry) → SoundCall credential moment call
-            → IsWorkerAt boot entries self.old.worker.state
-            → TellsCall boot entries (record { credential = credential; moment = moment; call = call })
-            self.old.worker.state result self.new.worker.state }
+        requires { RunsWell self.old.workers.items self.old.store.core self.old.calls }
+        ensures well { RunsWell self.new.workers.items self.new.store.core self.new.calls }
+        ensures rest { self.new ≡ record self.old { workers = self.new.workers } }
+        ensures absent { (worker < length self.old.workers.items → ⊥)
+            → (result ≡ None) × (self.new ≡ self.old) }
+        ensures step { worker < length self.old.workers.items → MovesOne self.old.workers.items worker
+            (λ old new. TakesCall (ctx_of credential moment old.state.boot) call old.state result new.state
+            × KeepsFits old new) self.new.workers.items }
     {
-        a_worker_tells_its_call();
-        if worker == 0 && self.worker.hand(credential, moment, call) {
+        if worker >= self.workers.len() {
+            return None;
+        }
+        if self.workers[worker].hand(credential, moment, call) {
             Some(Step::Called)
         } else {
             None
         }
     }
 
-    // The worker makes a step. What it commits and answers is told.
+    // A worker makes a step. What it commits and answers is told.
     fn work(&mut self, alloc: Global, worker: usize, run: &mut Run) -> Option<Step>
-        requires well { RunsWell self.old.worker self.old.store.core self.old.calls }
+        requires well { RunsWell self.old.workers.items self.old.store.core self.old.calls }
         requires room { HasRoom run.old }
-        ensures well { RunsWell self.new.worker self.new.store.core self.new.calls }
+        ensures well { RunsWell self.new.workers.items self.new.store.core self.new.calls }
         ensures rest { (self.new.calls ≡ self.old.calls) × (self.new.clock ≡ self.old.clock) }
         ensures disk { self.new.store.disk ≡ self.old.store.disk }
         ensures steps { run.new.steps ≡ run.old.steps }
-        ensures step { worker ≡ 0 → HasWorked worker self.old.clock
-            (side self.old.worker.state self.old.store.core) result
-            (side self.new.worker.state self.new.store.core) run.old run.new }
-        ensures none { (worker ≡ 0 → ⊥) → (result ≡ None) × (self.new ≡ self.old) × (run.new ≡ run.old) }
-        ensures noted { worker ≡ 0 → (boot : ℕ)
-            → IsWorkerAt boot (entries_of (transcript_of run.old)) self.old.worker.state
-            → self.old.store.core.log.places ≡ length run.old.history.items
-            → NotesWork boot self.old.clock (side self.old.worker.state self.old.store.core) result
-            (side self.new.worker.state self.new.store.core) run.old run.new }
-        ensures core { worker ≡ 0 → KeepsCore (side self.old.worker.state self.old.store.core)
-            (side self.new.worker.state self.new.store.core) }
+        ensures absent { (worker < length self.old.workers.items → ⊥)
+            → (result ≡ None) × (self.new ≡ self.old) × (run.new ≡ run.old) }
+        ensures step { worker < length self.old.workers.items → MovesOne self.old.workers.items worker
+            (λ old new. HasWorked worker self.old.clock (side old.state self.old.store.core) result
+            (side new.state self.new.store.core) run.old run.new
+            × KeepsCore (side old.state self.old.store.core) (side new.state self.new.store.core))
+            self.new.workers.items }
     {
-        a_run_notes_its_workers_steps();
-        if worker != 0 {
+        if worker >= self.workers.len() {
             return None;
         }
-        let step = self.worker.step(alloc, &mut self.store.core);
-        self.tell(worker, run);
-        self.store.core.lawful();
-        step
+        work_of(
+            &mut self.workers[worker],
+            alloc,
+            &mut self.store.core,
+            worker,
+            self.clock,
+            run,
+        )
     }
 
-    // What the worker's last step committed and answered is told, and doesn't lie ready any more.
-    fn tell(&mut self, worker: usize, run: &mut Run)
-        requires { HasRoom run.old }
-        ensures fits { (core : CoreState) → Fits self.old.worker core → Fits self.new.worker core }
-        ensures rest { self.new ≡ record self.old { worker = self.new.worker } }
-        ensures worker { self.new.worker.state ≡ told self.old.worker.state }
-        ensures run { TellsWork worker self.old.clock self.old.worker.state run.old run.new }
-    {
-        let entry = self.worker.take_entry();
-        let answer = self.worker.take_answer();
-        note_entry(run, worker, self.clock, entry);
-        note_answer(run, worker, self.clock, answer);
-    }
-
-    // The worker's read is made.
+    // A worker's read is made.
     fn read(&mut self, worker: usize) -> Option<Step>
-        requires { RunsWell self.old.worker self.old.store.core self.old.calls }
-        ensures well { RunsWell self.new.worker self.new.store.core self.new.calls }
+        requires { RunsWell self.old.workers.items self.old.store.core self.old.calls }
+        ensures well { RunsWell self.new.workers.items self.new.store.core self.new.calls }
         ensures model { D.keeps_model self.new.store.disk → D.keeps_model self.old.store.disk }
         ensures rest { (self.new.calls ≡ self.old.calls) × (self.new.store.core ≡ self.old.store.core) }
         ensures clock { self.new.clock ≡ counted self.old.clock result }
-        ensures step { MakesRead worker (D.keeps_model self.new.store.disk) (D.device self.old.store.disk)
-            self.old.worker.state result (D.device self.new.store.disk) self.new.worker.state }
-        ensures told { worker ≡ 0 → (boot : ℕ) (entries : List ToldEntry)
-            → IsWorkerAt boot entries self.old.worker.state
-            → TellsRead boot entries self.old.worker.state result self.new.worker.state }
+        ensures absent { (worker < length self.old.workers.items → ⊥)
+            → (result ≡ None) × (self.new ≡ self.old) }
+        ensures step { worker < length self.old.workers.items → MovesOne self.old.workers.items worker
+            (λ old new. MakesRead (D.keeps_model self.new.store.disk) (D.device self.old.store.disk)
+            old.state result (D.device self.new.store.disk) new.state × KeepsFits old new)
+            self.new.workers.items }
     {
-        a_worker_tells_its_read();
-        if worker != 0 {
+        if worker >= self.workers.len() {
             return None;
         }
-        let step = self.worker.read(&mut self.store.disk)?;
+        let step = self.workers[worker].read(&mut self.store.disk)?;
         self.count();
         Some(step)
     }
@@ -257,14 +246,14 @@ impl<D: CrashDisk> Running<D> {
 impl<D: CrashDisk> Running<D> {
     // Gives back the log's device call that was made, or takes the next.
     fn log(&mut self) -> Option<Step>
-        requires { RunsWell self.old.worker self.old.store.core self.old.calls }
-        ensures well { RunsWell self.new.worker self.new.store.core self.new.calls }
+        requires { RunsWell self.old.workers.items self.old.store.core self.old.calls }
+        ensures well { RunsWell self.new.workers.items self.new.store.core self.new.calls }
         ensures model { D.keeps_model self.new.store.disk → D.keeps_model self.old.store.disk }
         ensures quiet { calls_device result ≡ false }
         ensures step { IsLogStep MayLog
             (side_of (D.device self.old.store.disk) self.old.store.core self.old.calls) result
             (side_of (D.device self.new.store.disk) self.new.store.core self.new.calls) }
-        ensures worker { self.new.worker ≡ self.old.worker }
+        ensures workers { self.new.workers ≡ self.old.workers }
         ensures clock { self.new.clock ≡ counted self.old.clock result }
     {
         the_logger_leaves_the_store_open();
@@ -295,8 +284,8 @@ impl<D: CrashDisk> Running<D> {
     // The log's device call is made.
     #[tactic(auto, using(store_images::proofs::Made::made_size))]
     fn log_io(&mut self) -> Option<Step>
-        requires { RunsWell self.old.worker self.old.store.core self.old.calls }
-        ensures well { RunsWell self.new.worker self.new.store.core self.new.calls }
+        requires { RunsWell self.old.workers.items self.old.store.core self.old.calls }
+        ensures well { RunsWell self.new.workers.items self.new.store.core self.new.calls }
         ensures model { D.keeps_model self.new.store.disk → D.keeps_model self.old.store.disk }
         ensures does { DoesItsStep
             (side_of (D.device self.old.store.disk) self.old.store.core self.old.calls) result
@@ -304,7 +293,7 @@ impl<D: CrashDisk> Running<D> {
         ensures step { IsLogStep MayLogIo
             (side_of (D.device self.old.store.disk) self.old.store.core self.old.calls) result
             (side_of (D.device self.new.store.disk) self.new.store.core self.new.calls) }
-        ensures worker { self.new.worker ≡ self.old.worker }
+        ensures workers { self.new.workers ≡ self.old.workers }
         ensures clock { self.new.clock ≡ counted self.old.clock result }
     {
         the_logger_leaves_the_store_open();
@@ -323,14 +312,14 @@ impl<D: CrashDisk> Running<D> {
 
     // Gives back the installer's device call that was made, or takes the next.
     fn install(&mut self) -> Option<Step>
-        requires { RunsWell self.old.worker self.old.store.core self.old.calls }
-        ensures well { RunsWell self.new.worker self.new.store.core self.new.calls }
+        requires { RunsWell self.old.workers.items self.old.store.core self.old.calls }
+        ensures well { RunsWell self.new.workers.items self.new.store.core self.new.calls }
         ensures model { D.keeps_model self.new.store.disk → D.keeps_model self.old.store.disk }
         ensures quiet { calls_device result ≡ false }
         ensures step { IsLogStep MayInstall
             (side_of (D.device self.old.store.disk) self.old.store.core self.old.calls) result
             (side_of (D.device self.new.store.disk) self.new.store.core self.new.calls) }
-        ensures worker { self.new.worker ≡ self.old.worker }
+        ensures workers { self.new.workers ≡ self.old.workers }
         ensures clock { self.new.clock ≡ counted self.old.clock result }
     {
         the_installer_leaves_the_store_open();
@@ -361,8 +350,8 @@ impl<D: CrashDisk> Running<D> {
     // The installer's device call is made.
     #[tactic(auto, using(store_images::proofs::Made::made_size))]
     fn inst_io(&mut self) -> Option<Step>
-        requires { RunsWell self.old.worker self.old.store.core self.old.calls }
-        ensures well { RunsWell self.new.worker self.new.store.core self.new.calls }
+        requires { RunsWell self.old.workers.items self.old.store.core self.old.calls }
+        ensures well { RunsWell self.new.workers.items self.new.store.core self.new.calls }
         ensures model { D.keeps_model self.new.store.disk → D.keeps_model self.old.store.disk }
         ensures does { DoesItsStep
             (side_of (D.device self.old.store.disk) self.old.store.core self.old.calls) result
@@ -370,7 +359,7 @@ impl<D: CrashDisk> Running<D> {
         ensures step { IsLogStep MayInstIo
             (side_of (D.device self.old.store.disk) self.old.store.core self.old.calls) result
             (side_of (D.device self.new.store.disk) self.new.store.core self.new.calls) }
-        ensures worker { self.new.worker ≡ self.old.worker }
+        ensures workers { self.new.workers ≡ self.old.workers }
         ensures clock { self.new.clock ≡ counted self.old.clock result }
     {
         the_installer_leaves_the_store_open();
@@ -387,21 +376,84 @@ impl<D: CrashDisk> Running<D> {
         Some(Step::InstIo(ok))
     }
 
-    /// The store, once what is out was given back and the worker has ended.
+    /// The store, once what is out was given back and the workers have ended.
     pub(super) fn end(self) -> Store<D>
-        requires { RunsWell self.worker self.store.core self.calls }
+        requires { RunsWell self.workers.items self.store.core self.calls }
         ensures { result.disk ≡ self.store.disk }
     {
         let Running {
             mut store,
-            worker,
+            workers,
             calls,
             clock: _,
         } = self;
-        worker.end(&mut store.core);
+        end_workers(workers, &mut store.core);
         calls.end(&mut store.core);
         store
     }
+}
+
+// As many workers as room is made for, which have done nothing yet.
+fn new_workers(alloc: Global, boot: u64, workers: usize, room: Vec<Worker>) -> Vec<Worker>
+    requires empty { room.items ≡ [] }
+    requires room { workers ≤ vec_capacity room }
+    ensures count { length result.items ≡ workers }
+    ensures rest { All (IsAtRest boot) result.items }
+{
+    let mut all = room;
+    'each: for _ in 0..workers {
+        all.push_reserved(Worker::new(alloc, boot));
+    }
+    all
+}
+
+// A worker makes a step. What it commits and answers is told, and doesn't lie ready any more.
+fn work_of(
+    one: &mut Worker,
+    alloc: Global,
+    core: &mut Core<Done>,
+    number: usize,
+    clock: u64,
+    run: &mut Run,
+) -> Option<Step>
+    requires { HasRoom run.old }
+    ensures frame { SameFrame core.old core.new }
+    ensures reads { ReadsWithin core.old.log.blocks one.old.state → ReadsWithin core.old.log.blocks one.new.state }
+    ensures steps { run.new.steps ≡ run.old.steps }
+    ensures step { HasWorked number clock (side one.old.state core.old) result (side one.new.state core.new)
+        run.old run.new }
+    ensures core { KeepsCore (side one.old.state core.old) (side one.new.state core.new) }
+{
+    let step = one.step(alloc, core);
+    tell(one, number, clock, run);
+    core.lawful();
+    step
+}
+
+// What a worker's last step committed and answered is told, and doesn't lie ready any more.
+fn tell(one: &mut Worker, number: usize, clock: u64, run: &mut Run)
+    requires { HasRoom run.old }
+    ensures fits { KeepsFits one.old one.new }
+    ensures worker { one.new.state ≡ told one.old.state }
+    ensures run { TellsWork number clock one.old.state run.old run.new }
+{
+    let entry = one.take_entry();
+    let answer = one.take_answer();
+    note_entry(run, number, clock, entry);
+    note_answer(run, number, clock, answer);
+}
+
+// Gives back what workers have begun.
+fn end_workers(workers: Vec<Worker>, core: &mut Core<Done>)
+    ensures { SameFrame core.old core.new }
+{
+    let mut rest = workers;
+    'each: for _ in 0..rest.len() {
+        if let Some(one) = rest.pop() {
+            one.end(core);
+        }
+    }
+    rest.destroy_empty();
 }
 
 impl Calls {

@@ -31,10 +31,10 @@ pub fn a_worker_tells_its_steps()
 
 /// A run notes just what its worker tells, where its history has what was committed so far.
 pub fn a_run_notes_its_workers_steps()
-    ensures { (boot clock : ℕ) (old new : Side) (made : Option Step) (before after : Run)
+    ensures { (boot number clock : ℕ) (old new : Side) (made : Option Step) (before after : Run)
         → IsWorkerAt boot (entries_of (transcript_of before)) old.worker
-        → old.core.log.places ≡ length before.history.items → HasWorked 0 clock old made new before after
-        → NotesWork boot clock old made new before after }
+        → old.core.log.places ≡ length before.history.items → HasWorked number clock old made new before after
+        → NotesWork boot number clock old made new before after }
 {}
 
 /// A worker takes a call where it has none, and then has just that call.
@@ -42,7 +42,7 @@ pub fn a_worker_tells_its_call()
     ensures { (boot : ℕ) (entries : List Entry) (credential : Credential) (moment : Moment) (call : Call)
         (old new : State) (made : Option Step) → SoundCall credential moment call
         → IsWorkerAt boot entries old
-        → TakesCall 0 (ctx_of credential moment old.boot) call old made new
+        → TakesCall (ctx_of credential moment old.boot) call old made new
         → TellsCall boot entries (record { credential = credential; moment = moment; call = call })
         old made new }
 {}

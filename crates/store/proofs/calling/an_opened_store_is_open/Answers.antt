@@ -8,7 +8,7 @@ use Rattle.store.proofs.calling.an_opened_store_is_open.Goals as goal
 
 pub returns : goal.returns
 returns c = λ before store tree first opens.
-    let begun = c.a_run_begins.ensures (begins before store.device tree first []) opens.3 store.core
+    let begun = c.a_run_begins.ensures (begins before store.device tree first 1 []) opens.3 store.core
     opens.1 opens.2 opens.4 in
     let setting : Setting = record {
       geometry = begun.0;

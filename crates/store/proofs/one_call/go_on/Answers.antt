@@ -300,9 +300,9 @@ returns-then-is_some-clause-going g c = λ o keeps calling.
     let was_read = c.a_read_keeps_a_call_going.ensures o now after mid.worker c.read.new.self.state step
     (subst (λ (s : State). IsCalling o now s) same_told settled.calling) reading
     (has_contents (device disk) (g.met.D.CrashDisk.whole disk (c.read.ensures.model keeps)))
-    (with_model (g.D.CrashDisk.keeps_model c.read.new.disk) 0 (device disk) after mid.worker
+    (with_model (g.D.CrashDisk.keeps_model c.read.new.disk) (device disk) after mid.worker
     c.read.new.self.state
-    (Some step) keeps (refl, reading, has)).2
+    (Some step) keeps (reading, has)).1
     (goes_with c.read.new.self core (c.read.ensures.fits core fits)) in
     subst (λ b. HasStepped o (store_of after c.step.new.core b) c.step.new.self.state) (sym boot_is)
     (c.a_step_keeps_a_call_going.ensures.goes o (store_of after core was.boot) c.read.new.self.state

@@ -11,6 +11,5 @@ returns c = λ before later g moment events lawful now sound rest made. record {
   good = λ image crash. subst (λ size. IsGoodImage size image (format_tree (geometry_of g) moment) 0)
       (sym made.making.size)
       (c.a_fresh_image_is_good.ensures g moment image lawful now (made.fresh image crash));
-  alone = refl;
   sound = sound;
 }

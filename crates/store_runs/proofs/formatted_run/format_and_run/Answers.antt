@@ -49,6 +49,6 @@ returns-clause-promised c = λ sound.
       may = may;
       answered = is_answered (Unit {0}) before (memory_device c.run.result.0)
           (format_tree (geometry_of g) c.args.made) 0
-          1 c.args.events.items c.run.result.1
+          c.args.workers c.args.events.items c.run.result.1
           (c.run.ensures.promised (format_tree (geometry_of g) c.args.made) 0) may;
     }

@@ -6,11 +6,11 @@ use Rattle.store_runs.specs.Running.{RunsWell}
 use Rattle.store_runs.proofs.runs.run.Given as goal
 
 abbrev pub invariant-events : goal.invariant-events
-invariant-events g l = RunsWell l.running.worker l.running.store.core l.running.calls
+invariant-events g l = RunsWell l.running.workers.items l.running.store.core l.running.calls
     × (g.D.CrashDisk.keeps_model l.running.store.disk → g.D.CrashDisk.keeps_model l.fn.disk)
     × (l.fn.events.items ≡ l.yielded ++ into_iter_items l.event-iterator)
     × (length l.run.steps.items ≡ length l.yielded)
     × GoesOnWell (g.D.CrashDisk.keeps_model l.running.store.disk) (g.D.CrashDisk.device l.fn.disk)
-    l.fn.events.items
+    l.fn.workers l.fn.events.items
     (run_side (g.D.CrashDisk.device l.running.store.disk) l.running.store.core l.running.calls
-    l.running.worker.state l.running.clock) l.run
+    l.running.workers.items l.running.clock) l.run

@@ -25,7 +25,6 @@ pub returns-clause-goes : goal.returns-clause-goes
 returns-clause-goes g c = λ b keeps next at.
     let made = c.make_room.ensures in
     c.make.ensures.goes b keeps (record {
-      alone = next.alone;
       next = ap (λ steps. slice_get b.events (length steps)) made.steps ∙ next.next;
       sound = next.sound;
     })

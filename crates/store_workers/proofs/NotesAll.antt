@@ -1,0 +1,255 @@
+-- A worker notes all that its transaction takes.
+use Rattle.std.proofs.Common.{◌≡◌, ◌∙◌, ◌+◌, refl, sym, ap, subst, true≢false, ℕ, ◌⊎◌, inl, inr, Bool, true, false}
+use Rattle.std.proofs.Common.{if◌then◌else◌, nat_eq, Option, Some, None, List, [], ◌∷◌}
+use Rattle.std.specs.Prelude.{Contains, IfSome, IsSomeAnd, is_some}
+use Rattle.std.proofs.lemmas.Bool.{eqb-true}
+use Rattle.disk.specs.declared.block.BlockNo.{BlockNo}
+use Rattle.objects.specs.Mode.{raised}
+use Rattle.objects.specs.declared.addr.Addr.{Addr}
+use Rattle.objects.specs.declared.mode.Mode.{Mode}
+use Rattle.objects.specs.declared.mode.Mode.TheVariants as modes
+use Rattle.model.specs.Calls.{is_answered_stable}
+use Rattle.nfs_types.specs.declared.reply.Reply.{Reply}
+use Rattle.wal_law.specs.declared.outcomes.Seq.{Seq}
+use Rattle.procs.specs.Outcome.{Outcome}
+use Rattle.txn.specs.Core.{CoreState}
+use Rattle.txn.specs.Leaves.{taken_by, with_taken}
+use Rattle.txn.specs.Outcomes.{IsClaimed, IsCommit, IsWanted}
+use Rattle.txn.specs.Wishes.{IsWhole}
+use Rattle.txn.specs.declared.outcomes.Claim.{Claim}
+use Rattle.txn.specs.declared.outcomes.Claim.TheVariants as claim
+use Rattle.txn.specs.declared.outcomes.Commit.{Commit}
+use Rattle.txn.specs.declared.outcomes.Commit.TheVariants as commit
+use Rattle.txn.specs.declared.outcomes.Want.{Want}
+use Rattle.txn.specs.declared.outcomes.Want.TheVariants as want
+use Rattle.txn_law.proofs.Again as again
+use Rattle.txn_law.proofs.Claims.{all_four}
+use Rattle.txn_law.specs.Holds.{for_fetching, for_reading, for_writing, is_hold_of, joined}
+use Rattle.txn_law.specs.declared.hold.Hold.{Hold}
+use Rattle.store_promise.proofs.RisingAims.{kept, there}
+use Rattle.store_promise.specs.Aims.{inserted, is_above}
+use Rattle.store_promise.specs.declared.aims.Aim.{Aim}
+use Rattle.store_promise.specs.declared.aims.Aim.TheVariants as aim
+use Rattle.store_promise.specs.declared.answers.Verdict.TheVariants as verdict
+use Rattle.store_promise.specs.declared.events.Step.{Step}
+use Rattle.store_workers.proofs.HowFar.{without_broken_reply, without_reply}
+use Rattle.store_workers.proofs.WorkCases.{Cases, by_cases}
+use Rattle.store_workers.specs.Beside.{IsNoted, NoneTakenBeyond, NotesAll, NotesTaken}
+use Rattle.store_workers.specs.Knowing.{Knowing, with_off}
+use Rattle.store_workers.specs.Phases.{has_transaction}
+use Rattle.store_workers.specs.WorkerAnswers.{after_commit, begun_claimed, begun_wanted, known_claimed, known_off}
+use Rattle.store_workers.specs.WorkerAnswers.{known_wanted, object, told_of, with_answer, with_entry}
+use Rattle.store_workers.specs.WorkerSteps.{GoesOn, HasBegun, HasCommitted, HasGivenBack, IsTold, Side, Waits}
+use Rattle.store_workers.specs.WorkerSteps.{none_begun, planned_of, with_snap}
+use Rattle.store_workers.specs.declared.workers.parts.Job.{Job}
+use Rattle.store_workers.specs.declared.workers.parts.Phase.{Phase}
+use Rattle.store_workers.specs.declared.workers.parts.State.{State}
+
+some_same : {X : Type 0} (x y : X) → Some x ≡ Some y → x ≡ y
+some_same x y same = cc
+
+-- the address of a hold of it
+hold_at : (tx : ℕ) (a : Addr) (hold : Hold) → is_hold_of tx a hold ≡ true → hold.addr ≡ a
+hold_at tx a hold is =
+    let four = all_four (nat_eq hold.transaction tx) (nat_eq hold.addr.block.0 a.block.0)
+    (nat_eq hold.addr.offset a.offset) (nat_eq hold.addr.len a.len) is in
+    again.same_addr hold.addr a (eqb-true hold.addr.block.0 a.block.0 four.1)
+    (eqb-true hold.addr.offset a.offset four.2) (eqb-true hold.addr.len a.len four.3)
+
+-- what was noted is so with one more
+more_noted : (one : Aim) (aims : List Aim) (a : Addr) (m : Mode) → IsNoted aims a m → IsNoted (inserted one aims) a m
+more_noted one aims a m (inl object) = inl (kept one aims (aim.Object a m) object)
+more_noted one aims a m (inr claim) = inr (kept one aims (aim.Claim a.block) claim)
+
+-- what is taken then: what was, and a hold more, which is noted
+module _ (core mid : CoreState) (tx : ℕ) (aims : List Aim) (one : Aim) (hold : Hold)
+    (alone : (had : Option Hold) → (joined had hold).mode ≡ modes.Exclusive)
+    (now : (a : Addr) → taken_by mid tx a ≡ with_taken hold (taken_by core) tx a)
+    (new_noted : IsNoted (inserted one aims) hold.addr modes.Exclusive) (notes : NotesTaken core tx aims) where
+  pub notes_more : NotesTaken mid tx (inserted one aims)
+  notes_more a x taken = by (is_hold_of tx a hold) refl (sym (now a) ∙ taken)
+    where
+      by : (own : Bool) → is_hold_of tx a hold ≡ own
+          → (if own then Some (joined (taken_by core tx a) hold) else taken_by core tx a) ≡ Some x
+          → IsNoted (inserted one aims) a x.mode
+      by false is e = more_noted one aims a x.mode (notes a x e)
+      by true is e =
+          let same : joined (taken_by core tx a) hold ≡ x = some_same (joined (taken_by core tx a) hold) x e in
+          subst (λ (h : Hold). IsNoted (inserted one aims) a h.mode) same
+          (subst (λ (m : Mode). IsNoted (inserted one aims) a m) (sym (alone (taken_by core tx a)))
+          (subst (λ (b : Addr). IsNoted (inserted one aims) b modes.Exclusive) (hold_at tx a hold is) new_noted))
+
+raised_alone : (had : Option Hold) (hold : Hold) → hold.mode ≡ modes.Exclusive
+    → (joined had hold).mode ≡ modes.Exclusive
+raised_alone None hold is = is
+raised_alone (Some had) hold is = ap (λ (m : Mode). raised had.mode m) is ∙ by had.mode
+  where
+    by : (mode : Mode) → raised mode modes.Exclusive ≡ modes.Exclusive
+    by modes.Shared = refl
+    by modes.Exclusive = refl
+
+module _ (old new : Side) (beyond : NoneTakenBeyond old.core) (notes : NotesAll old.worker old.core) where
+  abbrev Notes : Phase → Option Step → Type 0
+  Notes phase made = (has_transaction phase ≡ false → old.worker.begun.tx ≡ None) → NotesAll new.worker new.core
+
+  abbrev taken : List Aim
+  taken = old.worker.known.taken
+
+  -- what holds of the worker that it became
+  of_state : (state : State) → new.worker ≡ state → NotesAll state new.core → NotesAll new.worker new.core
+  of_state state is noted = subst (λ (s : State). NotesAll s new.core) (sym is) noted
+
+  own : (tx : ℕ) → old.worker.begun.tx ≡ Some tx → NotesTaken old.core tx taken
+  own tx tx_is = subst (λ (found : Option ℕ). IfSome found (λ t. NotesTaken old.core t taken)) tx_is notes
+
+  -- nothing has changed of it
+  as_before : new.core ≡ old.core → new.worker.begun.tx ≡ old.worker.begun.tx
+      → new.worker.known.taken ≡ taken → NotesAll new.worker new.core
+  as_before core tx same_aims = subst (λ (found : Option ℕ). IfSome found (λ t. NotesTaken new.core t new.worker.known.taken))
+      (sym tx) (subst (λ (as_taken : List Aim). IfSome old.worker.begun.tx (λ t. NotesTaken new.core t as_taken)) (sym same_aims)
+      (subst (λ (c : CoreState). IfSome old.worker.begun.tx (λ t. NotesTaken c t taken)) (sym core) notes))
+
+  off_taken : (wished : Aim) (room : Bool)
+      → (known_off wished (record old.worker.known { room = room })).taken ≡ taken
+  off_taken wished room = by (is_above wished taken)
+    where
+      by : (above : Bool) → (if above then with_off wished (record old.worker.known { room = room })
+          else record old.worker.known { room = room }).taken ≡ taken
+      by true = refl
+      by false = refl
+
+  module _ (tx : ℕ) (tx_is : old.worker.begun.tx ≡ Some tx) where
+    abbrev Then : ℕ → Knowing → Type 0
+    Then back knowing = NotesTaken new.core back knowing.taken
+
+    same : (back : ℕ) (aims : List Aim) → back ≡ tx → new.core ≡ old.core → aims ≡ taken
+        → NotesTaken new.core back aims
+    same back aims is core same_aims = subst (λ (n : ℕ). NotesTaken new.core n aims) (sym is)
+        (subst (λ (as_taken : List Aim). NotesTaken new.core tx as_taken) (sym same_aims)
+        (subst (λ (c : CoreState). NotesTaken c tx taken) (sym core) (own tx tx_is)))
+
+    wants : (addr : Addr) (room : Bool) (answer : Want)
+        → IsWanted old.core tx addr modes.Exclusive answer new.core
+        → IfSome (begun_wanted answer).tx (λ back. Then back
+        (known_wanted addr answer (record old.worker.known { room = room })))
+    wants addr room (want.Held back bytes) is =
+        subst (λ (n : ℕ). NotesTaken new.core n (inserted (object addr) taken)) (sym is.0)
+        (notes_more old.core new.core tx taken (object addr) (for_reading tx addr modes.Exclusive)
+        (λ had. raised_alone had (for_reading tx addr modes.Exclusive) refl)
+        (λ a. is.2.leaves.holds tx a) (inl (there (object addr) taken)) (own tx tx_is))
+    wants addr room (want.Fetch back io) is =
+        subst (λ (n : ℕ). NotesTaken new.core n (inserted (object addr) taken)) (sym is.0)
+        (notes_more old.core new.core tx taken (object addr) (for_fetching tx addr modes.Exclusive)
+        (λ had. raised_alone had (for_fetching tx addr modes.Exclusive) refl)
+        (λ a. is.2.leaves.holds tx a) (inl (there (object addr) taken)) (own tx tx_is))
+    wants addr room (want.Busy back) is = same back _ is.0 is.2 (off_taken (object addr) room)
+    wants addr room (want.Loading back) is = same back _ is.0 is.2 (off_taken (object addr) room)
+    wants addr room (want.Outside back) is = same back _ is.0 is.2 refl
+    wants addr room (want.NoMemory back) is = same back _ is.0 is.2 refl
+
+    takes : (block : BlockNo) (addr : Addr) (room : Bool) (answer : Claim) → IsWhole block addr
+        → IsClaimed old.core tx addr answer new.core
+        → IfSome (begun_claimed answer).tx (λ back. Then back
+        (known_claimed block answer (record old.worker.known { room = room })))
+    takes block addr room (claim.Held back) whole is =
+        subst (λ (n : ℕ). NotesTaken new.core n (inserted (aim.Claim block) taken)) (sym is.0)
+        (notes_more old.core new.core tx taken (aim.Claim block) (for_writing tx addr)
+        (λ had. raised_alone had (for_writing tx addr) refl)
+        (λ a. is.2.leaves.holds tx a)
+        (inr (subst (λ (b : BlockNo). Contains (inserted (aim.Claim block) taken) (aim.Claim b)) (sym whole.0)
+        (there (aim.Claim block) taken))) (own tx tx_is))
+    takes block addr room (claim.Busy back) whole is = same back _ is.0 is.2 (off_taken (aim.Claim block) room)
+    takes block addr room (claim.Loading back) whole is = same back _ is.0 is.2 (off_taken (aim.Claim block) room)
+    takes block addr room (claim.Outside back) whole is = same back _ is.0 is.2 refl
+    takes block addr room (claim.NoMemory back) whole is = same back _ is.0 is.2 refl
+
+    placed : (job : Job) (reply : Reply) (place : Seq) (base : State) (stable : Bool) → base.begun ≡ none_begun
+        → NotesAll (with_entry job reply (told_of stable job reply place base)) new.core
+    placed job reply place base true none = subst (λ b. IfSome (b.tx) (λ t. NotesTaken new.core t base.known.taken))
+        (sym none) tt
+    placed job reply place base false none = subst (λ b. IfSome (b.tx) (λ t. NotesTaken new.core t base.known.taken))
+        (sym none) tt
+
+    commits : (job : Job) (done : Outcome) (base : State) (answer : Commit Outcome) → base.begun ≡ none_begun
+        → base.known.taken ≡ taken → IsCommit old.core tx (planned_of done) done answer new.core
+        → NotesAll (after_commit job done.reply answer base) new.core
+    commits job done base (commit.Committed place) none aims is =
+        placed job done.reply place base (is_answered_stable job.call) none
+    commits job done base (commit.Full back change) none aims is =
+        same back base.known.taken is.0.transaction is.0.core aims
+    commits job done base (commit.Foreign back change) none aims is =
+        same back base.known.taken is.0.transaction is.0.core aims
+    commits job done base (commit.NoMemory back change) none aims is =
+        same back base.known.taken is.0.transaction is.0.core aims
+    commits job done base (commit.Broken back change) none aims is =
+        same back base.known.taken is.0.transaction is.0.core aims
+    commits job done base (commit.Spent back change) none aims is =
+        same back base.known.taken is.0.transaction is.0.core aims
+
+  begins : (job : Job) (number : ℕ) → HasBegun job old number new → NotesAll new.worker new.core
+  begins job number has = of_state _ has.worker (λ addr hold is. absurd (beyond addr hold
+      (ap (λ (n : ℕ). taken_by old.core n addr) (sym has.next)
+      ∙ sym (ap (λ (c : CoreState). taken_by c number addr) has.core) ∙ is)))
+
+  gives : (ok : Bool) (io : _) (made : Step) → HasGivenBack ok io old made new → NotesAll new.worker new.core
+  gives ok io made has = of_state _ has.worker (by old.worker.begun.tx notes)
+    where
+      by : (found : Option ℕ) → IfSome found (λ t. NotesTaken old.core t taken)
+          → IfSome found (λ t. NotesTaken new.core t taken)
+      by None noted = tt
+      by (Some tx) noted = λ addr hold is. noted addr hold (sym (has.leaves.holds tx addr) ∙ is)
+
+  waits : (place : Seq) (made : Step) → Waits place old made new → NotesAll new.worker new.core
+  waits place made has = by has.settled old.core.log.broken has.told
+    where
+      of : (state : State) → state.begun ≡ old.worker.begun → state.known ≡ old.worker.known → new.worker ≡ state
+          → NotesAll new.worker new.core
+      of state begun known is = as_before has.core (ap (λ (s : State). s.begun.tx) is ∙ ap (λ b. b.tx) begun)
+          (ap (λ (s : State). s.known.taken) is ∙ ap (λ (k : Knowing). k.taken) known)
+
+      heard : (base : State) → base.begun ≡ old.worker.begun → base.known ≡ old.worker.known
+          → (found : Option Reply)
+          → IsSomeAnd found (λ reply. new.worker ≡ with_answer (verdict.Reply reply) (Some place) base)
+          → NotesAll new.worker new.core
+      heard base begun known None is = absurd is
+      heard base begun known (Some reply) is = of _ begun known is
+
+      by : (settled broken : Bool) → IsTold settled broken place old.worker new.worker
+          → NotesAll new.worker new.core
+      by true broken is = heard (without_reply old.worker) refl refl old.worker.work.reply is
+      by false true is = heard (without_broken_reply old.worker) refl refl old.worker.work.broken_reply is
+      by false false is = of old.worker refl refl is
+
+  cases : Cases old new Notes
+  cases = record {
+    idle = λ is none. subst (λ (s : Side). NotesAll s.worker s.core) (sym is) notes;
+    reading = λ is none. subst (λ (s : Side). NotesAll s.worker s.core) (sym is) notes;
+    begun = λ job number job_is rules has none. begins job number has;
+    not_begun = λ job why job_is rules no core worker none. as_before core (ap (λ (s : State). s.begun.tx) worker)
+        (ap (λ (s : State). s.known.taken) worker);
+    replied = λ job job_is rules core worker none. as_before core (ap (λ (s : State). s.begun.tx) worker)
+        (ap (λ (s : State). s.known.taken) worker);
+    wanted = λ tx addr made tx_is next has none. of_state _ has.worker
+        (wants tx tx_is addr new.worker.known.room has.answer has.core);
+    claimed = λ tx block made tx_is next has none. of_state _ has.worker
+        (takes tx tx_is block has.core.0 new.worker.known.room has.answer has.core.1 has.core.2);
+    committed = λ job tx done made tx_is next left job_is has none. of_state _ has.worker
+        (commits tx tx_is job done (record (with_snap new.worker old.worker) { begun = none_begun }) has.answer refl
+        refl has.core);
+    lacked = λ tx made tx_is left has none. of_state _ has.worker tt;
+    given = λ ok io made io_is has none. gives ok io made has;
+    refused = λ why job tx made job_is tx_is has none. of_state _ has.worker tt;
+    left = λ tx made tx_is has none. of_state _ has.worker tt;
+    waited = λ place made has none. waits place made has;
+  }
+
+  none_of : {A : Type 0} (found : Option A) (is : Bool) → is_some found ≡ is
+      → is ≡ false → found ≡ None
+  none_of None is same off = refl
+  none_of (Some one) is same off = absurd (true≢false (same ∙ off))
+
+  pub notes_still : (made : Option Step)
+      → is_some old.worker.begun.tx ≡ has_transaction old.worker.phase
+      → GoesOn old.worker.phase old made new → NotesAll new.worker new.core
+  notes_still made tx goes = by_cases old new Notes cases old.worker.phase made goes
+      (none_of old.worker.begun.tx (has_transaction old.worker.phase) tx)

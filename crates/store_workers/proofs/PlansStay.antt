@@ -1,0 +1,442 @@
+-- A worker has of its call what it had, by each of its steps, and with it what it takes: also beside others, and
+-- where it takes again what its call knew.
+use Rattle.std.proofs.Common.{◌≡◌, ◌∙◌, ◌+◌, refl, sym, ap, subst, true≢false, ℕ, ◌⊎◌, inl, inr, Bool, true, false}
+use Rattle.std.proofs.Common.{if◌then◌else◌, Option, Some, None, List, [], ◌∷◌, ◌++◌, All}
+use Rattle.std.specs.Prelude.{IsSomeAnd}
+use Rattle.std.proofs.lemmas.List.Elements.{All-nil, All-push, All-weaker}
+use Rattle.disk.specs.declared.block.BlockNo.{BlockNo}
+use Rattle.objects.specs.declared.addr.Addr.{Addr}
+use Rattle.objects.specs.declared.mode.Mode.TheVariants as modes
+use Rattle.model.specs.Calls.{is_answered_stable}
+use Rattle.nfs_types.specs.declared.reply.Reply.{Reply}
+use Rattle.wal_law.specs.declared.outcomes.Seq.{Seq}
+use Rattle.procs.proofs.FewAsked.{none_read, one_asked_once}
+use Rattle.procs.proofs.FewClaimed.{claimed_object, none_claimed, one_claimed_once}
+use Rattle.procs.specs.Asks.{Asks, Claims, WereAskedOnce, WereClaimedOnce}
+use Rattle.procs.specs.Outcome.{Outcome}
+use Rattle.procs.specs.Planned.{IsPlanFor}
+use Rattle.procs.specs.declared.next.Plan.{Plan}
+use Rattle.procs.specs.declared.next.Plan.TheVariants as plan
+use Rattle.inode.specs.Snap.{is_claimed, is_seen}
+use Rattle.inode.specs.declared.snap.Snap.{Snap}
+use Rattle.txn.specs.Claimed.{IsClaimedBy}
+use Rattle.txn.specs.Commit.{IsReadBy}
+use Rattle.txn.specs.Core.{CoreState}
+use Rattle.txn.specs.CoreWindow.{KeepsReads}
+use Rattle.txn.specs.Fetch.{Fetch}
+use Rattle.txn.specs.Leaves.{taken_by, with_taken}
+use Rattle.txn.specs.Object.{ObjectBytes}
+use Rattle.txn.specs.Outcomes.{IsClaimed, IsCommit, IsWanted}
+use Rattle.txn.specs.declared.outcomes.Claim.{Claim}
+use Rattle.txn.specs.declared.outcomes.Claim.TheVariants as claim
+use Rattle.txn.specs.declared.outcomes.Commit.{Commit}
+use Rattle.txn.specs.declared.outcomes.Commit.TheVariants as commit
+use Rattle.txn.specs.declared.outcomes.Want.{Want}
+use Rattle.txn.specs.declared.outcomes.Want.TheVariants as want
+use Rattle.txn_law.specs.Holds.{for_fetching, for_reading, for_writing, is_written, joined}
+use Rattle.txn_law.specs.Wishes.{IsFetched, IsHeld, IsTaken, IsWhole}
+use Rattle.txn_law.specs.declared.hold.Hold.{Hold}
+use Rattle.store_promise.specs.Aims.{is_above}
+use Rattle.store_promise.specs.Waiting.{IsAim}
+use Rattle.store_promise.specs.declared.aims.Aim.{Aim}
+use Rattle.store_promise.specs.declared.aims.Aim.TheVariants as aim
+use Rattle.store_promise.specs.declared.answers.Verdict.TheVariants as verdict
+use Rattle.store_promise.specs.declared.events.Step.{Step}
+use Rattle.store_workers.proofs.HowFar.{without_broken_reply, without_reply}
+use Rattle.store_workers.proofs.LoneWorker.{has_of, has_so, seen_of}
+use Rattle.store_workers.proofs.StaysAlone.{all_asked, all_claimed, all_exclusive, alone_for_fetching}
+use Rattle.store_workers.proofs.StaysAlone.{alone_for_reading, alone_for_writing, moved, one_whole, same_taken}
+use Rattle.store_workers.proofs.WorkCases.{Cases, IsWished, by_cases}
+use Rattle.store_workers.specs.Alone.{HasOfCall, HasTaken, PlansAlone}
+use Rattle.store_workers.specs.Beside.{IsLeftOf, NoneTakenBeyond}
+use Rattle.store_workers.specs.Seen.{Seen, seen_in, with_claim, with_object}
+use Rattle.store_workers.specs.WorkerAnswers.{after_commit, begun_claimed, begun_wanted, object, phase_claimed}
+use Rattle.store_workers.specs.WorkerAnswers.{phase_off, phase_wanted, seen_claimed, seen_held, seen_taken}
+use Rattle.store_workers.specs.WorkerAnswers.{seen_wanted, told_of, with_answer, with_entry}
+use Rattle.store_workers.specs.WorkerSteps.{GoesOn, HasBegun, HasGivenBack, HasClaimed, HasCommitted, HasWanted}
+use Rattle.store_workers.specs.WorkerSteps.{IsNext, IsTold, KeepsReadsOf, SawNothing, Side, Waits, none_begun, numbered}
+use Rattle.store_workers.specs.WorkerSteps.{phase_given, planned_of, with_snap}
+use Rattle.store_workers.specs.declared.workers.parts.Begun.{Begun}
+use Rattle.store_workers.specs.declared.workers.parts.Job.{Job}
+use Rattle.store_workers.specs.declared.workers.parts.Phase.{Phase}
+use Rattle.store_workers.specs.declared.workers.parts.Phase.TheVariants.{Idle, Called, Planning}
+use Rattle.store_workers.specs.declared.workers.parts.Phase.TheVariants.{Reading, Read}
+use Rattle.store_workers.specs.declared.workers.parts.Phase.TheVariants.{Refused, Again, Waiting}
+use Rattle.store_workers.specs.declared.workers.parts.State.{State}
+
+-- ---- one more is taken
+
+-- it has what it had, and has taken this too
+module _ (core mid : CoreState) (tx : ℕ) (seen : Seen) (addr : Addr) (taken : Hold) (at : taken.addr ≡ addr)
+    (exclusive : (had : Option Hold) → (joined had taken).mode ≡ modes.Exclusive)
+    (now : (a : Addr) → taken_by mid tx a ≡ with_taken taken (taken_by core) tx a)
+    (blocks : mid.log.blocks ≡ core.log.blocks) (inodes : mid.inodes ≡ core.inodes)
+    (reads : KeepsReads core mid tx) (asks : Asks seen.geometry addr) (has : HasOfCall tx core seen) where
+  pub hold_more : HasOfCall tx mid seen
+  hold_more = record {
+    blocks = has.blocks ∙ sym blocks;
+    inodes = has.inodes ∙ sym inodes;
+    claims = has.claims;
+    claimed = all_claimed core mid tx addr taken at exclusive now seen.claims has.claimed;
+    were = has.were;
+    read = All-weaker (IsReadBy core tx) (IsReadBy mid tx) (λ object is. reads object is) seen.objects has.read;
+    exclusive = all_exclusive core mid tx addr taken at exclusive now has.exclusive;
+    asked = all_asked core mid tx addr taken at exclusive now (λ a. Asks seen.geometry a) has.asked asks;
+  }
+
+module _ (core mid : CoreState) (tx : ℕ) (seen : Seen) (addr : Addr) (asks : Asks seen.geometry addr)
+    (reads : KeepsReads core mid tx) (has : HasOfCall tx core seen) where
+  pub with_held : (bytes : List ℕ) → IsHeld core tx addr modes.Exclusive bytes mid → HasOfCall tx mid seen
+  with_held bytes held =
+      hold_more core mid tx seen addr (for_reading tx addr modes.Exclusive) refl (alone_for_reading tx addr)
+      (λ a. held.leaves.holds tx a) (ap (λ (c : CoreState). c.log.blocks) held.only)
+      (ap (λ (c : CoreState). c.inodes) held.only) reads asks has
+
+  -- it is read too, where it wasn't
+  pub with_read : (bytes : List ℕ) → is_seen addr seen.objects ≡ false
+      → IsHeld core tx addr modes.Exclusive bytes mid
+      → HasOfCall tx mid (record seen { objects = seen.objects ++ record { addr = addr; bytes = bytes } ∷ [] })
+  with_read bytes new_to_it held =
+      let object : ObjectBytes = record { addr = addr; bytes = bytes } in
+      let more = with_held bytes held in record {
+        blocks = more.blocks;
+        inodes = more.inodes;
+        claims = more.claims;
+        claimed = more.claimed;
+        were = one_asked_once seen.geometry seen.objects object has.were asks new_to_it;
+        read = All-push (IsReadBy mid tx) seen.objects object more.read held.read;
+        exclusive = more.exclusive;
+        asked = more.asked;
+      }
+
+  pub with_fetch : (io : Fetch) → IsFetched core tx addr modes.Exclusive io mid → HasOfCall tx mid seen
+  with_fetch io fetched =
+      hold_more core mid tx seen addr (for_fetching tx addr modes.Exclusive) refl (alone_for_fetching tx addr)
+      (λ a. fetched.leaves.holds tx a) (ap (λ (c : CoreState). c.log.blocks) fetched.only)
+      (ap (λ (c : CoreState). c.inodes) fetched.only) reads asks has
+
+  pub with_whole : IsTaken core tx addr mid → HasOfCall tx mid seen
+  with_whole took =
+      hold_more core mid tx seen addr (for_writing tx addr) refl (alone_for_writing tx addr)
+      (λ a. took.leaves.holds tx a) (ap (λ (c : CoreState). c.log.blocks) took.only)
+      (ap (λ (c : CoreState). c.inodes) took.only) reads asks has
+
+  -- its block is claimed too, where it wasn't
+  pub with_claimed : (block : BlockNo) → Claims seen.geometry block → is_claimed block seen.claims ≡ false
+      → IsWhole block addr → IsTaken core tx addr mid
+      → HasOfCall tx mid (record seen { claims = seen.claims ++ block ∷ [] })
+  with_claimed block may new_to_it whole took =
+      let more = with_whole took in record {
+        blocks = more.blocks;
+        inodes = more.inodes;
+        claims = one_claimed_once seen.geometry seen.claims block has.claims may new_to_it;
+        claimed = All-push (IsClaimedBy mid tx) seen.claims block more.claimed
+            (λ a is. ap (λ (a : Addr). is_written (taken_by mid tx a)) (one_whole block a addr is whole)
+            ∙ took.written.held);
+        were = more.were;
+        read = more.read;
+        exclusive = more.exclusive;
+        asked = more.asked;
+      }
+
+-- ---- what is wished
+
+module _ (worker : State) where
+  -- an aim of the image, with what was read before; it is new to that where nothing is left to be taken again
+  pub record IsWishOf (one : Aim) (P : Seen → Type 0) : Type 0 where
+    pub job : Job
+    pub job_is : worker.work.job ≡ Some job
+    pub snap : Snap
+    pub snap_is : seen_in worker.work.snap ≡ seen_in (Some snap)
+    pub is_aim : IsAim snap.geometry one
+    pub new_to_it : worker.known.left ≡ [] → P (seen_of snap)
+
+  pub wish_by : (one : Aim) (next : Plan) (P : Seen → Type 0)
+      → ((snap : Snap) → IsPlanFor snap next → IsAim snap.geometry one × P (seen_of snap))
+      → IsLeftOf worker → IsWished worker one next → IsWishOf one P
+  wish_by one next P planned left_of wished = by wished.why
+    where
+      by : ((worker.known.left ≡ []) × IsNext worker next)
+          ⊎ ((later : List Aim) × (worker.known.left ≡ one ∷ later)) → IsWishOf one P
+      by (inl is) = record {
+        job = is.1.job;
+        job_is = is.1.job_is;
+        snap = is.1.snap;
+        snap_is = is.1.snap_is;
+        is_aim = (planned is.1.snap is.1.plan).0;
+        new_to_it = λ none. (planned is.1.snap is.1.plan).1;
+      }
+      by (inr is) = record {
+        job = wished.job;
+        job_is = wished.job_is;
+        snap = wished.snap;
+        snap_is = wished.snap_is;
+        is_aim = subst (λ (found : Option Seen). IsSomeAnd found (λ seen. IsAim seen.geometry one))
+            wished.snap_is (left_of one is.0 is.1);
+        new_to_it = λ none. absurd (let never : one ∷ is.0 ≡ [] = sym is.1 ∙ none in cc);
+      }
+
+-- ---- a step
+
+module _ (old new : Side) (keeps : KeepsReadsOf old new) (beyond : NoneTakenBeyond old.core)
+    (left_of : old.worker.phase ≡ Planning → IsLeftOf old.worker) where
+  abbrev Stays : Phase → Option Step → Type 0
+  Stays phase made = old.worker.phase ≡ phase → PlansAlone phase old.worker old.core
+      → PlansAlone new.worker.phase new.worker new.core
+
+  by_phase : (phase : Phase) → new.worker.phase ≡ phase → PlansAlone phase new.worker new.core
+      → PlansAlone new.worker.phase new.worker new.core
+  by_phase phase is plans = subst (λ p. PlansAlone p new.worker new.core) (sym is) plans
+
+  by_state : (state : State) → new.worker ≡ state → PlansAlone state.phase state new.core
+      → PlansAlone new.worker.phase new.worker new.core
+  by_state state is plans = subst (λ (s : State). PlansAlone s.phase s new.core) (sym is) plans
+
+  rests : (phase : Phase) → new ≡ old → Stays phase None
+  rests phase is at plans = subst (λ (s : Side). PlansAlone s.worker.phase s.worker s.core) (sym is)
+      (subst (λ p. PlansAlone p old.worker old.core) (sym at) plans)
+
+  begins : (job : Job) (number : ℕ) → HasBegun job old number new
+      → PlansAlone new.worker.phase new.worker new.core
+  begins job number has = by_phase Planning (ap (λ (s : State). s.phase) has.worker)
+      (by (seen_in new.worker.work.snap) refl has.seen)
+    where
+      by : (found : Option Seen) → seen_in new.worker.work.snap ≡ found → IsSomeAnd found (SawNothing old.core)
+          → HasTaken new.worker new.core
+      by None at saw = absurd saw
+      by (Some seen) at saw =
+          has_so new.worker new.core (numbered number job) number seen
+          (ap (λ (s : State). s.work.job) has.worker)
+          (ap (λ (s : State). s.begun.tx) has.worker) at (record {
+            blocks = saw.blocks ∙ sym (ap (λ (c : CoreState). c.log.blocks) has.core);
+            inodes = saw.inodes ∙ sym (ap (λ (c : CoreState). c.inodes) has.core);
+            claims = subst (λ (claims : List BlockNo). WereClaimedOnce seen.geometry claims)
+                (sym saw.claims) (none_claimed seen.geometry);
+            claimed = subst (λ (claims : List BlockNo). All (IsClaimedBy new.core number) claims)
+                (sym saw.claims) (All-nil (IsClaimedBy new.core number));
+            were = subst (λ (objects : List ObjectBytes). WereAskedOnce seen.geometry objects)
+                (sym saw.objects) (none_read seen.geometry);
+            read = subst (λ (objects : List ObjectBytes). All (IsReadBy new.core number) objects)
+                (sym saw.objects) (All-nil (IsReadBy new.core number));
+            exclusive = λ addr hold is. absurd (nothing addr hold is);
+            asked = λ addr hold is. absurd (nothing addr hold is);
+          })
+        where
+          nothing : (addr : Addr) (hold : Hold) → taken_by new.core number addr ≡ Some hold → ⊥
+          nothing addr hold is = beyond addr hold (ap (λ (n : ℕ). taken_by old.core n addr) (sym has.next)
+              ∙ sym (ap (λ (c : CoreState). taken_by c number addr) has.core) ∙ is)
+
+  -- ---- a wish
+
+  module _ (tx : ℕ) (tx_is : old.worker.begun.tx ≡ Some tx) (job : Job) (job_is : old.worker.work.job ≡ Some job)
+      (seen : Seen) (seen_is : seen_in old.worker.work.snap ≡ Some seen) (new_job : new.worker.work.job ≡ Some job)
+      (has : HasOfCall tx old.core seen) where
+    -- it is told that it has its transaction still
+    module _ (back : ℕ) (same : back ≡ tx) (got : new.worker.begun.tx ≡ Some back) where
+      new_tx : new.worker.begun.tx ≡ Some tx
+      new_tx = got ∙ ap (λ t. Some t) same
+
+      reads : KeepsReads old.core new.core tx
+      reads = keeps tx (λ _. new_tx)
+
+      as_before : new.core ≡ old.core → seen_in new.worker.work.snap ≡ seen_in old.worker.work.snap
+          → HasTaken new.worker new.core
+      as_before core seen_same =
+          has_so new.worker new.core job tx seen new_job new_tx (seen_same ∙ seen_is)
+          (subst (λ (c : CoreState). HasOfCall tx c seen) (sym core) has)
+
+      off : (wished : Aim) → new.core ≡ old.core → seen_in new.worker.work.snap ≡ seen_in old.worker.work.snap
+          → PlansAlone (phase_off wished old.worker.known) new.worker new.core
+      off wished core seen_same = by (is_above wished old.worker.known.taken)
+        where
+          by : (above : Bool) → PlansAlone (if above then Again else Planning) new.worker new.core
+          by true = tt
+          by false = as_before core seen_same
+
+      held : (addr : Addr) (bytes : List ℕ) → Asks seen.geometry addr
+          → (old.worker.known.left ≡ [] → is_seen addr seen.objects ≡ false)
+          → IsHeld old.core tx addr modes.Exclusive bytes new.core
+          → seen_in new.worker.work.snap
+          ≡ seen_held old.worker.known.left addr bytes (seen_in old.worker.work.snap)
+          → HasTaken new.worker new.core
+      held addr bytes asks new_to_it is then_seen = by old.worker.known.left refl
+        where
+          by : (left : List Aim) → old.worker.known.left ≡ left → HasTaken new.worker new.core
+          by [] none = has_so new.worker new.core job tx _ new_job new_tx
+              (then_seen ∙ ap (λ l. seen_held l addr bytes (seen_in old.worker.work.snap)) none
+              ∙ ap (with_object addr bytes) seen_is)
+              (with_read old.core new.core tx seen addr asks reads has bytes (new_to_it none) is)
+          by (next ∷ later) some = has_so new.worker new.core job tx seen new_job new_tx
+              (then_seen ∙ ap (λ l. seen_held l addr bytes (seen_in old.worker.work.snap)) some ∙ seen_is)
+              (with_held old.core new.core tx seen addr asks reads has bytes is)
+
+      fetched : (addr : Addr) (io : Fetch) → Asks seen.geometry addr
+          → IsFetched old.core tx addr modes.Exclusive io new.core
+          → seen_in new.worker.work.snap ≡ seen_in old.worker.work.snap → HasTaken new.worker new.core
+      fetched addr io asks is seen_same = has_so new.worker new.core job tx seen new_job new_tx
+          (seen_same ∙ seen_is) (with_fetch old.core new.core tx seen addr asks reads has io is)
+
+      claims : (block : BlockNo) (addr : Addr) → Claims seen.geometry block
+          → (old.worker.known.left ≡ [] → is_claimed block seen.claims ≡ false) → IsWhole block addr
+          → IsTaken old.core tx addr new.core
+          → seen_in new.worker.work.snap
+          ≡ seen_taken old.worker.known.left block (seen_in old.worker.work.snap)
+          → HasTaken new.worker new.core
+      claims block addr may new_to_it whole is then_seen = by old.worker.known.left refl
+        where
+          asks : Asks seen.geometry addr
+          asks = claimed_object seen.geometry block addr may whole
+
+          by : (left : List Aim) → old.worker.known.left ≡ left → HasTaken new.worker new.core
+          by [] none = has_so new.worker new.core job tx _ new_job new_tx
+              (then_seen ∙ ap (λ l. seen_taken l block (seen_in old.worker.work.snap)) none
+              ∙ ap (with_claim block) seen_is)
+              (with_claimed old.core new.core tx seen addr asks reads has block may (new_to_it none) whole is)
+          by (next ∷ later) some = has_so new.worker new.core job tx seen new_job new_tx
+              (then_seen ∙ ap (λ l. seen_taken l block (seen_in old.worker.work.snap)) some ∙ seen_is)
+              (with_whole old.core new.core tx seen addr asks reads has is)
+
+    wants : (addr : Addr) (answer : Want) → Asks seen.geometry addr
+        → (old.worker.known.left ≡ [] → is_seen addr seen.objects ≡ false)
+        → IsWanted old.core tx addr modes.Exclusive answer new.core
+        → new.worker.begun ≡ begun_wanted answer
+        → seen_in new.worker.work.snap
+        ≡ seen_wanted old.worker.known.left addr answer (seen_in old.worker.work.snap)
+        → PlansAlone (phase_wanted addr answer old.worker.known) new.worker new.core
+    wants addr (want.Held back bytes) asks new_to_it is got then_seen =
+        held back is.0 (ap (λ (b : Begun). b.tx) got) addr bytes.items asks new_to_it is.2 then_seen
+    wants addr (want.Fetch back io) asks new_to_it is got then_seen =
+        fetched back is.0 (ap (λ (b : Begun). b.tx) got) addr io asks is.2 then_seen
+    wants addr (want.Busy back) asks new_to_it is got then_seen =
+        off back is.0 (ap (λ (b : Begun). b.tx) got) (object addr) is.2 then_seen
+    wants addr (want.Loading back) asks new_to_it is got then_seen =
+        off back is.0 (ap (λ (b : Begun). b.tx) got) (object addr) is.2 then_seen
+    wants addr (want.Outside back) asks new_to_it is got then_seen = tt
+    wants addr (want.NoMemory back) asks new_to_it is got then_seen = tt
+
+    takes : (block : BlockNo) (addr : Addr) (answer : Claim) → Claims seen.geometry block
+        → (old.worker.known.left ≡ [] → is_claimed block seen.claims ≡ false) → IsWhole block addr
+        → IsClaimed old.core tx addr answer new.core
+        → new.worker.begun ≡ begun_claimed answer
+        → seen_in new.worker.work.snap
+        ≡ seen_claimed old.worker.known.left block answer (seen_in old.worker.work.snap)
+        → PlansAlone (phase_claimed block answer old.worker.known) new.worker new.core
+    takes block addr (claim.Held back) may new_to_it whole is got then_seen =
+        claims back is.0 (ap (λ (b : Begun). b.tx) got) block addr may new_to_it whole is.2 then_seen
+    takes block addr (claim.Busy back) may new_to_it whole is got then_seen =
+        off back is.0 (ap (λ (b : Begun). b.tx) got) (aim.Claim block) is.2 then_seen
+    takes block addr (claim.Loading back) may new_to_it whole is got then_seen =
+        off back is.0 (ap (λ (b : Begun). b.tx) got) (aim.Claim block) is.2 then_seen
+    takes block addr (claim.Outside back) may new_to_it whole is got then_seen = tt
+    takes block addr (claim.NoMemory back) may new_to_it whole is got then_seen = tt
+
+  wanted_so : (tx : ℕ) (addr : Addr) (made : Step) → old.worker.begun.tx ≡ Some tx
+      → IsWished old.worker (object addr) (plan.Need addr) → HasWanted tx addr old made new
+      → old.worker.phase ≡ Planning → PlansAlone Planning old.worker old.core
+      → PlansAlone new.worker.phase new.worker new.core
+  wanted_so tx addr made tx_is wished has at plans =
+      let is = wish_by old.worker (object addr) (plan.Need addr) (λ seen. is_seen addr seen.objects ≡ false)
+      (λ snap planned. ((planned.1, refl), planned.0)) (left_of at) wished in
+      by_phase _ (ap (λ (s : State). s.phase) has.worker)
+      (wants tx tx_is is.job is.job_is (seen_of is.snap) is.snap_is
+      (ap (λ (s : State). s.work.job) has.worker ∙ is.job_is)
+      (has_of old.worker old.core is.job tx (seen_of is.snap) is.job_is tx_is is.snap_is plans)
+      addr has.answer is.is_aim.0 is.new_to_it has.core (ap (λ (s : State). s.begun) has.worker) has.seen)
+
+  claimed_so : (tx : ℕ) (block : BlockNo) (made : Step) → old.worker.begun.tx ≡ Some tx
+      → IsWished old.worker (aim.Claim block) (plan.Claim block) → HasClaimed tx block old made new
+      → old.worker.phase ≡ Planning → PlansAlone Planning old.worker old.core
+      → PlansAlone new.worker.phase new.worker new.core
+  claimed_so tx block made tx_is wished has at plans =
+      let is = wish_by old.worker (aim.Claim block) (plan.Claim block) (λ seen. is_claimed block seen.claims ≡ false)
+      (λ snap planned. (planned.1, planned.0)) (left_of at) wished in
+      by_phase _ (ap (λ (s : State). s.phase) has.worker)
+      (takes tx tx_is is.job is.job_is (seen_of is.snap) is.snap_is
+      (ap (λ (s : State). s.work.job) has.worker ∙ is.job_is)
+      (has_of old.worker old.core is.job tx (seen_of is.snap) is.job_is tx_is is.snap_is plans)
+      block has.core.0 has.answer is.is_aim is.new_to_it has.core.1 has.core.2
+      (ap (λ (s : State). s.begun) has.worker) has.seen)
+
+  -- ---- a commit
+
+  placed : (job : Job) (reply : Reply) (place : Seq) (base : State) (stable : Bool)
+      → PlansAlone (with_entry job reply (told_of stable job reply place base)).phase
+      (with_entry job reply (told_of stable job reply place base)) new.core
+  placed job reply place base true = tt
+  placed job reply place base false = tt
+
+  committed_so : (job : Job) (tx : ℕ) (done : Outcome) (made : Step) → old.worker.begun.tx ≡ Some tx
+      → HasCommitted job tx done old made new → PlansAlone Planning old.worker old.core
+      → PlansAlone new.worker.phase new.worker new.core
+  committed_so job tx done made tx_is has plans = by has.answer has.core has.worker
+    where
+      base : State
+      base = record (with_snap new.worker old.worker) { begun = none_begun }
+
+      by : (answer : Commit Outcome) → IsCommit old.core tx (planned_of done) done answer new.core
+          → new.worker ≡ after_commit job done.reply answer base
+          → PlansAlone new.worker.phase new.worker new.core
+      by (commit.Committed place) core is =
+          by_state _ is (placed job done.reply place base (is_answered_stable job.call))
+      by (commit.Full back change) core is = by_phase Planning (ap (λ (s : State). s.phase) is)
+          (same_taken old.worker new.worker old.core new.core (ap (λ (s : State). s.work.job) is)
+          (ap (λ (s : State). s.begun.tx) is ∙ ap (λ (n : ℕ). Some n) core.0.transaction ∙ sym tx_is)
+          has.seen (λ j t seen t_is of_call. subst (λ (c : CoreState). HasOfCall t c seen) (sym core.0.core) of_call)
+          plans)
+      by (commit.Foreign back change) core is = by_state _ is tt
+      by (commit.NoMemory back change) core is = by_state _ is tt
+      by (commit.Broken back change) core is = by_state _ is tt
+      by (commit.Spent back change) core is = by_state _ is tt
+
+  -- ---- a fetch is given back, a place is waited for
+
+  given_so : (ok : Bool) (io : Fetch) (made : Step) → HasGivenBack ok io old made new
+      → PlansAlone (Read ok) old.worker old.core → PlansAlone new.worker.phase new.worker new.core
+  given_so ok io made has plans = by_phase (phase_given ok) (ap (λ (s : State). s.phase) has.worker) (by ok)
+    where
+      by : (ok : Bool) → PlansAlone (phase_given ok) new.worker new.core
+      by true = same_taken old.worker new.worker old.core new.core (ap (λ (s : State). s.work.job) has.worker)
+          (ap (λ (s : State). s.begun.tx) has.worker) (ap (λ (s : State). seen_in s.work.snap) has.worker)
+          (λ job tx seen tx_is of_call. moved tx seen old.core new.core
+          (ap (λ (c : CoreState). c.log.blocks) has.only) (ap (λ (c : CoreState). c.inodes) has.only)
+          (λ addr. has.leaves.holds tx addr)
+          (keeps tx (λ was. ap (λ (s : State). s.begun.tx) has.worker ∙ was)) of_call) plans
+      by false = tt
+
+  waited_so : (place : Seq) (made : Step) → Waits place old made new → old.worker.phase ≡ Waiting place
+      → PlansAlone new.worker.phase new.worker new.core
+  waited_so place made has at = by has.settled old.core.log.broken has.told
+    where
+      heard : (base : State) (found : Option Reply) → IsSomeAnd found (λ reply. new.worker
+          ≡ with_answer (verdict.Reply reply) (Some place) base)
+          → PlansAlone new.worker.phase new.worker new.core
+      heard base None is = absurd is
+      heard base (Some reply) is = by_state _ is tt
+
+      by : (settled broken : Bool) → IsTold settled broken place old.worker new.worker
+          → PlansAlone new.worker.phase new.worker new.core
+      by true broken is = heard (without_reply old.worker) old.worker.work.reply is
+      by false true is = heard (without_broken_reply old.worker) old.worker.work.broken_reply is
+      by false false is = by_phase (Waiting place) (ap (λ (s : State). s.phase) is ∙ at) tt
+
+  cases : Cases old new Stays
+  cases = record {
+    idle = rests Idle;
+    reading = rests Reading;
+    begun = λ job number job_is rules has at plans. begins job number has;
+    not_begun = λ job why job_is rules none core worker at plans. by_state _ worker tt;
+    replied = λ job job_is rules core worker at plans. by_state _ worker tt;
+    wanted = λ tx addr made tx_is next has at plans. wanted_so tx addr made tx_is next has at plans;
+    claimed = λ tx block made tx_is next has at plans. claimed_so tx block made tx_is next has at plans;
+    committed = λ job tx done made tx_is next none job_is has at plans.
+        committed_so job tx done made tx_is has plans;
+    lacked = λ tx made tx_is none has at plans. by_state _ has.worker tt;
+    given = λ ok io made io_is has at plans. given_so ok io made has plans;
+    refused = λ why job tx made job_is tx_is has at plans. by_state _ has.worker tt;
+    left = λ tx made tx_is has at plans. by_state _ has.worker tt;
+    waited = λ place made has at plans. waited_so place made has at;
+  }
+
+  pub plans_stay : (made : Option Step) → GoesOn old.worker.phase old made new
+      → PlansAlone old.worker.phase old.worker old.core → PlansAlone new.worker.phase new.worker new.core
+  plans_stay made goes plans = by_cases old new Stays cases old.worker.phase made goes refl plans
