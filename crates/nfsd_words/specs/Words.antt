@@ -6,11 +6,15 @@ use Rattle.clap.specs.Words.{App, Row, Rule, Text, fault_of, first_of, new_app, 
 use Rattle.clap.specs.Words.{subcommand_of, with_rule, with_subcommand}
 use Rattle.clap.specs.declared.builder.ValueParser.TheVariants as value_parser
 use Rattle.nfsd_words.specs.declared.Args.{Args}
-use Rattle.nfsd_words.specs.declared.Args.TheVariants.{Format, Once}
+use Rattle.nfsd_words.specs.declared.Args.TheVariants.{Format, Once, Serve}
 
 -- the image, an argument that must be there
 abbrev pub image_rule : Rule
 image_rule = record (new_rule (codes "IMAGE")) { required = true }
+
+-- an option with a text that must be there
+abbrev pub text_rule : Text → Rule
+text_rule name = record (new_rule name) { long = Some name; required = true }
 
 -- an option with a number of 32 bits
 abbrev pub number_rule : Text → Rule
@@ -43,6 +47,22 @@ abbrev pub once_command : App
 once_command = with_rule (with_rule (new_app (codes "once")) image_rule)
     (required_rule (codes "time"))
 
+-- an option with a number from 1 to 64 that may be left out
+abbrev pub workers_rule : Text → Text → Rule
+workers_rule name default = record (default_rule name default) {
+  parser = Some (value_parser.Signed (pos 1) (pos 64));
+}
+
+-- `serve IMAGE --listen ADDR`
+abbrev pub first_of_serve : App
+first_of_serve = with_rule (with_rule (new_app (codes "serve")) image_rule) (text_rule (codes "listen"))
+
+-- `serve IMAGE --listen ADDR --workers W --connections K`, the last two with the defaults 4 and 0
+abbrev pub serve_command : App
+serve_command = with_rule
+    (with_rule first_of_serve (workers_rule (codes "workers") (codes "4")))
+    (default_rule (codes "connections") (codes "0"))
+
 -- the program before its commands
 abbrev pub bare_program : App
 bare_program = record (new_app (codes "nfsd")) {
@@ -53,9 +73,13 @@ bare_program = record (new_app (codes "nfsd")) {
 abbrev pub first_of_program : App
 first_of_program = with_subcommand bare_program format_command.top
 
+-- the program with the first two of them
+abbrev pub second_of_program : App
+second_of_program = with_subcommand first_of_program once_command.top
+
 -- the program's commands, one of which must be there
 abbrev pub whole_program : App
-whole_program = with_subcommand first_of_program once_command.top
+whole_program = with_subcommand second_of_program serve_command.top
 
 -- the option of this name has this number of 32 bits, given or by default
 abbrev pub IsNumber : List Row → Text → ℕ → Type 0
@@ -71,6 +95,10 @@ Asks name found (Format image blocks inodes time) = (name ≡ codes "format")
     × IsNumber found (codes "time") time
 Asks name found (Once image time) = (name ≡ codes "once")
     × (first_of (codes "IMAGE") found ≡ Some image.now) × IsNumber found (codes "time") time
+Asks name found (Serve image listen workers connections) = (name ≡ codes "serve")
+    × (first_of (codes "IMAGE") found ≡ Some image.now)
+    × (first_of (codes "listen") found ≡ Some listen.now)
+    × IsNumber found (codes "workers") workers × IsNumber found (codes "connections") connections
 
 -- the command that was met, if one was, asks for this
 abbrev pub IsAsked : Option (Text × List Row) → Args → Type 0

@@ -1,7 +1,7 @@
 use Rattle.std.proofs.Common.{rules, refl}
 use Rattle.clap.specs.Words.{found_of, rows_of}
 use Rattle.nfsd_words.proofs.Found.{if_none, no_blocks, no_image, no_inodes, no_number_found, no_text_found}
-use Rattle.nfsd_words.proofs.Found.{no_time}
+use Rattle.nfsd_words.proofs.Found.{no_time_made}
 use Rattle.nfsd_words.proofs.Found.{number_found, text_found}
 use Rattle.nfsd_words.proofs.asked_format.Goals as goal
 
@@ -30,5 +30,5 @@ returns-in_err-get_one-2-clause-senseless c = if_none _ (no_inodes (rows_of (fou
     no_number_found c.args.given.now _ c.get_one-2.result n c.get_one-2.ensures.value (search rules)))
 
 pub returns-in_err-get_one-3-clause-senseless : goal.returns-in_err-get_one-3-clause-senseless
-returns-in_err-get_one-3-clause-senseless c = if_none _ (no_time _ (rows_of (found_of c.args.given.now)) (λ n.
+returns-in_err-get_one-3-clause-senseless c = if_none _ (no_time_made (rows_of (found_of c.args.given.now)) (λ n.
     no_number_found c.args.given.now _ c.get_one-3.result n c.get_one-3.ensures.value (search rules)))
