@@ -1,6 +1,7 @@
 //! Schedules of four workers that are drawn, each stopped after a drawn count of events by a crash with a drawn choice
 //! of contents: the files that are left are those after a beginning of what was committed, in which is each change
 //! that was answered as durable.
+ghost use Rattle.std.specs.Prelude.{◌<◌, ◌≢◌};
 
 use crate::tests::calls::{hand, mk_dir, rm_dir, root, set_mode};
 use crate::tests::left::{formatted, prefix_left};
@@ -25,6 +26,7 @@ const MOST_EVENTS: u64 = 400;
 // A number below a bound, of a sequence that each seed fixes (Marsaglia's xorshift with 64 bits).
 fn draw(seed: &mut u64, bound: u64) -> u64
     requires { bound ≢ 0 }
+    ensures { result < bound }
 {
     *seed ^= *seed << 13;
     *seed ^= *seed >> 7;
