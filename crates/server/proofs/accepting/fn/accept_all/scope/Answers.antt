@@ -1,0 +1,17 @@
+-- The closure that reads a connection shares the hall, the connection and the queue of jobs.
+use denote.Param.Send.{sendable}
+use Rattle.std.proofs.Crossing.{crosses}
+use Rattle.crossbeam_channel.proofs.channel.Sender.TheSendSync as sender
+use Rattle.server.proofs.Crossing.{hall_sync, job_send, listed_send}
+use Rattle.server.proofs.accepting.fn.accept_all.scope.Goals as goal
+
+pub spawn-reader-requires-send-F : goal.spawn-reader-requires-send-F
+spawn-reader-requires-send-F g c κs within = search (
+  hall_sync,
+  job_send,
+  listed_send,
+  sender.the_sync,
+  crosses,
+  sendable,
+  c.requires,
+) depth 60 fits 20000
