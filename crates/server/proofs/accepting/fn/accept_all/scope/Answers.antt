@@ -6,12 +6,9 @@ use Rattle.server.proofs.Crossing.{hall_sync, job_send, listed_send}
 use Rattle.server.proofs.accepting.fn.accept_all.scope.Goals as goal
 
 pub spawn-reader-requires-send-F : goal.spawn-reader-requires-send-F
-spawn-reader-requires-send-F g c κs within = search (
-  hall_sync,
-  job_send,
-  listed_send,
-  sender.the_sync,
-  crosses,
-  sendable,
-  c.requires,
-) depth 60 fits 20000
+spawn-reader-requires-send-F g c κs within =
+    let port = c.requires.1.1.1.1.1.1.0 in
+    let source = c.requires.1.1.1.1.1.1.1.0 in
+    let runtime = c.requires.1.1.1.1.1.1.1.1 in
+    let hall = hall_sync _ _ _ g.G.Whole g.I.Whole g.L.Ledger g.G.Ledger g.I.Ledger _ _ port source in
+    search (hall, runtime, job_send, listed_send, sender.the_sync, crosses, sendable) depth 60 fits 20000
