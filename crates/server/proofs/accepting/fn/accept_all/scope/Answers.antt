@@ -7,8 +7,8 @@ use Rattle.server.proofs.accepting.fn.accept_all.scope.Goals as goal
 
 pub spawn-reader-requires-send-F : goal.spawn-reader-requires-send-F
 spawn-reader-requires-send-F g c κs within =
-    let port = c.requires.1.1.1.1.1.1.0 in
-    let source = c.requires.1.1.1.1.1.1.1.0 in
-    let runtime = c.requires.1.1.1.1.1.1.1.1 in
+    let port = c.requires.6 in
+    let source = c.requires.7 in
+    let runtime = c.requires.8 in
     let hall = hall_sync _ _ _ g.G.Whole g.I.Whole g.L.Ledger g.G.Ledger g.I.Ledger _ _ port source in
     search (hall, runtime, job_send, listed_send, sender.the_sync, crosses, sendable) depth 60 fits 20000
