@@ -1,4 +1,5 @@
 -- Each closure that a thread runs shares the hall.
+use denote.Param.{param}
 use denote.Param.Send.{sendable}
 use Rattle.std.proofs.Crossing.{crosses}
 use Rattle.crossbeam_channel.proofs.channel.Receiver.TheSendSync as receiver
@@ -11,7 +12,7 @@ spawn-requires-send-F g c κs within =
     let port = c.requires.6 in
     let source = c.requires.7 in
     let runtime = c.requires.8 in
-    let hall = hall_sync _ _ _ g.G.Whole g.I.Whole g.L.Ledger g.G.Ledger g.I.Ledger _ _ port source in
+    let hall = hall_sync (param 0 g.row.L) (param 1 g.row.G) (param 2 g.row.I) g.G.Whole g.I.Whole g.L.Ledger g.G.Ledger g.I.Ledger _ _ port source in
     search (hall, runtime, sender.the_send, crosses, sendable) depth 60 fits 20000
 
 pub spawn-requires-2-send-F : goal.spawn-requires-2-send-F
@@ -19,7 +20,7 @@ spawn-requires-2-send-F g c κs within =
     let port = c.requires.6 in
     let source = c.requires.7 in
     let runtime = c.requires.8 in
-    let hall = hall_sync _ _ _ g.G.Whole g.I.Whole g.L.Ledger g.G.Ledger g.I.Ledger _ _ port source in
+    let hall = hall_sync (param 0 g.row.L) (param 1 g.row.G) (param 2 g.row.I) g.G.Whole g.I.Whole g.L.Ledger g.G.Ledger g.I.Ledger _ _ port source in
     search (hall, runtime, crosses, sendable) depth 60 fits 20000
 
 pub spawn-requires-3-send-F : goal.spawn-requires-3-send-F
@@ -27,7 +28,7 @@ spawn-requires-3-send-F g c κs within =
     let port = c.requires.6 in
     let source = c.requires.7 in
     let runtime = c.requires.8 in
-    let hall = hall_sync _ _ _ g.G.Whole g.I.Whole g.L.Ledger g.G.Ledger g.I.Ledger _ _ port source in
+    let hall = hall_sync (param 0 g.row.L) (param 1 g.row.G) (param 2 g.row.I) g.G.Whole g.I.Whole g.L.Ledger g.G.Ledger g.I.Ledger _ _ port source in
     search (hall, runtime, receiver.the_sync, crosses, sendable) depth 60 fits 20000
 
 pub spawn-requires-in-loop-send-F : goal.spawn-requires-in-loop-send-F
@@ -35,5 +36,5 @@ spawn-requires-in-loop-send-F g c κs within =
     let port = c.requires.6 in
     let source = c.requires.7 in
     let runtime = c.requires.8 in
-    let hall = hall_sync _ _ _ g.G.Whole g.I.Whole g.L.Ledger g.G.Ledger g.I.Ledger _ _ port source in
+    let hall = hall_sync (param 0 g.row.L) (param 1 g.row.G) (param 2 g.row.I) g.G.Whole g.I.Whole g.L.Ledger g.G.Ledger g.I.Ledger _ _ port source in
     search (hall, runtime, job_send, receiver.the_sync, crosses, sendable) depth 60 fits 20000
