@@ -84,8 +84,8 @@ def in_pieces(stream, data, moments):
         at += size
 
 
-def many_calls(server, number, seed):
-    """A connection of many calls in flight at once, of a file of its own, and each reply is right."""
+def many_calls(server, number, seed, count):
+    """A connection of so many calls, many in flight at once, of a file of its own, and each reply is right."""
     moments = random.Random(f"{seed} {number}")
     with server.connect() as stream:
         name = b"file %d" % number
@@ -93,14 +93,18 @@ def many_calls(server, number, seed):
         status, made = nfs.CREATE.read_result(nfs.result_of(next_reply(stream)))
         same(f"CREATE of connection {number}", status, nfs.OK)
         data = bytes(moments.randrange(256) for _ in range(600))
+        # What each number of a call asks, by its rest: every tenth of the first ones writes a piece.
         calls = {}
-        for at in range(20):
-            piece = data[30 * at : 30 * at + 30]
-            stable = (nfs.UNSTABLE, nfs.FILE_SYNC)[at % 2]
-            calls[2 + at] = nfs.WRITE.call(2 + at, CALLER, made.object, 30 * at, 30, stable, piece)
-        for at in range(20):
-            calls[100 + at] = wire.null_call(100 + at)
-            calls[200 + at] = nfs.LOOKUP.call(200 + at, CALLER, ROOT, name)
+        for xid in range(10, count + 8):
+            at = xid // 10 - 1
+            if xid % 10 == 0 and at < 20:
+                piece = data[30 * at : 30 * at + 30]
+                stable = (nfs.UNSTABLE, nfs.FILE_SYNC)[at % 2]
+                calls[xid] = nfs.WRITE.call(xid, CALLER, made.object, 30 * at, 30, stable, piece)
+            elif xid % 2:
+                calls[xid] = wire.null_call(xid)
+            else:
+                calls[xid] = nfs.LOOKUP.call(xid, CALLER, ROOT, name)
         order = list(calls.values())
         moments.shuffle(order)
         sender = threading.Thread(target=in_pieces, args=[stream, b"".join(order), moments])
@@ -108,34 +112,37 @@ def many_calls(server, number, seed):
         found = replies(stream, len(calls))
         sender.join()
         for xid in calls:
-            if xid >= 200:
-                status, looked = nfs.LOOKUP.read_result(nfs.result_of(found[xid]))
-                same(f"LOOKUP of connection {number}", (status, looked.object), (nfs.OK, made.object))
-            elif xid >= 100:
-                same("NULL", wire.record(found[xid]), wire.null_reply(xid))
-            else:
+            if xid % 10 == 0 and xid // 10 <= 20:
                 status, written = nfs.WRITE.read_result(nfs.result_of(found[xid]))
                 same(f"WRITE of connection {number}", (status, written.count), (nfs.OK, 30))
+            elif xid % 2:
+                same("NULL", wire.record(found[xid]), wire.null_reply(xid))
+            else:
+                status, looked = nfs.LOOKUP.read_result(nfs.result_of(found[xid]))
+                same(f"LOOKUP of connection {number}", (status, looked.object), (nfs.OK, made.object))
         stream.sendall(nfs.READ.call(1, CALLER, made.object, 0, 4096))
         status, read = nfs.READ.read_result(nfs.result_of(next_reply(stream)))
         same(f"what connection {number} reads", (status, read.data), (nfs.OK, data))
 
 
-def test_many_connections_of_many_calls_in_pieces_are_answered_right(place):
-    image, seed = place.image(), time.time_ns()
-    # More than the files that there is room for would be refused.
-    server = Server(place, image, connections=48, workers=8)
+def assert_all_answered(place, image, workers, connections, count):
+    seed = time.time_ns()
+    server = Server(place, image, connections=connections, workers=workers)
     try:
-        all_of([lambda it=it: many_calls(server, it, seed) for it in range(48)])
+        all_of([lambda it=it: many_calls(server, it, seed, count) for it in range(connections)])
     except AssertionError as error:
         raise AssertionError(f"by seed {seed}: {error}") from error
     server.end()
 
 
+def test_64_connections_of_1000_calls_in_pieces_are_answered_right(place):
+    ran = place.run(["format", "image", "--blocks", "2048", "--inodes", "256"])
+    same("format's status", (ran.status, ran.errors), (0, b""))
+    assert_all_answered(place, place.path("image"), 8, MOST, 1000)
+
+
 def test_one_worker_answers_many_connections(place):
-    server = Server(place, place.image(), connections=12, workers=1)
-    all_of([lambda it=it: many_calls(server, it, 1) for it in range(12)])
-    server.end()
+    assert_all_answered(place, place.image(), 1, 12, 210)
 
 
 def test_a_connection_beyond_64_is_closed_and_counts(place):

@@ -6,11 +6,19 @@ import time
 
 from cases import nfs
 from cases.conversing import ROOT, ROOT_USER
-from cases.running import is_so, same
+from cases.running import same, wait_until
 from cases.tcp import Server
 
 CALLER = nfs.credential(*ROOT_USER)
-CLIENTS, KILLS = 8, 6
+CLIENTS, KILLS = 8, 50
+# A kill comes behind as many changes of all clients, drawn up to this.
+MOST_CHANGES = 30
+
+
+def moments_of(seed=None):
+    """Moments by chance, and the seed that they come from."""
+    seed = time.time_ns() if seed is None else seed
+    return random.Random(seed), seed
 
 
 class Worker:
@@ -21,9 +29,10 @@ class Worker:
         self.client, self.number, self.known = server.client(), number, known
         # The names that the call without an answer may have changed.
         self.open = set()
+        self.made = 0
 
     def run(self, moments):
-        made = 0
+        """Works until a call fails, and tells how."""
         try:
             while True:
                 name = b"%d.%d" % (self.number, moments.randrange(3))
@@ -40,39 +49,35 @@ class Worker:
                     self.client.do(nfs.RENAME, ROOT, name, ROOT, other)
                     self.known[other] = self.known.pop(name)
                 else:
-                    data = b"%d " % made + bytes(moments.randrange(256) for _ in range(40))
+                    data = b"%d " % self.made + bytes(moments.randrange(256) for _ in range(40))
                     file = self.client.find(ROOT, name)
                     self.client.write(file, 0, data)
                     self.known[name] = data + self.known[name][len(data) :]
-                made += 1
-        except (AssertionError, OSError):
-            # The server was killed.
-            pass
+                self.made += 1
+        except (AssertionError, OSError) as error:
+            return str(error)
 
 
 def test_what_was_answered_as_durable_outlasts_kills_under_load(place):
-    image, seed = place.image(), time.time_ns()
-    moments = random.Random(seed)
+    image = place.image()
+    moments, seed = moments_of()
     known = [{} for _ in range(CLIENTS)]
-    changes = 0
     for kill in range(KILLS):
         what = f"kill {kill} by seed {seed}"
         server = Server(place, image)
         workers = [Worker(server, it, known[it]) for it in range(CLIENTS)]
-        before = [dict(it) for it in known]
         threads = [
-            threading.Thread(target=it.run, args=[random.Random(moments.random())], daemon=True) for it in workers]
+            threading.Thread(target=it.run, args=[moments_of(moments.random())[0]], daemon=True) for it in workers]
         for it in threads:
             it.start()
-        time.sleep(moments.uniform(0.1, 0.6))
+        most = moments.randrange(1, MOST_CHANGES)
+        wait_until(f"{what}: {most} changes", lambda: sum(it.made for it in workers) >= most)
         server.kill()
         for it in threads:
             it.join()
-        changes += sum(a != b for a, b in zip(before, known))
         found = tree_of(place, image)
         for it in workers:
             assert_kept(what, it, found)
-    is_so(f"no kill by seed {seed} came after a change, so nothing was tried", changes)
 
 
 def tree_of(place, image):
