@@ -83,7 +83,9 @@ fn answered(
     asked: &Asked,
 ) -> Result<Option<Reply>, AllocError> {
     let call = call(alloc, asked)?;
-    answer(alloc, tree, ctx, &call)
+    let answered = answer(alloc, tree, ctx, &call);
+    drop(call);
+    answered
 }
 
 fn is_answered(
@@ -93,15 +95,19 @@ fn is_answered(
     asked: &Asked,
     wanted: &Wanted,
 ) -> Result<bool, AllocError> {
-    match answered(alloc, tree, ctx, asked)? {
-        Some(reply) => Ok(is_wanted(&reply, wanted)),
-        None => Ok(false),
-    }
+    let Some(reply) = answered(alloc, tree, ctx, asked)? else {
+        return Ok(false);
+    };
+    let is_met = is_wanted(&reply, wanted);
+    drop(reply);
+    Ok(is_met)
 }
 
 fn is_null_left_out(alloc: Global, tree: &mut PlainTree, ctx: &Ctx) -> Result<bool, AllocError> {
     let reply = answer(alloc, tree, ctx, &Call::Null)?;
-    Ok(reply.is_none())
+    let is_none = reply.is_none();
+    drop(reply);
+    Ok(is_none)
 }
 
 fn all_refused(
@@ -119,6 +125,21 @@ fn all_refused(
     Ok(true)
 }
 
+// The sizes that a call tells.
+fn sizes(
+    alloc: Global,
+    tree: &mut PlainTree,
+    ctx: &Ctx,
+    asked: &Asked,
+) -> Result<Option<(u64, u64)>, AllocError> {
+    let Some(reply) = answered(alloc, tree, ctx, asked)? else {
+        return Ok(None);
+    };
+    let told = sizes_told(&reply);
+    drop(reply);
+    Ok(told)
+}
+
 fn are_linked(
     alloc: Global,
     tree: &mut PlainTree,
@@ -129,11 +150,12 @@ fn are_linked(
     let (first, from, end) = names;
     let mut told = None;
     for second in from..end {
-        let link = Asked::Link(File(2, 1, 0), ROOT, &[first, second]);
-        told = match answered(alloc, tree, ctx, &link)? {
-            Some(reply) => sizes_told(&reply),
-            None => None,
-        };
+        told = sizes(
+            alloc,
+            tree,
+            ctx,
+            &Asked::Link(File(2, 1, 0), ROOT, &[first, second]),
+        )?;
     }
     Ok(told == Some(wanted))
 }
@@ -212,36 +234,49 @@ fn is_met(alloc: Global, tree: &mut PlainTree, step: &Step) -> Result<bool, Allo
     }
 }
 
-// Whether calls are answered as wanted; or what the function above tells.
-fn holds(alloc: Global, tree: &mut PlainTree, gid: u32, step: &Step) -> Result<bool, AllocError> {
-    let root = context(alloc, 0, gid, SECOND);
-    let user = context(alloc, 8, gid, SECOND);
+// Whether several calls in a context are answered as wanted; or what the function above tells.
+fn are_met(
+    alloc: Global,
+    tree: &mut PlainTree,
+    ctx: &Ctx,
+    step: &Step,
+) -> Result<bool, AllocError> {
     match *step {
-        Step::By(uid, ref asked, ref wanted) => {
-            is_answered(
-                alloc,
-                tree,
-                &context(alloc, uid, gid, SECOND),
-                asked,
-                wanted,
-            )
-        }
-        Step::At(second, ref asked, ref wanted) => {
-            is_answered(alloc, tree, &context(alloc, 0, gid, second), asked, wanted)
-        }
-        Step::Null => is_null_left_out(alloc, tree, &root),
-        Step::OnAFile(file, why) => all_refused(alloc, tree, &root, &calls_on_a_file(file), why),
+        Step::Null => is_null_left_out(alloc, tree, ctx),
+        Step::OnAFile(file, why) => all_refused(alloc, tree, ctx, &calls_on_a_file(file), why),
         Step::OnADirectory(file, why) => {
-            all_refused(alloc, tree, &root, &calls_on_a_directory(file), why)
+            all_refused(alloc, tree, ctx, &calls_on_a_directory(file), why)
         }
-        Step::Changes(name, why) => all_refused(alloc, tree, &user, &changes_of_a_name(name), why),
-        Step::Moves(name, why) => all_refused(alloc, tree, &user, &moves_of_a_name(name), why),
+        Step::Changes(name, why) => all_refused(alloc, tree, ctx, &changes_of_a_name(name), why),
+        Step::Moves(name, why) => all_refused(alloc, tree, ctx, &moves_of_a_name(name), why),
         Step::Links(first, from, end, sizes) => {
-            are_linked(alloc, tree, &root, (first, from, end), sizes)
+            are_linked(alloc, tree, ctx, (first, from, end), sizes)
         }
-        Step::Removals(from, end) => are_removed(alloc, tree, &root, from, end),
-        Step::RemovedSlots(end) => are_slots_removed(alloc, tree, &root, end),
+        Step::Removals(from, end) => are_removed(alloc, tree, ctx, from, end),
+        Step::RemovedSlots(end) => are_slots_removed(alloc, tree, ctx, end),
         _ => is_met(alloc, tree, step),
+    }
+}
+
+// Who makes the calls of a row, and at which second.
+fn caller(step: &Step) -> (u32, u32) {
+    match *step {
+        Step::By(uid, ..) => (uid, SECOND),
+        Step::At(second, ..) => (0, second),
+        Step::Changes(..) => (8, SECOND),
+        Step::Moves(..) => (8, SECOND),
+        _ => (0, SECOND),
+    }
+}
+
+// Whether a row is met.
+fn holds(alloc: Global, tree: &mut PlainTree, gid: u32, step: &Step) -> Result<bool, AllocError> {
+    let (uid, second) = caller(step);
+    let ctx = context(alloc, uid, gid, second);
+    match *step {
+        Step::By(_, ref asked, ref wanted) => is_answered(alloc, tree, &ctx, asked, wanted),
+        Step::At(_, ref asked, ref wanted) => is_answered(alloc, tree, &ctx, asked, wanted),
+        _ => are_met(alloc, tree, &ctx, step),
     }
 }
 
