@@ -10,6 +10,7 @@ from cases.running import NEW_MODE, expect, is_so, same
 OPTIONS = {
     "format": {"--blocks": "1024 1048576 16384", "--inodes": "32 65536 4096", "--time": "0 4294967295"},
     "once": {"--time": "0 4294967295"},
+    "serve": {"--listen": "127.0.0.1:2049", "--workers": "1 64 4", "--connections": "0 4294967295"},
 }
 
 
@@ -45,7 +46,7 @@ def test_help_says_what_format_takes_and_that_it_destroys_what_was_there(place):
     text = " ".join(told(place, ["format", "--help"]).split())
     for part in (
         "destroy", "length", "blocks of 4096 bytes, from 1024 to 1048576", "from 32 to 65536 by 32,",
-        "at least 64 data blocks", "[default: 16384]", "[default: 4096]", "4294967295 [default: 0]",
+        "at least 64 data blocks", "without it 16384, or all of a block device", "[default: 4096]", "4294967295 [default: 0]",
     ):
         is_so(f"no word of {part!r}", part in text)
 
@@ -80,8 +81,9 @@ def test_each_option_may_stand_anywhere_and_has_its_default(place):
 
 # Arguments behind the program's name that ask for nothing, and numbers that are none of 32 bits.
 SENSELESS = [
-    [], ["--help"], ["--version"], ["help"], ["check"], ["check", "image"], ["serve"],
-    ["serve", "image", "--listen", "127.0.0.1:0"], ["sim", "script"], ["format"], ["format", "--help"],
+    [], ["--help"], ["--version"], ["help"], ["check"], ["check", "image"], ["sim", "script"],
+    ["serve"], ["serve", "image"], ["serve", "--listen", "127.0.0.1:0"], ["serve", "image", "--listen"],
+    ["serve", "image", "--listen", "127.0.0.1:0", "--time", "1"], ["format"], ["format", "--help"],
     ["format", "image", "other"], ["format", "image", "--workers", "1"], ["format", "image", "--blocks", "many"],
     ["once"], ["once", "image"], ["once", "--time", "1"], ["once", "image", "--time"],
     ["once", "image", "--time", "1", "--time", "2"],
@@ -95,6 +97,9 @@ def test_arguments_without_a_meaning_have_status_2(place):
         for line in (["format", "image", "--blocks"], ["format", "image", "--inodes"], ["once", "image", "--time"])
         for number in NO_NUMBERS
     ]
+    serve = ["serve", "image", "--listen", "127.0.0.1:0"]
+    numbers += [[*serve, "--connections", number] for number in NO_NUMBERS]
+    numbers += [[*serve, "--workers", number] for number in [*NO_NUMBERS, "0", "65"]]
     for arguments in SENSELESS + numbers:
         ran = place.run(arguments)
         same(f"status of {arguments}", ran.status, 2)

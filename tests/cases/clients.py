@@ -6,34 +6,12 @@ import shutil
 import socket
 import threading
 
-from cases import nfs, plain, wire
+from cases import nfs, plain, tcp, wire
 from cases.running import INODES, MADE, SECONDS, Skipped, is_so, same
 
 NEEDED = {nfs.LOOKUP, nfs.ACCESS, nfs.READ, nfs.WRITE, nfs.CREATE, nfs.READDIRPLUS}
 NEEDED |= {nfs.FSSTAT, nfs.FSINFO, nfs.PATHCONF}
 NOW = 2000
-
-
-def read_record(read):
-    """The message of the next record, or None where the stream ends; `read` gives so many bytes at most."""
-
-    def exactly(count):
-        found = b""
-        while len(found) < count:
-            piece = read(count - len(found))
-            if not piece:
-                raise EOFError
-            found += piece
-        return found
-
-    message, is_last = b"", False
-    try:
-        while not is_last:
-            mark = int.from_bytes(exactly(4), "big")
-            message, is_last = message + exactly(mark & 0x7FFFFFFF), mark >> 31 == 1
-    except (EOFError, ConnectionError):
-        return None
-    return message
 
 
 class Relay:
@@ -54,17 +32,20 @@ class Relay:
 
     def attend(self, connection):
         with connection:
-            while message := read_record(connection.recv):
+            while message := wire.read_record(connection.recv):
                 with self.turn:
                     self.program.stdin.write(wire.record(message))
-                    reply = read_record(self.program.stdout.read)
+                    reply = wire.read_record(self.program.stdout.read)
                 if reply is None:
                     return
                 connection.sendall(wire.record(reply))
 
     def url(self, path):
-        port = self.socket.getsockname()[1]
-        return f"nfs://127.0.0.1/{path}?nfsport={port}&mountport={port}&version=3&auto-traverse-mounts=0"
+        return url_of(self.socket.getsockname()[1], path)
+
+
+def url_of(port, path):
+    return f"nfs://127.0.0.1/{path}?nfsport={port}&mountport={port}&version=3&auto-traverse-mounts=0"
 
 
 def command(name):
@@ -74,23 +55,28 @@ def command(name):
     return [found]
 
 
-def assert_kept(place, program):
+def assert_kept(place, url):
     """What the client copies there it lists and reads again."""
-    relay, contents = Relay(program), {}
+    contents = {}
+    for it in range(40):
+        contents[f"file {it}"] = os.urandom((0, 1, 4096, 9000, 33_000)[it % 5])
+        with open(place.path("copied"), "wb") as file:
+            file.write(contents[f"file {it}"])
+        ran = place.run([place.path("copied"), url(f"/file {it}")], command=command("nfs-cp"))
+        same(f"nfs-cp of file {it}", (ran.status, ran.errors), (0, b""))
+    ran = place.run(["-R", url("")], command=command("nfs-ls"))
+    same("nfs-ls", (ran.status, ran.errors), (0, b""))
+    lines = [it.split(None, 5) for it in ran.output.decode().splitlines()]
+    same("what it lists", {it[5]: int(it[4]) for it in lines}, {name: len(it) for name, it in contents.items()})
+    for name, data in contents.items():
+        ran = place.run([url("/" + name)], command=command("nfs-cat"))
+        is_so(f"nfs-cat of {name}: {ran.errors!r}", (ran.status, ran.output) == (0, data))
+
+
+def assert_kept_by_a_relay(place, program):
+    relay = Relay(program)
     try:
-        for it in range(40):
-            contents[f"file {it}"] = os.urandom((0, 1, 4096, 9000, 33_000)[it % 5])
-            with open(place.path("copied"), "wb") as file:
-                file.write(contents[f"file {it}"])
-            ran = place.run([place.path("copied"), relay.url(f"/file {it}")], command=command("nfs-cp"))
-            same(f"nfs-cp of file {it}", (ran.status, ran.errors), (0, b""))
-        ran = place.run(["-R", relay.url("")], command=command("nfs-ls"))
-        same("nfs-ls", (ran.status, ran.errors), (0, b""))
-        lines = [it.split(None, 5) for it in ran.output.decode().splitlines()]
-        same("what it lists", {it[5]: int(it[4]) for it in lines}, {name: len(it) for name, it in contents.items()})
-        for name, data in contents.items():
-            ran = place.run([relay.url("/" + name)], command=command("nfs-cat"))
-            is_so(f"nfs-cat of {name}: {ran.errors!r}", (ran.status, ran.output) == (0, data))
+        assert_kept(place, relay.url)
     finally:
         relay.socket.close()
     program.stdin.close()
@@ -100,7 +86,7 @@ def assert_kept(place, program):
 def test_a_client_keeps_files_with_the_plain_program(place):
     command("nfs-ls")
     counts = [str(it) for it in (2048, INODES, MADE, NOW)]
-    assert_kept(place, place.start(counts, command=plain.command_of(place), stdin=-1, bufsize=0))
+    assert_kept_by_a_relay(place, place.start(counts, command=plain.command_of(place), stdin=-1, bufsize=0))
 
 
 def test_a_client_keeps_files_with_the_server(place):
@@ -109,4 +95,13 @@ def test_a_client_keeps_files_with_the_server(place):
         raise Skipped("the program doesn't serve yet what a client needs")
     ran = place.run(["format", "image", "--blocks", "2048", "--inodes", str(INODES)])
     same("format", (ran.status, ran.errors), (0, b""))
-    assert_kept(place, place.start(["once", place.path("image"), "--time", str(NOW)], stdin=-1, bufsize=0))
+    assert_kept_by_a_relay(place, place.start(["once", place.path("image"), "--time", str(NOW)], stdin=-1, bufsize=0))
+
+
+def test_a_client_keeps_files_over_tcp(place):
+    command("nfs-ls")
+    ran = place.run(["format", "image", "--blocks", "2048", "--inodes", str(INODES)])
+    same("format", (ran.status, ran.errors), (0, b""))
+    server = tcp.Server(place, place.path("image"))
+    assert_kept(place, lambda path: url_of(server.port, path))
+    server.kill()

@@ -46,6 +46,28 @@ def records(stream):
     return found
 
 
+def read_record(read):
+    """The message of the next record, or None where the stream ends; `read` gives so many bytes at most."""
+
+    def exactly(count):
+        found = b""
+        while len(found) < count:
+            piece = read(count - len(found))
+            if not piece:
+                raise EOFError
+            found += piece
+        return found
+
+    message, is_last = b"", False
+    try:
+        while not is_last:
+            mark = int.from_bytes(exactly(4), "big")
+            message, is_last = message + exactly(mark & 0x7FFFFFFF), mark >> 31 == 1
+    except (EOFError, ConnectionError):
+        return None
+    return message
+
+
 def call(xid, procedure, arguments=b"", credential=AUTH_NONE):
     return record(words(xid, 0, 2, PROGRAM, VERSION, procedure) + credential + AUTH_NONE + arguments)
 

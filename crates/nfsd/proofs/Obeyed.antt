@@ -7,7 +7,7 @@ use Rattle.clap.specs.Words.{Text}
 use Rattle.disk.specs.declared.file.FirstContents.{FirstContents}
 use Rattle.disk.specs.Device.{Device}
 use Rattle.nfsd_words.specs.declared.Args.{Args}
-use Rattle.nfsd_words.specs.declared.Args.TheVariants.{Format, Once}
+use Rattle.nfsd_words.specs.declared.Args.TheVariants.{Format, Once, Serve}
 use Rattle.nfsd_words.specs.Words.{HasMeaning, WordsAsk}
 use Rattle.layout.specs.Geometry.{data_at}
 use Rattle.store_images.specs.Formatting.{HasFormatted}
@@ -15,10 +15,13 @@ use Rattle.nfs_types.specs.declared.ctx.Moment.{Moment}
 use Rattle.session.specs.Serving.{Client, HasServed}
 use Rattle.session.specs.declared.serving.SessionFault.{SessionFault}
 use Rattle.store_images.specs.Opening.{HasOpened, Opened}
+use Rattle.server.specs.declared.serving.ServeFault.{ServeFault}
+use Rattle.server.specs.declared.serving.ServeFault.TheVariants as server
 use Rattle.nfsd.specs.declared.fault.Fault.{Fault}
 use Rattle.nfsd.specs.declared.fault.Fault.TheVariants as fault
-use Rattle.nfsd.specs.Done.{Answers, DoesCommand, FormatsDevice, IsWithoutMemory, Obeys, Outcome}
-use Rattle.nfsd.specs.Done.{ServesDevice, TellsOutcome, Told, device_of, formatted_line, moment_at}
+use Rattle.nfsd.specs.Done.{Answers, AreAsked, DoesCommand, FormatsDevice, IsAnnounced, IsWithoutMemory, Obeys, Outcome}
+use Rattle.nfsd.specs.Done.{ServesClients, ServesDevice, TellsOutcome, Told, device_of, formatted_line}
+use Rattle.nfsd.specs.Done.{listening_line, moment_at, outcome_of_server}
 use Rattle.nfsd.specs.Faults.{status_of_outcome}
 
 -- the command that was asked for was done, so the arguments were obeyed
@@ -26,15 +29,21 @@ pub obeys_command : (first : FirstContents) (words : List Text) (args : Args) (c
     (outcome : Outcome) (device : Option Device) (later : Client) → WordsAsk words args
     → DoesCommand first args client outcome device later → Obeys first words client outcome device later
 obeys_command first words (Format image blocks inodes time) client (Err fault.NotText) device later asks does =
-    absurd does.3
+    absurd does.5
 obeys_command first words (Once image time) client (Err fault.NotText) device later asks does = absurd does.3
 obeys_command first words (Format image blocks inodes time) client (Err fault.Memory) device later asks does =
-    absurd does.3
+    absurd does.5
 obeys_command first words (Once image time) client (Err fault.Memory) device later asks does = absurd does.3
 obeys_command first words (Format image blocks inodes time) client (Err (fault.Words e)) device later asks
-    does = absurd does.3
+    does = absurd does.5
 obeys_command first words (Once image time) client (Err (fault.Words e)) device later asks does =
     absurd does.3
+obeys_command first words (Serve image listen workers connections) client (Err fault.NotText) device later asks
+    does = absurd does.2
+obeys_command first words (Serve image listen workers connections) client (Err fault.Memory) device later asks
+    does = absurd does.2
+obeys_command first words (Serve image listen workers connections) client (Err (fault.Words e)) device later asks
+    does = absurd does.2
 obeys_command first words args client outcome device later asks does = (args, asks, does)
 
 -- a device was made an image, and the line of its counts was printed or wasn't
@@ -74,16 +83,40 @@ serves old new time client later opened store moment result outcome opens at ser
     go (Ok count) served = (opened, store, count, opens, served, left)
     go (Err why) served = (opened, store, opens, served, left)
 
+-- a device was opened, but where it listens wasn't printed
+pub unannounced : (old : Device) (written written' : Option (List ℕ)) (opened : Opened) (why : Fault)
+    (device : Option Device) → HasOpened old (Ok opened) → why ≡ fault.Print
+    → ServesClients old written (Err why) device written'
+unannounced old written written' opened why device opens is =
+    subst (λ (f : Fault). ServesClients old written (Err f) device written') (sym is) (opened, opens)
+
+-- a device was opened, where it listens was printed, and what comes of it is what came of its server
+pub listens : (old : Device) (written written' : Option (List ℕ)) (opened : Opened) (address : List ℕ)
+    (ended : Result (Unit {0}) ServeFault) (outcome : Outcome) (device : Option Device)
+    → HasOpened old (Ok opened) → Appends written written' (listening_line address)
+    → outcome ≡ outcome_of_server ended → ServesClients old written outcome device written'
+listens old written written' opened address ended outcome device opens printed is =
+    subst (λ (o : Outcome). ServesClients old written o device written') (sym is) (go ended)
+  where
+    shown : IsAnnounced old written written'
+    shown = (opened, opens, address, printed)
+
+    go : (ended : Result (Unit {0}) ServeFault)
+        → ServesClients old written (outcome_of_server ended) device written'
+    go (Ok done) = shown
+    go (Err server.Memory) = shown
+    go (Err server.Device) = shown
+
 -- the device of the image's file was formatted, so the command was done
-pub formats_command : (first : FirstContents) (image : _) (blocks inodes time : ℕ) (new : Device)
-    (client : Client) (outcome : Outcome) (device : Option Device) (later : Client) → device ≡ Some new
-    → later.unread ≡ client.unread
-    → FormatsDevice (device_of first blocks) inodes time client.written outcome new later.written
+pub formats_command : (first : FirstContents) (image : _) (blocks : Option ℕ) (size inodes time : ℕ) (new : Device)
+    (client : Client) (outcome : Outcome) (device : Option Device) (later : Client) → AreAsked blocks size
+    → device ≡ Some new → later.unread ≡ client.unread
+    → FormatsDevice (device_of first size) inodes time client.written outcome new later.written
     → DoesCommand first (Format image blocks inodes time) client outcome device later
-formats_command first image blocks inodes time new client (Err fault.File) device later back unread formats =
-    absurd formats
-formats_command first image blocks inodes time new client outcome device later back unread formats =
-    (new, back, unread, formats)
+formats_command first image blocks size inodes time new client (Err fault.File) device later asked back unread
+    formats = absurd formats
+formats_command first image blocks size inodes time new client outcome device later asked back unread formats =
+    (size, new, asked, back, unread, formats)
 
 -- the device of the image's file was served from, so the command was done
 pub serves_command : (first : FirstContents) (image : _) (size time : ℕ) (new : Device) (client : Client)
@@ -92,6 +125,18 @@ pub serves_command : (first : FirstContents) (image : _) (size time : ℕ) (new 
     → DoesCommand first (Once image time) client outcome device later
 serves_command first image size time new client (Err fault.File) device later back serves = absurd serves
 serves_command first image size time new client outcome device later back serves = (size, new, back, serves)
+
+-- clients were served from the device of the image's file, so the command was done
+pub listens_command : (first : FirstContents) (image listen : _) (workers connections size : ℕ) (client : Client)
+    (outcome : Outcome) (device : Option Device) (later : Client) → later.unread ≡ client.unread
+    → ServesClients (device_of first size) client.written outcome device later.written
+    → DoesCommand first (Serve image listen workers connections) client outcome device later
+listens_command first image listen workers connections size client (Err fault.File) device later unread serves =
+    absurd serves
+listens_command first image listen workers connections size client (Err fault.Address) device later unread
+    serves = absurd serves
+listens_command first image listen workers connections size client outcome device later unread serves =
+    (size, unread, serves)
 
 -- with status 2 the arguments have no meaning
 obeys_two : (first : FirstContents) (words : List Text) (client : Client) (outcome : Outcome)

@@ -10,12 +10,15 @@ use Rattle.disk.specs.Device.{Device}
 use Rattle.disk.specs.File.{file_device, first_in}
 use Rattle.nfs_types.specs.declared.ctx.Moment.{Moment}
 use Rattle.nfsd_words.specs.declared.Args.{Args}
-use Rattle.nfsd_words.specs.declared.Args.TheVariants.{Format, Once}
+use Rattle.nfsd_words.specs.declared.Args.TheVariants.{Format, Once, Serve}
 use Rattle.nfsd_words.specs.Words.{HasMeaning, WordsAsk}
 use Rattle.layout.specs.Geometry.{data_at}
 use Rattle.store_images.specs.Formatting.{HasFormatted}
 use Rattle.store_images.specs.Opening.{HasOpened, Opened}
 use Rattle.session.specs.Serving.{Client, HasServed}
+use Rattle.server.specs.declared.serving.ServeFault.{ServeFault}
+use Rattle.server.specs.declared.serving.ServeFault.TheVariants as server
+use Rattle.session.specs.declared.serving.SessionFault.TheVariants as session
 use Rattle.nfsd.specs.declared.fault.Fault.{Fault}
 use Rattle.nfsd.specs.declared.fault.Fault.TheVariants as fault
 use Rattle.nfsd.specs.Faults.{as_line, fault_line, status_of_outcome}
@@ -58,6 +61,31 @@ ServesDevice old time client (Err (fault.Open why)) new later = HasOpened old (E
     × (later ≡ client)
 ServesDevice old time client (Err other) new later = ⊥
 
+-- `listening ADDRESS`
+abbrev pub listening_line : List ℕ → List ℕ
+listening_line address = as_line (codes "listening " ++ address)
+
+-- a device was opened as a store, and where it listens was printed
+abbrev pub IsAnnounced : Device → Option (List ℕ) → Option (List ℕ) → Type 0
+IsAnnounced old written written' = (opened : Opened) × HasOpened old (Ok opened)
+    × (address : List ℕ) × Appends written written' (listening_line address)
+
+-- `serve` of a device: it was opened as a store, where it listens was printed, and its clients were served; or
+-- it was opened and that couldn't be printed; or it was refused, and nothing was printed
+abbrev pub ServesClients : Device → Option (List ℕ) → Outcome → Option Device → Option (List ℕ) → Type 0
+ServesClients old written (Ok done) device written' = IsAnnounced old written written'
+ServesClients old written (Err (fault.Session why)) device written' = IsAnnounced old written written'
+ServesClients old written (Err fault.Print) device written' = (opened : Opened) × HasOpened old (Ok opened)
+ServesClients old written (Err (fault.Open why)) device written' = (new : Device) × (device ≡ Some new)
+    × HasOpened old (Err (new, why)) × (written' ≡ written)
+ServesClients old written (Err other) device written' = ⊥
+
+-- what comes of a server by how it ended
+abbrev pub outcome_of_server : Result (Unit {0}) ServeFault → Outcome
+outcome_of_server (Ok done) = Ok done
+outcome_of_server (Err server.Memory) = Err (fault.Session session.NoMemory)
+outcome_of_server (Err server.Device) = Err (fault.Session session.Device)
+
 -- the device of so many blocks of a file that held this when it was opened, before any call of it
 abbrev pub device_of : FirstContents → ℕ → Device
 device_of first size = file_device (first_in first.blocks.items) size []
@@ -68,15 +96,25 @@ device_in None = None
 device_in (Some disk) =
     Some (file_device (first_in disk.first.blocks.items) disk.blocks disk.file.calls.items)
 
+-- so many blocks are as many as are asked for, where a number is
+abbrev pub AreAsked : Option ℕ → ℕ → Type 0
+AreAsked blocks size = IfSome blocks (λ asked. size ≡ asked)
+
 -- The command that is asked for was done to the device of a file that held this, this came of it, and the device
--- is handed back as that left it; or there is no device, and the fault is that of the file.
+-- is handed back as that left it, but for a device that was served from; or there is no device, and the fault is
+-- that of the file or of the address.
 abbrev pub DoesCommand : FirstContents → Args → Client → Outcome → Option Device → Client → Type 0
 DoesCommand first args client (Err fault.File) device later = (later ≡ client) × (device ≡ None)
-DoesCommand first (Format image blocks inodes time) client outcome device later = (new : Device)
-    × (device ≡ Some new) × (later.unread ≡ client.unread)
-    × FormatsDevice (device_of first blocks) inodes time client.written outcome new later.written
+DoesCommand first (Format image blocks inodes time) client outcome device later = (size : ℕ) × (new : Device)
+    × AreAsked blocks size × (device ≡ Some new) × (later.unread ≡ client.unread)
+    × FormatsDevice (device_of first size) inodes time client.written outcome new later.written
 DoesCommand first (Once image time) client outcome device later = (size : ℕ) × (new : Device)
     × (device ≡ Some new) × ServesDevice (device_of first size) time client outcome new later
+DoesCommand first (Serve image listen workers connections) client (Err fault.Address) device later =
+    (later ≡ client) × (device ≡ None)
+DoesCommand first (Serve image listen workers connections) client outcome device later = (size : ℕ)
+    × (later.unread ≡ client.unread)
+    × ServesClients (device_of first size) client.written outcome device later.written
 
 -- The arguments were obeyed: the command that they ask for was done to a file that held this, or they have no
 -- meaning, or there was no memory to read them.

@@ -54,6 +54,7 @@ fault_line (fault.Format why) = Some (format_line why)
 fault_line (fault.Open why) = Some (open_line why)
 fault_line (fault.Session why) = Some (session_line why)
 fault_line fault.Print = Some (as_line (codes "nfsd: output"))
+fault_line fault.Address = Some (as_line (codes "nfsd: address"))
 
 -- 2 where the arguments aren't text or don't parse, and 1 at every other fault
 abbrev pub status_of : Fault → ℕ

@@ -9,12 +9,18 @@ ghost use Rattle.nfsd.specs.Faults.{status_of_outcome};
 use crate::device::{format_device, serve_device};
 use crate::fault::Fault;
 use crate::fault_stream::FaultStream;
+use crate::image_files::{make_image, open_image};
 use crate::streams::{Streams, fill};
+use crate::tcp::{listen_at, serve_clients};
 use disk::{BlockFile, FileDisk, FirstContents};
 use nfsd_words::{Args, words};
 use session::Input;
 use std::fs::Files;
 use std::io::{Read, Write};
+use std::net::{Net, TcpListener, TcpStream};
+use std::sync::Wait;
+use std::thread::Threads;
+use std::time::Clock;
 
 /// Tells a fault on `faults`, where that can be done, and gives the exit status.
 pub fn conclude<E: Write>(faults: &mut FaultStream<E>, outcome: &Result<(), Fault>) -> u8
@@ -42,8 +48,15 @@ pub fn answer<R, I, O, E>(
     faults: &mut FaultStream<E>,
 ) -> (u8, Option<FileDisk<R::File>>)
 where
-    R: Files + Streams + AllocGlobal,
-    R::File: BlockFile,
+    R: Files
+        + Streams
+        + AllocGlobal
+        + Net<Listener = TcpListener, Stream = TcpStream>
+        + Threads
+        + Wait
+        + Clock
+        + Sync,
+    R::File: BlockFile + Send + Sync,
     I: Read,
     O: Write,
     E: Write,
@@ -71,8 +84,15 @@ fn obey<R, I, O>(
     writer: &mut O,
 ) -> (Option<FileDisk<R::File>>, Result<(), Fault>)
 where
-    R: Files + Streams + AllocGlobal,
-    R::File: BlockFile,
+    R: Files
+        + Streams
+        + AllocGlobal
+        + Net<Listener = TcpListener, Stream = TcpStream>
+        + Threads
+        + Wait
+        + Clock
+        + Sync,
+    R::File: BlockFile + Send + Sync,
     I: Read,
     O: Write,
     ensures { Obeys first (map (λ word. word.now) line.now)
@@ -90,8 +110,8 @@ where
     command(rt, args, first, reader, writer)
 }
 
-// Does a command to the device of the image's file, and hands it back. A refusal to format leaves the file with
-// its new length.
+// Does a command to the device of the image's file, and hands it back. A refusal to format leaves a file with its
+// new length.
 fn command<R, I, O>(
     rt: &R,
     args: Args<'_>,
@@ -100,8 +120,14 @@ fn command<R, I, O>(
     writer: &mut O,
 ) -> (Option<FileDisk<R::File>>, Result<(), Fault>)
 where
-    R: Files + AllocGlobal,
-    R::File: BlockFile,
+    R: Files
+        + AllocGlobal
+        + Net<Listener = TcpListener, Stream = TcpStream>
+        + Threads
+        + Wait
+        + Clock
+        + Sync,
+    R::File: BlockFile + Send + Sync,
     I: Read,
     O: Write,
     ensures { DoesCommand first args.entry
@@ -115,7 +141,7 @@ where
             inodes,
             time,
         } => {
-            let made = match FileDisk::create(rt, image, blocks) {
+            let made = match make_image(rt, image, blocks) {
                 Ok(made) => made,
                 Err(_) => return (None, Err(Fault::File)),
             };
@@ -124,13 +150,31 @@ where
             (Some(disk), outcome)
         }
         Args::Once { image, time } => {
-            let opened = match FileDisk::open(rt, image) {
+            let opened = match open_image(rt, image) {
                 Ok(opened) => opened,
                 Err(_) => return (None, Err(Fault::File)),
             };
             let disk = opened.beginning_with(first);
             let (disk, outcome) = serve_device(rt.alloc(), disk, time, reader, writer);
             (Some(disk), outcome)
+        }
+        Args::Serve {
+            image,
+            listen,
+            workers,
+            connections,
+        } => {
+            let listening = match listen_at(rt, rt.alloc(), listen) {
+                Ok(listening) => listening,
+                Err(fault) => return (None, Err(fault)),
+            };
+            let opened = match open_image(rt, image) {
+                Ok(opened) => opened,
+                Err(_) => return (None, Err(Fault::File)),
+            };
+            let disk = opened.beginning_with(first);
+            let alloc = rt.alloc();
+            serve_clients(rt, alloc, disk, &listening, workers, connections, writer)
         }
     }
 }

@@ -28,6 +28,8 @@ pub enum Fault {
     Session(SessionFault),
     /// The line of the answer can't be printed.
     Print,
+    /// The address can't be had.
+    Address,
 }
 
 impl Fault {
@@ -78,6 +80,7 @@ impl fmt::Display for Fault {
             Fault::Open(fault) => f.write_str(open_line(*fault)),
             Fault::Session(fault) => f.write_str(session_line(*fault)),
             Fault::Print => f.write_str("nfsd: output\n"),
+            Fault::Address => f.write_str("nfsd: address\n"),
         }
     }
 }

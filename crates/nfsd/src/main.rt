@@ -1,4 +1,4 @@
-//! The program: makes images, and serves one client over the standard input and output.
+//! The program: makes images, and serves one client over the standard input and output, or many over TCP.
 #![tactic(auto)]
 
 mod answer;
@@ -6,25 +6,51 @@ mod arguments;
 mod device;
 mod fault;
 mod fault_stream;
+mod image_files;
 mod lines;
 mod streams;
+mod tcp;
 
 use crate::answer::{answer, conclude};
 use crate::arguments::arguments;
 use crate::fault::Fault;
 use crate::fault_stream::FaultStream;
-use disk::FirstContents;
+use crate::streams::Streams;
+use disk::{BlockFile, FirstContents};
 use session::Input;
 use std::alloc::AllocError;
+use std::env::Env;
+use std::fs::Files;
+use std::io::{Read, Write};
+use std::net::{Net, TcpListener, TcpStream};
 use std::process::ExitCode;
+use std::sync::Wait;
+use std::thread::Threads;
+use std::time::Clock;
 
 fn main(rt: HostRuntime) -> ExitCode {
-    ExitCode::from(attend(&rt))
+    let input = Input::new(rt.reader());
+    ExitCode::from(attend(&rt, input, rt.stdout(), rt.stderr()))
 }
 
 // Reads the arguments, and does what they ask for.
-fn attend(rt: &HostRuntime) -> u8 {
-    let mut faults = FaultStream::new(rt.stderr());
+fn attend<R, I, O, E>(rt: &R, input: Input<I>, output: O, errors: E) -> u8
+where
+    R: Env
+        + Files
+        + Streams
+        + AllocGlobal
+        + Net<Listener = TcpListener, Stream = TcpStream>
+        + Threads
+        + Wait
+        + Clock
+        + Sync,
+    R::File: BlockFile + Send + Sync,
+    I: Read + Drop,
+    O: Write + Drop,
+    E: Write + Drop,
+{
+    let mut faults = FaultStream::new(errors);
     let given = match arguments(rt) {
         Ok(given) => given,
         Err(fault) => return conclude(&mut faults, &Err(fault)),
@@ -33,14 +59,15 @@ fn attend(rt: &HostRuntime) -> u8 {
         .iter()
         .map(|word| word.as_str())
         .collect(rt.alloc());
+    let (mut input, mut output) = (input, output);
     match line {
         Ok(line) => {
             let (status, _disk) = answer(
                 rt,
                 line.as_slice(),
                 FirstContents::whatever(),
-                &mut Input::new(rt.reader()),
-                &mut rt.stdout(),
+                &mut input,
+                &mut output,
                 &mut faults,
             );
             status

@@ -10,8 +10,8 @@ use Rattle.clap.proofs.WalkLemmas.{first_value-rows, one_text-rows}
 use Rattle.clap.specs.declared.ArgMatches.{ArgMatches}
 use Rattle.clap.specs.declared.error.kind.ErrorKind.{ErrorKind}
 use Rattle.nfsd_words.specs.declared.Args.{Args}
-use Rattle.nfsd_words.specs.declared.Args.TheVariants.{Format, Once}
-use Rattle.nfsd_words.specs.Words.{Asks, IsNumber}
+use Rattle.nfsd_words.specs.declared.Args.TheVariants.{Format, Once, Serve}
+use Rattle.nfsd_words.specs.Words.{Asks, IsNumber, IsNumberOrNone}
 
 -- a text that `get_str` gave stands first in its row
 pub text_found : (m : ArgMatches) (id : Text) (r : Option (Bor Text)) (x : Bor Text)
@@ -68,29 +68,69 @@ no_number_found m id r n value is number = go (one_of id (rows_of (found_of m)))
         let spelled = rw e at number in
         read.1.0 (spelled.0, subst (λ k. k < 2 ^ 32) spelled.1 spelled.2)
 
+-- what `get_one` gave is the number that its row spells, or none where it spells none
+pub number_or_none_found : (m : ArgMatches) (id : Text) (r : Option ℕ)
+    → (one_text (found_of m) id ≡ None → r ≡ None)
+    → ((t : List ℕ) → one_text (found_of m) id ≡ Some t → ReadsOne u32_gives t r)
+    → IsNumberOrNone (rows_of (found_of m)) id r
+number_or_none_found m id None none value = λ n. no_number_found m id None n value refl
+number_or_none_found m id (Some n) none value = number_found m id (Some n) n none value refl
+
 -- without a text of its image a command asks for nothing
 pub no_image : (name : Text) (found : List Row) → ((x : Text) → first_of (codes "IMAGE") found ≡ Some x → ⊥)
     → (args : Args) → ¬ Asks name found args
 no_image name found none (Format image blocks inodes time) asks = none image.now asks.1
 no_image name found none (Once image time) asks = none image.now asks.1
+no_image name found none (Serve image listen workers connections) asks = none image.now asks.1
 
--- without a number of its time a command asks for nothing
-pub no_time : (name : Text) (found : List Row) → ((n : ℕ) → IsNumber found (codes "time") n → ⊥)
-    → (args : Args) → ¬ Asks name found args
-no_time name found none (Format image blocks inodes time) asks = none time asks.4
-no_time name found none (Once image time) asks = none time asks.2
-
--- `format` asks for nothing without a number of its blocks
-pub no_blocks : (found : List Row) → ((n : ℕ) → IsNumber found (codes "blocks") n → ⊥)
+-- `format` asks for nothing without a number of its time
+pub no_time_made : (found : List Row) → ((n : ℕ) → IsNumber found (codes "time") n → ⊥)
     → (args : Args) → ¬ Asks (codes "format") found args
-no_blocks found none (Format image blocks inodes time) asks = none blocks asks.2
-no_blocks found none (Once image time) asks = let other : codes "format" ≡ codes "once" = asks.0 in cc
+no_time_made found none (Format image blocks inodes time) asks = none time asks.4
+no_time_made found none (Once image time) asks = let other : codes "format" ≡ codes "once" = asks.0 in cc
+no_time_made found none (Serve image listen workers connections) asks =
+    let other : codes "format" ≡ codes "serve" = asks.0 in cc
+
+-- `once` asks for nothing without a number of its time
+pub no_time_of_calls : (found : List Row) → ((n : ℕ) → IsNumber found (codes "time") n → ⊥)
+    → (args : Args) → ¬ Asks (codes "once") found args
+no_time_of_calls found none (Format image blocks inodes time) asks =
+    let other : codes "once" ≡ codes "format" = asks.0 in cc
+no_time_of_calls found none (Once image time) asks = none time asks.2
+no_time_of_calls found none (Serve image listen workers connections) asks =
+    let other : codes "once" ≡ codes "serve" = asks.0 in cc
 
 -- `format` asks for nothing without a number of its inodes
 pub no_inodes : (found : List Row) → ((n : ℕ) → IsNumber found (codes "inodes") n → ⊥)
     → (args : Args) → ¬ Asks (codes "format") found args
 no_inodes found none (Format image blocks inodes time) asks = none inodes asks.3
 no_inodes found none (Once image time) asks = let other : codes "format" ≡ codes "once" = asks.0 in cc
+no_inodes found none (Serve image listen workers connections) asks =
+    let other : codes "format" ≡ codes "serve" = asks.0 in cc
+
+-- `serve` asks for nothing without a text of its address
+pub no_listen : (found : List Row) → ((x : Text) → first_of (codes "listen") found ≡ Some x → ⊥)
+    → (args : Args) → ¬ Asks (codes "serve") found args
+no_listen found none (Format image blocks inodes time) asks =
+    let other : codes "serve" ≡ codes "format" = asks.0 in cc
+no_listen found none (Once image time) asks = let other : codes "serve" ≡ codes "once" = asks.0 in cc
+no_listen found none (Serve image listen workers connections) asks = none listen.now asks.2
+
+-- `serve` asks for nothing without a number of its workers
+pub no_workers : (found : List Row) → ((n : ℕ) → IsNumber found (codes "workers") n → ⊥)
+    → (args : Args) → ¬ Asks (codes "serve") found args
+no_workers found none (Format image blocks inodes time) asks =
+    let other : codes "serve" ≡ codes "format" = asks.0 in cc
+no_workers found none (Once image time) asks = let other : codes "serve" ≡ codes "once" = asks.0 in cc
+no_workers found none (Serve image listen workers connections) asks = none workers asks.3
+
+-- `serve` asks for nothing without a number of its connections
+pub no_connections : (found : List Row) → ((n : ℕ) → IsNumber found (codes "connections") n → ⊥)
+    → (args : Args) → ¬ Asks (codes "serve") found args
+no_connections found none (Format image blocks inodes time) asks =
+    let other : codes "serve" ≡ codes "format" = asks.0 in cc
+no_connections found none (Once image time) asks = let other : codes "serve" ≡ codes "once" = asks.0 in cc
+no_connections found none (Serve image listen workers connections) asks = none connections asks.4
 
 -- a fact stands where there is no value
 pub if_none : {A : Type 0} {P : Type 0} (r : Option A) → P → IfNone r P

@@ -1,16 +1,20 @@
 -- What the arguments of a command line ask of the program.
-use Rattle.std.specs.Prelude.{◌≡◌, ℕ, ◌^◌, ◌<◌, List, [], ◌∷◌, Option, Some, true, codes, pos}
+use Rattle.std.specs.Prelude.{◌≡◌, ℕ, ◌^◌, ◌<◌, List, [], ◌∷◌, Option, None, Some, true, codes, pos}
 use Rattle.std.specs.Option.{IsSomeAnd}
 use Rattle.std.specs.Str.Parse.{IsNumeral, digits_value, without_leading_plus}
 use Rattle.clap.specs.Words.{App, Row, Rule, Text, fault_of, first_of, new_app, new_rule, one_of}
 use Rattle.clap.specs.Words.{subcommand_of, with_rule, with_subcommand}
 use Rattle.clap.specs.declared.builder.ValueParser.TheVariants as value_parser
 use Rattle.nfsd_words.specs.declared.Args.{Args}
-use Rattle.nfsd_words.specs.declared.Args.TheVariants.{Format, Once}
+use Rattle.nfsd_words.specs.declared.Args.TheVariants.{Format, Once, Serve}
 
 -- the image, an argument that must be there
 abbrev pub image_rule : Rule
 image_rule = record (new_rule (codes "IMAGE")) { required = true }
+
+-- an option with a text that must be there
+abbrev pub text_rule : Text → Rule
+text_rule name = record (new_rule name) { long = Some name; required = true }
 
 -- an option with a number of 32 bits
 abbrev pub number_rule : Text → Rule
@@ -27,10 +31,9 @@ default_rule name default = record (number_rule name) { defaults = default ∷ [
 abbrev pub required_rule : Text → Rule
 required_rule name = record (number_rule name) { required = true }
 
--- `format IMAGE --blocks N`, with the default 16384
+-- `format IMAGE --blocks N`
 abbrev pub first_of_format : App
-first_of_format = with_rule (with_rule (new_app (codes "format")) image_rule)
-    (default_rule (codes "blocks") (codes "16384"))
+first_of_format = with_rule (with_rule (new_app (codes "format")) image_rule) (number_rule (codes "blocks"))
 
 -- `format IMAGE --blocks N --inodes I --time S`, the last two with the defaults 4096 and 0
 abbrev pub format_command : App
@@ -43,6 +46,22 @@ abbrev pub once_command : App
 once_command = with_rule (with_rule (new_app (codes "once")) image_rule)
     (required_rule (codes "time"))
 
+-- an option with a number from 1 to 64 that may be left out
+abbrev pub workers_rule : Text → Text → Rule
+workers_rule name default = record (default_rule name default) {
+  parser = Some (value_parser.Signed (pos 1) (pos 64));
+}
+
+-- `serve IMAGE --listen ADDR`
+abbrev pub first_of_serve : App
+first_of_serve = with_rule (with_rule (new_app (codes "serve")) image_rule) (text_rule (codes "listen"))
+
+-- `serve IMAGE --listen ADDR --workers W --connections K`, the last two with the defaults 4 and 0
+abbrev pub serve_command : App
+serve_command = with_rule
+    (with_rule first_of_serve (workers_rule (codes "workers") (codes "4")))
+    (default_rule (codes "connections") (codes "0"))
+
 -- the program before its commands
 abbrev pub bare_program : App
 bare_program = record (new_app (codes "nfsd")) {
@@ -53,9 +72,13 @@ bare_program = record (new_app (codes "nfsd")) {
 abbrev pub first_of_program : App
 first_of_program = with_subcommand bare_program format_command.top
 
+-- the program with the first two of them
+abbrev pub second_of_program : App
+second_of_program = with_subcommand first_of_program once_command.top
+
 -- the program's commands, one of which must be there
 abbrev pub whole_program : App
-whole_program = with_subcommand first_of_program once_command.top
+whole_program = with_subcommand second_of_program serve_command.top
 
 -- the option of this name has this number of 32 bits, given or by default
 abbrev pub IsNumber : List Row → Text → ℕ → Type 0
@@ -63,14 +86,23 @@ IsNumber found name number = IsSomeAnd (one_of name found) (λ text.
     IsNumeral 10 (without_leading_plus text)
     × (number ≡ digits_value 10 (without_leading_plus text)) × (number < 2 ^ 32))
 
+-- the option of this name has this number of 32 bits, or none
+abbrev pub IsNumberOrNone : List Row → Text → Option ℕ → Type 0
+IsNumberOrNone found name None = (number : ℕ) → ¬ IsNumber found name number
+IsNumberOrNone found name (Some number) = IsNumber found name number
+
 -- a command of this name, with what was found of its arguments, asks for this
 abbrev pub Asks : Text → List Row → Args → Type 0
 Asks name found (Format image blocks inodes time) = (name ≡ codes "format")
     × (first_of (codes "IMAGE") found ≡ Some image.now)
-    × IsNumber found (codes "blocks") blocks × IsNumber found (codes "inodes") inodes
+    × IsNumberOrNone found (codes "blocks") blocks × IsNumber found (codes "inodes") inodes
     × IsNumber found (codes "time") time
 Asks name found (Once image time) = (name ≡ codes "once")
     × (first_of (codes "IMAGE") found ≡ Some image.now) × IsNumber found (codes "time") time
+Asks name found (Serve image listen workers connections) = (name ≡ codes "serve")
+    × (first_of (codes "IMAGE") found ≡ Some image.now)
+    × (first_of (codes "listen") found ≡ Some listen.now)
+    × IsNumber found (codes "workers") workers × IsNumber found (codes "connections") connections
 
 -- the command that was met, if one was, asks for this
 abbrev pub IsAsked : Option (Text × List Row) → Args → Type 0

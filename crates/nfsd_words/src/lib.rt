@@ -7,23 +7,31 @@ ghost use Rattle.clap.specs.Words.{rule_of, subcommand_rows_of};
 ghost use Rattle.clap.specs.declared.Command.TheViews.{out-Command};
 ghost use Rattle.nfsd_words.specs.declared.Args.{Args as Asked};
 ghost use Rattle.nfsd_words.specs.Words.{Asks, HasMeaning, IsAsked, WordsAsk, default_rule, first_of_format};
-ghost use Rattle.nfsd_words.specs.Words.{first_of_program, format_command, image_rule, number_rule};
-ghost use Rattle.nfsd_words.specs.Words.{once_command, required_rule, whole_program};
+ghost use Rattle.nfsd_words.specs.Words.{first_of_program, first_of_serve, format_command, image_rule};
+ghost use Rattle.nfsd_words.specs.Words.{number_rule, once_command, required_rule, second_of_program};
+ghost use Rattle.nfsd_words.specs.Words.{serve_command, text_rule, whole_program};
 
 use clap::error::ErrorKind;
 use clap::{Arg, ArgMatches, Command, Error, value_parser};
 use std::alloc::{AllocError, Global};
 
 // What the help tells of each argument.
-const NEW_FILE: &str = "The file, which is made where there is none";
+const NEW_FILE: &str = "The file, which is made where there is none, or the block device";
 
-const OLD_FILE: &str = "The file, which no other server may have at the same time";
+const OLD_FILE: &str = "The file or block device, which no other server may have at the same time";
 
-const BLOCKS: &str = "Its blocks of 4096 bytes, from 1024 to 1048576";
+const BLOCKS: &str =
+    "Its blocks of 4096 bytes, from 1024 to 1048576; without it 16384, or all of a block device";
 
 const INODES: &str = "Its inodes, from 32 to 65536 by 32, which leave at least 64 data blocks";
 
 const TIME_MADE: &str = "When it is made, in seconds since 1970, from 0 to 4294967295";
+
+const LISTEN: &str = "Where clients come, as 127.0.0.1:2049; port 0 takes one that is free";
+
+const WORKERS: &str = "How many calls go on at once, from 1 to 64";
+
+const CONNECTIONS: &str = "After how many connections it ends, from 0 to 4294967295; 0 never ends";
 
 const TIME_OF_CALLS: &str =
     "When the calls come, in seconds since 1970, from 0 to 4294967295, without a default";
@@ -34,7 +42,8 @@ pub enum Args<'a> {
     /// Makes an image anew.
     Format {
         image: &'a str,
-        blocks: u32,
+        // None is the size that a block device has, and of a file the default.
+        blocks: Option<u32>,
         inodes: u32,
         time: u32,
     },
@@ -42,6 +51,13 @@ pub enum Args<'a> {
     Once {
         image: &'a str,
         time: u32,
+    },
+    /// Serves clients over TCP.
+    Serve {
+        image: &'a str,
+        listen: &'a str,
+        workers: u32,
+        connections: u32,
     },
 }
 
@@ -66,10 +82,13 @@ fn asked<'a>(matches: &ArgMatches<'a>) -> Option<Args<'a>>
     ensures asked { IfSome result (IsAsked (subcommand_rows_of matches.now)) }
     ensures senseless { IfNone result ((args : Asked) → ¬ IsAsked (subcommand_rows_of matches.now) args) }
 {
-    match matches.subcommand_matches("format") {
-        Some(given) => asked_format(given),
-        None => asked_once(matches.subcommand_matches("once")?),
+    if let Some(given) = matches.subcommand_matches("format") {
+        return asked_format(given);
     }
+    if let Some(given) = matches.subcommand_matches("once") {
+        return asked_once(given);
+    }
+    asked_serve(matches.subcommand_matches("serve")?)
 }
 
 fn asked_format<'a>(given: &ArgMatches<'a>) -> Option<Args<'a>>
@@ -79,7 +98,7 @@ fn asked_format<'a>(given: &ArgMatches<'a>) -> Option<Args<'a>>
 {
     Some(Args::Format {
         image: given.get_str("IMAGE")?,
-        blocks: given.get_one("blocks")?,
+        blocks: given.get_one("blocks"),
         inodes: given.get_one("inodes")?,
         time: given.get_one("time")?,
     })
@@ -96,8 +115,27 @@ fn asked_once<'a>(given: &ArgMatches<'a>) -> Option<Args<'a>>
     })
 }
 
+fn asked_serve<'a>(given: &ArgMatches<'a>) -> Option<Args<'a>>
+    ensures asked { IfSome result (Asks (codes "serve") (rows_of (found_of given.now))) }
+    ensures senseless { IfNone result ((args : Asked)
+        → ¬ Asks (codes "serve") (rows_of (found_of given.now)) args) }
+{
+    Some(Args::Serve {
+        image: given.get_str("IMAGE")?,
+        listen: given.get_str("listen")?,
+        workers: given.get_one("workers")?,
+        connections: given.get_one("connections")?,
+    })
+}
+
 fn program<'a>(alloc: Global) -> Result<Command<'a>, AllocError>
     ensures { IfOk result (λ command. app_of command ≡ whole_program) }
+{
+    program_up_to_once(alloc)?.subcommand(serve_words(alloc)?)
+}
+
+fn program_up_to_once<'a>(alloc: Global) -> Result<Command<'a>, AllocError>
+    ensures { IfOk result (λ command. app_of command ≡ second_of_program) }
 {
     program_up_to_format(alloc)?.subcommand(once_words(alloc)?)
 }
@@ -126,10 +164,10 @@ fn format_up_to_blocks<'a>(alloc: Global) -> Result<Command<'a>, AllocError>
 {
     Command::new(alloc, "format")
         .about(
-            "Makes an image. It destroys what the file held, and sets its length even where it refuses",
+            "Makes an image. It destroys what the file held, and sets a file's length even where it refuses",
         )
         .arg(image(alloc, NEW_FILE))?
-        .arg(number_or(alloc, "blocks", "16384", BLOCKS))
+        .arg(number(alloc, "blocks", BLOCKS))
 }
 
 fn once_words<'a>(alloc: Global) -> Result<Command<'a>, AllocError>
@@ -140,6 +178,34 @@ fn once_words<'a>(alloc: Global) -> Result<Command<'a>, AllocError>
         .about("Answers the calls of standard input on standard output, up to the end of input")
         .arg(image(alloc, OLD_FILE))?
         .arg(number(alloc, "time", TIME_OF_CALLS).required(true))
+}
+
+fn serve_words<'a>(alloc: Global) -> Result<Command<'a>, AllocError>
+    ensures app { IfOk result (λ command. app_of command ≡ serve_command) }
+    ensures local { IfOk result (λ command. (out-Command command).has_globals ≡ false) }
+{
+    serve_up_to_listen(alloc)?
+        .arg(number_or(alloc, "workers", "4", WORKERS).value_parser(value_parser!(u32).range(
+            1..=64,
+        )))?
+        .arg(number_or(alloc, "connections", "0", CONNECTIONS))
+}
+
+fn serve_up_to_listen<'a>(alloc: Global) -> Result<Command<'a>, AllocError>
+    ensures app { IfOk result (λ command. app_of command ≡ first_of_serve) }
+    ensures local { IfOk result (λ command. (out-Command command).has_globals ≡ false) }
+{
+    Command::new(alloc, "serve")
+        .about("Answers the calls of clients that come over TCP")
+        .arg(image(alloc, OLD_FILE))?
+        .arg(text(alloc, "listen", LISTEN))
+}
+
+fn text<'a>(alloc: Global, name: &'a str, help: &'a str) -> Arg<'a>
+    ensures rule { rule_of result ≡ text_rule name.entry.now }
+    ensures local { result.global ≡ false }
+{
+    Arg::new(alloc, name).long(name).required(true).help(help)
 }
 
 fn image<'a>(alloc: Global, help: &'a str) -> Arg<'a>

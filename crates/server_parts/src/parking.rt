@@ -2,7 +2,7 @@
 ghost use Rattle.std.specs.Prelude.{◌≡◌, ◌<◌, ◌≤◌, ◌++◌, ◌∷◌, [], ℕ, All, Contains, max, IsTrue, IsFalse, OnErr, IfOk, IfSome, IfNone};
 
 use std::alloc::{AllocError, Global};
-use std::sync::{Mutex, Wait};
+use std::sync::{Condvar, Mutex, Wait};
 
 /// A seat that waits until a place is settled.
 #[derive(Clone, Copy, Debug, PartialEq, Eq)]
@@ -71,33 +71,67 @@ impl Waiting {
     }
 }
 
-/// The seats whose changes wait to be settled.
+// What is under the lock.
+#[derive(Drop)]
+struct Under {
+    waiting: Waiting,
+    // Whether no seat will be parked any more.
+    ended: bool,
+}
+
+/// The seats whose changes wait to be settled, and the thread that waits to answer them.
 #[derive(Drop)]
 pub struct Parking {
-    waiting: Mutex<Waiting>,
+    under: Mutex<Under>,
+    changed: Condvar,
 }
 
 impl Parking {
     /// No seat waits.
     pub fn new(alloc: Global, settled: u64) -> Parking {
         Parking {
-            waiting: Mutex::new(Waiting::new(alloc, settled)),
+            under: Mutex::new(Under {
+                waiting: Waiting::new(alloc, settled),
+                ended: false,
+            }),
+            changed: Condvar::new(),
         }
     }
 
     /// Parks a seat, and answers whether it did. One whose place is settled goes on at once, and so does one for
     /// which there is no memory.
     pub fn park<R: Wait>(&self, rt: &R, seat: Parked) -> bool {
-        matches!(self.waiting.lock(rt).park(seat), Ok(true))
+        matches!(self.under.lock(rt).waiting.park(seat), Ok(true))
     }
 
     /// Tells up to which place all is settled.
     pub fn raise<R: Wait>(&self, rt: &R, settled: u64) {
-        self.waiting.lock(rt).raise(settled);
+        let mut under = self.under.lock(rt);
+        under.waiting.raise(settled);
+        if !under.waiting.parked.is_empty() {
+            self.changed.notify_one();
+        }
     }
 
-    /// Takes out a seat whose place is settled, if one is.
+    /// Tells that no seat will be parked any more.
+    pub fn end<R: Wait>(&self, rt: &R) {
+        self.under.lock(rt).ended = true;
+        self.changed.notify_one();
+    }
+
+    /// Waits for a seat whose place is settled, and takes it out. None once the end is told and no such seat is
+    /// parked. One thread waits so.
     pub fn take<R: Wait>(&self, rt: &R) -> Option<usize> {
-        self.waiting.lock(rt).take()
+        let mut under = self.under.lock(rt);
+        for _ in rt.forever() {
+            if let Some(seat) = under.waiting.take() {
+                return Some(seat);
+            }
+            if under.ended {
+                break;
+            }
+            under = self.changed.wait(rt, under);
+        }
+        None
     }
 }

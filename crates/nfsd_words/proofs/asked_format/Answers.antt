@@ -1,19 +1,17 @@
 use Rattle.std.proofs.Common.{rules, refl}
 use Rattle.clap.specs.Words.{found_of, rows_of}
-use Rattle.nfsd_words.proofs.Found.{if_none, no_blocks, no_image, no_inodes, no_number_found, no_text_found}
-use Rattle.nfsd_words.proofs.Found.{no_time}
-use Rattle.nfsd_words.proofs.Found.{number_found, text_found}
+use Rattle.nfsd_words.proofs.Found.{if_none, no_image, no_inodes, no_number_found, no_text_found, no_time_made}
+use Rattle.nfsd_words.proofs.Found.{number_found, number_or_none_found, text_found}
 use Rattle.nfsd_words.proofs.asked_format.Goals as goal
 
 pub returns-clause-asked : goal.returns-clause-asked
 returns-clause-asked c = (
   refl,
   text_found c.args.given.now _ c.get_str.result c.in_ok-get_str.field-0 c.get_str.ensures (search rules),
-  number_found c.args.given.now _ c.get_one.result c.in_ok-get_one.field-0 c.get_one.ensures.none
-      c.get_one.ensures.value (search rules),
-  number_found c.args.given.now _ c.get_one-2.result c.in_ok-get_one-2.field-0 c.get_one-2.ensures.none
+  number_or_none_found c.args.given.now _ c.get_one.result c.get_one.ensures.none c.get_one.ensures.value,
+  number_found c.args.given.now _ c.get_one-2.result c.in_ok-get_one.field-0 c.get_one-2.ensures.none
       c.get_one-2.ensures.value (search rules),
-  number_found c.args.given.now _ c.get_one-3.result c.in_ok-get_one-3.field-0 c.get_one-3.ensures.none
+  number_found c.args.given.now _ c.get_one-3.result c.in_ok-get_one-2.field-0 c.get_one-3.ensures.none
       c.get_one-3.ensures.value (search rules),
 )
 
@@ -22,13 +20,9 @@ returns-in_err-get_str-clause-senseless c = if_none _ (no_image _ (rows_of (foun
     no_text_found c.args.given.now _ c.get_str.result x c.get_str.ensures (search rules)))
 
 pub returns-in_err-get_one-clause-senseless : goal.returns-in_err-get_one-clause-senseless
-returns-in_err-get_one-clause-senseless c = if_none _ (no_blocks (rows_of (found_of c.args.given.now)) (λ n.
-    no_number_found c.args.given.now _ c.get_one.result n c.get_one.ensures.value (search rules)))
-
-pub returns-in_err-get_one-2-clause-senseless : goal.returns-in_err-get_one-2-clause-senseless
-returns-in_err-get_one-2-clause-senseless c = if_none _ (no_inodes (rows_of (found_of c.args.given.now)) (λ n.
+returns-in_err-get_one-clause-senseless c = if_none _ (no_inodes (rows_of (found_of c.args.given.now)) (λ n.
     no_number_found c.args.given.now _ c.get_one-2.result n c.get_one-2.ensures.value (search rules)))
 
-pub returns-in_err-get_one-3-clause-senseless : goal.returns-in_err-get_one-3-clause-senseless
-returns-in_err-get_one-3-clause-senseless c = if_none _ (no_time _ (rows_of (found_of c.args.given.now)) (λ n.
+pub returns-in_err-get_one-2-clause-senseless : goal.returns-in_err-get_one-2-clause-senseless
+returns-in_err-get_one-2-clause-senseless c = if_none _ (no_time_made (rows_of (found_of c.args.given.now)) (λ n.
     no_number_found c.args.given.now _ c.get_one-3.result n c.get_one-3.ensures.value (search rules)))

@@ -1,6 +1,6 @@
 use Rattle.std.proofs.Common.{rules, refl}
 use Rattle.clap.specs.Words.{found_of, rows_of}
-use Rattle.nfsd_words.proofs.Found.{if_none, no_image, no_number_found, no_text_found, no_time, number_found}
+use Rattle.nfsd_words.proofs.Found.{if_none, no_image, no_number_found, no_text_found, no_time_of_calls, number_found}
 use Rattle.nfsd_words.proofs.Found.{text_found}
 use Rattle.nfsd_words.proofs.asked_once.Goals as goal
 
@@ -17,5 +17,5 @@ returns-in_err-get_str-clause-senseless c = if_none _ (no_image _ (rows_of (foun
     no_text_found c.args.given.now _ c.get_str.result x c.get_str.ensures (search rules)))
 
 pub returns-in_err-get_one-clause-senseless : goal.returns-in_err-get_one-clause-senseless
-returns-in_err-get_one-clause-senseless c = if_none _ (no_time _ (rows_of (found_of c.args.given.now)) (λ n.
+returns-in_err-get_one-clause-senseless c = if_none _ (no_time_of_calls (rows_of (found_of c.args.given.now)) (λ n.
     no_number_found c.args.given.now _ c.get_one.result n c.get_one.ensures.value (search rules)))

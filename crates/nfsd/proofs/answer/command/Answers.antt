@@ -1,5 +1,6 @@
 use Rattle.std.proofs.Common.{◌≡◌, refl, rules}
 use Rattle.nfsd_words.specs.declared.Args.TheVariants.{Format, Once}
+use Rattle.nfsd.specs.Done.{AreAsked}
 use Rattle.nfsd.proofs.Obeyed.{formats_command, serves_command}
 use Rattle.nfsd.proofs.answer.command.Goals as goal
 
@@ -9,9 +10,9 @@ returns-in-Ok g c =
     search rules in
     let first = c.beginning_with-disk.ensures.first in
     let fresh = c.beginning_with-disk.ensures.fresh in
-    let size : c.beginning_with-disk.result.blocks ≡ c.in-Format.blocks = search rules in
-    let formats = rw (first, fresh, size) at c.format_device-outcome.ensures in
-    rw is (formats_command _ c.in-Format.image c.in-Format.blocks _ _ _ _ _ _ _ refl refl formats)
+    let asked : AreAsked c.in-Format.blocks c.beginning_with-disk.result.blocks = search rules in
+    let formats = rw (first, fresh) at c.format_device-outcome.ensures in
+    rw is (formats_command _ c.in-Format.image c.in-Format.blocks _ _ _ _ _ _ _ _ asked refl refl formats)
 
 pub returns-in-Ok-open : goal.returns-in-Ok-open
 returns-in-Ok-open g c =

@@ -1,0 +1,94 @@
+//! The file, or the block device, that an image lies in.
+ghost use Rattle.std.specs.Prelude.{◌≡◌, [], IfOk};
+ghost use Rattle.disk.specs.Crash.{IsAtRest};
+ghost use Rattle.disk.specs.File.{file_device, first_in};
+ghost use Rattle.nfsd.specs.Done.{AreAsked};
+
+use disk::{BlockFile, FileDisk};
+use layout::Super;
+use limits::{BLOCK_BYTES, MOST_BLOCKS};
+use std::fs::{Files, OpenFile, OpenOptions};
+use std::io;
+use std::io::{ErrorKind, Read, Seek, SeekFrom};
+use std::os::unix::fs::FileTypeExt;
+
+// How many blocks a file gets where no number is asked for.
+const FILE_BLOCKS: u32 = 16_384;
+
+/// Opens or makes what is to hold an image, locks it, and settles it. A file is given as many blocks as are asked
+/// for, or 16384. A block device keeps its size: what is asked for has to fit, and is else all of it, up to the
+/// most blocks of an image.
+pub fn make_image<R: Files>(
+    rt: &R,
+    path: &str,
+    blocks: Option<u32>,
+) -> io::Result<FileDisk<R::File>>
+where
+    R::File: BlockFile,
+    ensures size { IfOk result (λ d. AreAsked blocks d.blocks) }
+    ensures rest { IfOk result (λ d. IsAtRest (file_device (first_in d.first.blocks.items) d.blocks
+        d.file.calls.items)) }
+    ensures fresh { IfOk result (λ d. d.file.calls.items ≡ []) }
+{
+    if !is_block_device(rt, path) {
+        return FileDisk::create(rt, path, blocks.unwrap_or(FILE_BLOCKS));
+    }
+    let (file, size) = open_device(rt, path)?;
+    match blocks {
+        None => Ok(FileDisk::over(file, size.min(MOST_BLOCKS))),
+        Some(asked) if asked <= size => Ok(FileDisk::over(file, asked)),
+        Some(_) => Err(io::Error::from(ErrorKind::FileTooLarge)),
+    }
+}
+
+/// Opens a file or a block device, locks it, and then settles it. Its blocks are the whole ones of a file's length, up
+/// to the greatest number of them, and those that the image's first block tells of a device.
+pub fn open_image<R: Files>(rt: &R, path: &str) -> io::Result<FileDisk<R::File>>
+where
+    R::File: BlockFile,
+    ensures rest { IfOk result (λ d. IsAtRest (file_device (first_in d.first.blocks.items) d.blocks
+        d.file.calls.items)) }
+    ensures fresh { IfOk result (λ d. d.file.calls.items ≡ []) }
+{
+    if !is_block_device(rt, path) {
+        return FileDisk::open(rt, path);
+    }
+    let (mut file, size) = open_device(rt, path)?;
+    let blocks = blocks_of_image(&mut file, size)?;
+    Ok(FileDisk::over(file, blocks))
+}
+
+// Whether a block device has this name.
+fn is_block_device<R: Files>(rt: &R, path: &str) -> bool {
+    match rt.metadata(path) {
+        Ok(told) => told.file_type().is_block_device(),
+        Err(_) => false,
+    }
+}
+
+// Opens a block device, locks it, and settles it. Its length is 0: how many blocks it has, seeking tells.
+fn open_device<R: Files>(rt: &R, path: &str) -> io::Result<(R::File, u32)>
+where
+    R::File: BlockFile,
+{
+    let mut file = OpenOptions::new().read(true).write(true).open(rt, path)?;
+    file.lock()?;
+    file.sync_all()?;
+    let blocks = file.seek(SeekFrom::End(0))? / BLOCK_BYTES as u64;
+    Ok((file, blocks.min(u64::from(u32::MAX)) as u32))
+}
+
+// How many blocks an image has that lies on a device of this size: all of it, where its first block tells nothing
+// lawful.
+fn blocks_of_image<F: Read + Seek>(file: &mut F, size: u32) -> io::Result<u32> {
+    let mut block = [0u8; BLOCK_BYTES];
+    if size == 0 {
+        return Ok(0);
+    }
+    file.seek(SeekFrom::Start(0))?;
+    file.read_exact(&mut block)?;
+    match Super::read(&block) {
+        Ok(found) => Ok(found.geometry.blocks.min(size)),
+        Err(_) => Ok(size),
+    }
+}

@@ -1,0 +1,92 @@
+//! What the program does to a device whose files it serves over TCP.
+ghost use Rattle.std.specs.Prelude.{◌≡◌, IfErr, IfOk, OnOk};
+ghost use Rattle.std.specs.Io.KnownBytes.{Appends};
+ghost use Rattle.disk.specs.File.{file_device, first_in};
+ghost use Rattle.nfsd.specs.Done.{ServesClients, device_in, listening_line, outcome_of_server};
+
+use crate::fault::Fault;
+use disk::{BlockFile, FileDisk};
+use server::{ServeFault, serve_store};
+use session::SessionFault;
+use std::alloc::Global;
+use std::io::Write;
+use std::net::{Net, TcpListener, TcpStream};
+use std::sync::Wait;
+use std::thread::Threads;
+use std::time::Clock;
+
+/// What listens at an address, and the address that it got, as text.
+#[derive(Drop)]
+pub struct Listening {
+    pub listener: TcpListener,
+    pub address: String,
+}
+
+/// Listens at an address. One that can't be had, or told, is the fault Address.
+pub fn listen_at<R>(rt: &R, alloc: Global, address: &str) -> Result<Listening, Fault>
+where
+    R: Net<Listener = TcpListener, Stream = TcpStream>,
+    ensures { IfErr result (λ fault. fault ≡ Fault.Address) }
+{
+    let Ok(listener) = TcpListener::bind(rt, address) else {
+        return Err(Fault::Address);
+    };
+    let Ok(bound) = listener.local_addr() else {
+        return Err(Fault::Address);
+    };
+    match format!(in alloc; "{bound}") {
+        Ok(address) => Ok(Listening { listener, address }),
+        Err(_) => Err(Fault::Address),
+    }
+}
+
+/// Opens a device as a store, prints where it listens, and serves so many connections, or without end where
+/// that is 0. A device that is refused is handed back.
+pub fn serve_clients<F, R, O>(
+    rt: &R,
+    alloc: Global,
+    disk: FileDisk<F>,
+    listening: &Listening,
+    workers: u32,
+    connections: u32,
+    writer: &mut O,
+) -> (Option<FileDisk<F>>, Result<(), Fault>)
+where
+    F: BlockFile + Send + Sync,
+    R: Threads + Wait + Clock + Sync,
+    O: Write,
+    ensures { ServesClients (file_device (first_in disk.first.blocks.items) disk.blocks disk.file.calls.items) (O.contents writer.old) result.1 (device_in result.0)
+        (O.contents writer.new) }
+{
+    let store = match store::open(alloc, disk) {
+        Ok(store) => store,
+        Err((disk, fault)) => return (Some(disk), Err(Fault::Open(fault))),
+    };
+    if let Err(fault) = announce(writer, listening.address.as_str()) {
+        let _disk = store::close(store);
+        return (None, Err(fault));
+    }
+    let listener = &listening.listener;
+    let ended = serve_store(rt, alloc, store, listener, workers, connections);
+    (None, outcome_of(ended))
+}
+
+// Prints where it listens.
+fn announce<O: Write>(writer: &mut O, address: &str) -> Result<(), Fault>
+    ensures printed { OnOk result
+        (Appends (O.contents writer.old) (O.contents writer.new) (listening_line address.now)) }
+    ensures print { IfErr result (λ fault. fault ≡ Fault.Print) }
+{
+    writeln!(writer, "listening {address}").or(Err(Fault::Print))
+}
+
+// What comes of a server by how it ended.
+fn outcome_of(ended: Result<(), ServeFault>) -> Result<(), Fault>
+    ensures { result ≡ outcome_of_server ended }
+{
+    match ended {
+        Ok(()) => Ok(()),
+        Err(ServeFault::Memory) => Err(Fault::Session(SessionFault::NoMemory)),
+        Err(ServeFault::Device) => Err(Fault::Session(SessionFault::Device)),
+    }
+}

@@ -1,0 +1,138 @@
+-- What the threads share may be shared among them.
+use denote.RattleType.{RattleType}
+use denote.Param.Send.{IsSend, IsSync, recorded_send, recorded_sync, sendable, struct_send, struct_sync}
+use denote.Struct.Declared
+use Rattle.std.proofs.Crossing.{crosses}
+use Rattle.std.proofs.sync.ledger.Share.TheSendSync as share
+use Rattle.std.specs.contracts.alloc.Global
+use Rattle.std.specs.contracts.impls.GlobalAllocator.TheImpl
+use Rattle.std.specs.contracts.sync.Arc
+use Rattle.std.specs.declared.sync.ledger.Ledger
+use Rattle.crossbeam_channel.proofs.channel.Receiver.TheSendSync as receiver
+use Rattle.crossbeam_channel.proofs.channel.Sender.TheSendSync as sender
+use Rattle.inode.proofs.snap.Snap.TheSendSync as snap
+use Rattle.nfs_types.proofs.call.Call.TheSendSync as call
+use Rattle.nfs_types.proofs.ctx.Credential.TheSendSync as credential
+use Rattle.nfs_types.proofs.ctx.Ctx.TheSendSync as ctx
+use Rattle.nfs_types.proofs.reply.Reply.TheSendSync as reply
+use Rattle.store_promise.proofs.aims.Aim.TheSendSync as aim
+use Rattle.store_promise.proofs.answers.CallAnswer.TheSendSync as given
+use Rattle.store_promise.proofs.answers.Entry.TheSendSync as entry
+use Rattle.txn.proofs.tx.FetchIo.TheSendSync as fetch
+use Rattle.txn.proofs.tx.Tx.TheSendSync as tx
+use Rattle.pool.proofs.Answer.TheSendSync as answer
+use Rattle.pool.proofs.told.Told.TheSendSync as told
+use Rattle.pool.proofs.IoSeat.TheSendSync as side
+use Rattle.pool.proofs.shared.Shared.TheSendSync as shared
+use Rattle.pool.specs.contracts.Connections
+use Rattle.pool.specs.contracts.IoSeat
+use Rattle.pool.specs.contracts.Job
+use Rattle.pool.specs.contracts.seat.Seat
+use Rattle.pool.specs.contracts.shared.Shared
+use Rattle.pool.specs.declared.Whole
+use Rattle.store_workers.specs.contracts.workers.Worker
+use Rattle.server.specs.contracts.connection.Connection
+use Rattle.server.specs.contracts.hall.Devices
+use Rattle.server.specs.contracts.hall.Hall
+use Rattle.server.specs.contracts.hall.Signs
+use Rattle.server.specs.contracts.jobs.Jobs
+
+job_send : IsSend Job.the_row
+job_send = recorded_send Job.the_field.row _ _ Job.the_type.to_one (struct_send (Declared.shape Job.the_type) (
+  search sendable,
+  (
+    search sendable,
+    (
+      search sendable,
+      (credential.the_field_send, (call.the_field_send, (search (crosses, sendable) depth 20, tt))),
+    ),
+  ),
+))
+
+jobs_sync : IsSync Jobs.the_row
+jobs_sync = search (job_send, sender.the_sync, receiver.the_sync, crosses, sendable) depth 60 fits 20000
+
+worker_send : IsSend Worker.the_field.row
+worker_send = struct_send (Declared.shape Worker.the_type) (
+  search (
+    reply.the_send,
+    call.the_field_send,
+    ctx.the_field_send,
+    snap.the_send,
+    aim.the_send,
+    entry.the_send,
+    given.the_send,
+    tx.the_send,
+    fetch.the_send,
+    crosses,
+    sendable,
+  ) depth 60 fits 20000,
+  tt,
+)
+
+seat_send : (L : RattleType) (l : Ledger.Ghosts L.Denot) → IsSend (Seat.the_row L l)
+seat_send L l =
+    recorded_send (Seat.the_field L l).row _ _ (Seat.the_type L l).to_one
+    (struct_send (Declared.shape (Seat.the_type L l)) (
+      search (worker_send, answer.the_send, told.the_field_send, crosses, sendable) depth 60 fits 20000,
+      (share.the_send L l, tt),
+    ))
+
+connection_send : IsSend Connection.the_row
+connection_send = search (crosses, sendable) depth 60 fits 20000
+
+connection_sync : IsSync Connection.the_row
+connection_sync = search (crosses, sendable) depth 60 fits 20000
+
+listed_send : IsSend (Arc.the_row Connection.the_row Global.the_row TheImpl.ghosts)
+listed_send = search (connection_send, connection_sync, crosses, sendable) depth 60 fits 20000
+
+open_send : IsSend (Connections.the_row (Arc.the_row Connection.the_row Global.the_row TheImpl.ghosts))
+open_send = search (listed_send, crosses, sendable) depth 60 fits 20000
+
+signs_sync : IsSync Signs.the_row
+signs_sync = search (jobs_sync, open_send, crosses, sendable) depth 60 fits 20000
+
+devices_sync : (P S : RattleType) → IsSend P → IsSend S → IsSync (Devices.the_field P S).row
+devices_sync P S p s = struct_sync (Declared.shape (Devices.the_type P S)) (
+  search (crosses, sendable) depth 20,
+  (search (crosses, sendable) depth 20, (search (crosses, sendable) depth 20, tt)),
+)
+
+module _ (L G I : RattleType) (w : Whole.Ghosts G.Denot) (w' : Whole.Ghosts I.Denot)
+    (l : Ledger.Ghosts L.Denot) (l' : Ledger.Ghosts G.Denot) (l'' : Ledger.Ghosts I.Denot) where
+  side_send : IsSend (IoSeat.the_row G w l')
+  side_send = search (side.the_send, sendable) depth 60
+
+  other_send : IsSend (IoSeat.the_row I w' l'')
+  other_send = search (side.the_send, sendable) depth 60
+
+  shared_sync : IsSync (Shared.the_row L G I w w' l l' l'')
+  shared_sync = search (shared.the_sync, sendable) depth 60
+
+  pub hall_sync : (P S : RattleType) → IsSend P → IsSend S → IsSync (Hall.the_row L G I P S w w' l l' l'')
+  hall_sync P S p s =
+      let seat = seat_send L l in
+      let logger = side_send in
+      let installer = other_send in
+      let devices = devices_sync P S p s in
+      recorded_sync (Hall.the_field L G I P S w w' l l' l'').row _ _ (Hall.the_type L G I P S w w' l l' l'').to_one
+      (struct_sync (Declared.shape (Hall.the_type L G I P S w w' l l' l'')) (
+        search (crosses, sendable) depth 20,
+        (
+          search (shared_sync, shared.the_sync, shared.the_field_sync, crosses, sendable) depth 20,
+          (
+            search (seat, crosses, sendable) depth 20,
+            (
+              search (logger, crosses, sendable) depth 20,
+              (
+                search (installer, crosses, sendable) depth 20,
+                (
+                  devices,
+                  (search (signs_sync, crosses, sendable) depth 20, tt),
+                ),
+              ),
+            ),
+          ),
+        ),
+      ))

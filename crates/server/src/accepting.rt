@@ -1,0 +1,115 @@
+//! The thread that accepts connections.
+ghost use Rattle.std.specs.Thread.{IsSend, IsSync};
+
+use crate::connection::Connection;
+use crate::hall::Hall;
+use crate::reading::read_all;
+use crate::sizes::{ACCEPT_SLEEP_MILLISECONDS, MOST_CONNECTIONS};
+use disk::Source;
+use pool::Whole;
+use std::alloc::Global;
+use std::net::{TcpListener, TcpStream};
+use std::sync::ledger::Ledger;
+use std::sync::{Arc, Wait};
+use std::thread;
+use std::thread::Threads;
+use std::time::{Clock, Duration};
+
+// A connection that was let in: what its threads have.
+struct Guest {
+    connection: Arc<Connection, Global>,
+    writer: Arc<Connection, Global>,
+    key: usize,
+    number: u64,
+}
+
+/// Accepts connections, and serves each in threads of its own: so many of them, or without end where that is 0.
+/// It returns once each has ended.
+pub fn accept_all<L, G, I, P, S, R>(
+    rt: &R,
+    hall: &Hall<L, G, I, P, S>,
+    listener: &TcpListener,
+    connections: u32,
+)
+where
+    L: Ledger + Send + Sync,
+    G: Whole + Send + Sync,
+    I: Whole + Send + Sync,
+    P: Send,
+    S: Source + Send,
+    R: Threads + Wait + Clock + Sync,
+{
+    let alloc = hall.alloc;
+    thread::scope(
+        thread::scope_env(),
+        rt,
+        |scope|
+            requires { IsSend L.row × IsSync L.row × IsSend G.row × IsSync G.row × IsSend I.row × IsSync I.row
+                × IsSend P.row × IsSend S.row × IsSync R.row }
+        {
+            let mut accepted: u32 = 0;
+            for _ in rt.forever() {
+                if connections != 0 && accepted >= connections {
+                    break;
+                }
+                let Ok((stream, _)) = listener.accept() else {
+                    thread::sleep(rt, Duration::from_millis(ACCEPT_SLEEP_MILLISECONDS));
+                    continue;
+                };
+                accepted = accepted.saturating_add(1);
+                let Some(guest) = let_in(rt, hall, stream) else {
+                    continue;
+                };
+                let Guest {
+                    connection,
+                    writer,
+                    key,
+                    number,
+                } = guest;
+                if scope.spawn(move || writer.write_all(rt, alloc)).is_err() {
+                    turn_away(rt, hall, &*connection, key, number);
+                    continue;
+                }
+                let reader = scope.spawn(move || read_all(rt, hall, key, number));
+                if reader.is_err() {
+                    turn_away(rt, hall, &*connection, key, number);
+                }
+            }
+        },
+    );
+}
+
+// Lets a connection in, where not too many are open.
+fn let_in<L: Ledger, G: Whole, I: Whole, P, S, R: Wait>(
+    rt: &R,
+    hall: &Hall<L, G, I, P, S>,
+    stream: TcpStream,
+) -> Option<Guest> {
+    let mut open = hall.signs.open.lock(rt);
+    if open.count() >= MOST_CONNECTIONS {
+        return None;
+    }
+    let connection = Arc::new(hall.alloc, Connection::new(hall.alloc, stream)).ok()?;
+    let writer = Arc::try_clone(&connection).ok()?;
+    let listed = Arc::try_clone(&connection).ok()?;
+    let (key, number) = open.accept(listed).ok()?;
+    Some(Guest {
+        connection,
+        writer,
+        key,
+        number,
+    })
+}
+
+// Ends a connection for which there is no thread.
+fn turn_away<L: Ledger, G: Whole, I: Whole, P, S, R: Wait>(
+    rt: &R,
+    hall: &Hall<L, G, I, P, S>,
+    connection: &Connection,
+    key: usize,
+    number: u64,
+) {
+    connection.outgoing.shut(rt);
+    connection.close();
+    let _ = hall.signs.open.lock(rt).close(key, number);
+}

@@ -1,0 +1,95 @@
+//! From an open store over a file to a server.
+ghost use Rattle.std.specs.Prelude.{◌≡◌, ◌+◌};
+
+use crate::hall::Sides;
+use crate::serving::{ServeFault, serve};
+use disk::{BlockFile, FileDisk, FilePort, FileSource};
+use pool::{Ledgers, Whole, begin};
+use procs::Done;
+use std::alloc::Global;
+use std::marker::Brand;
+use std::net::TcpListener;
+use std::sync::Wait;
+use std::sync::ledger::Ledger;
+use std::thread::Threads;
+use std::time::Clock;
+use store_images::{Store, parts};
+use txn::Core;
+
+/// Serves from an open store: so many workers, and so many connections, or without end where that is 0. Then
+/// all is settled.
+pub fn serve_store<F, R>(
+    rt: &R,
+    alloc: Global,
+    store: Store<FileDisk<F>>,
+    listener: &TcpListener,
+    workers: u32,
+    connections: u32,
+) -> Result<(), ServeFault>
+where
+    F: BlockFile + Send + Sync,
+    R: Threads + Wait + Clock + Sync,
+{
+    let (core, boot, disk) = parts(store);
+    let Ok((log, home, sources)) = disk.split(alloc, workers as usize) else {
+        return Err(ServeFault::Memory);
+    };
+    let sides = Sides { log, home, sources };
+    let ledgers = Ledgers::new(workers);
+    let opened = Opened {
+        core,
+        boot,
+        workers,
+    };
+    serve_opened::<Brand, Brand, Brand, F, R>(
+        rt,
+        alloc,
+        opened,
+        ledgers,
+        sides,
+        listener,
+        connections,
+    )
+}
+
+// What was opened, and how many workers are to use it.
+#[derive(Drop)]
+struct Opened {
+    core: Core<Done>,
+    boot: u64,
+    workers: u32,
+}
+
+// Serves by the ledgers that the types stand for.
+fn serve_opened<L, G, I, F, R>(
+    rt: &R,
+    alloc: Global,
+    opened: Opened,
+    ledgers: Ledgers,
+    sides: Sides<FilePort<F>, FileSource<F>>,
+    listener: &TcpListener,
+    connections: u32,
+) -> Result<(), ServeFault>
+where
+    L: Ledger + Send + Sync,
+    G: Whole + Send + Sync,
+    I: Whole + Send + Sync,
+    F: BlockFile + Send + Sync,
+    R: Threads + Wait + Clock + Sync,
+    requires commits { (ledgers.commits.name ≡ L.name) × (ledgers.commits.parts ≡ L.parts)
+        × (ledgers.commits.parts ≡ opened.workers + 1) }
+    requires logged { (ledgers.logged.name ≡ G.name) × (ledgers.logged.parts ≡ G.parts)
+        × (G.all ≡ G.parts) × (ledgers.logged.parts ≡ 1) }
+    requires installed { (ledgers.installed.name ≡ I.name) × (ledgers.installed.parts ≡ I.parts)
+        × (I.all ≡ I.parts) × (ledgers.installed.parts ≡ 1) }
+{
+    let Opened {
+        core,
+        boot,
+        workers,
+    } = opened;
+    match begin::<L, G, I>(alloc, core, boot, workers, ledgers) {
+        Ok(pool) => serve(rt, alloc, pool, sides, listener, connections),
+        Err(_) => Err(ServeFault::Memory),
+    }
+}

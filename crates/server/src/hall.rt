@@ -1,0 +1,178 @@
+//! What the threads share.
+use crate::connection::Connection;
+use crate::jobs::Jobs;
+use crate::sizes::URGENT_COMMITS;
+use nfs_types::Moment;
+use pool::{Answer, Connections, IoSeat, Pool, Seat, Shared, Whole};
+use server_parts::{Bell, FreeSeats, Moments, Parking, Rounds, moment_of};
+use std::alloc::{AllocError, Global};
+use std::sync::ledger::Ledger;
+use std::sync::{Arc, Mutex, Wait};
+use std::time::Clock;
+
+/// What a server needs of a device that was split: its two sides, and a source for each seat.
+#[derive(Drop)]
+pub struct Sides<P, S> {
+    pub log: P,
+    pub home: P,
+    pub sources: Vec<S>,
+}
+
+/// What the threads share. A seat, a port and a source is in the hands of one thread at a time.
+pub struct Hall<L: Ledger, G: Whole, I: Whole, P, S> {
+    pub alloc: Global,
+    pub shared: Shared<L, G, I>,
+    pub seats: Vec<Mutex<Seat<L>>>,
+    pub logger: Mutex<IoSeat<G>>,
+    pub installer: Mutex<IoSeat<I>>,
+    pub devices: Devices<P, S>,
+    pub signs: Signs,
+}
+
+/// The device, parted for the threads.
+#[derive(Drop)]
+pub struct Devices<P, S> {
+    pub log: Mutex<P>,
+    pub home: Mutex<P>,
+    pub sources: Vec<Mutex<S>>,
+}
+
+/// What threads tell one another.
+#[derive(Drop)]
+pub struct Signs {
+    pub free: FreeSeats,
+    pub jobs: Jobs,
+    pub parking: Parking,
+    pub to_log: Bell,
+    pub to_install: Bell,
+    pub rounds: Rounds,
+    pub open: Mutex<Connections<Arc<Connection, Global>>>,
+    pub moments: Mutex<Moments>,
+}
+
+impl<P, S> Devices<P, S> {
+    /// Each in a lock of its own.
+    pub fn new(alloc: Global, sides: Sides<P, S>) -> Result<Devices<P, S>, AllocError>
+    where
+        P: Drop,
+        S: Drop,
+    {
+        let Sides { log, home, sources } = sides;
+        let mut locked = Vec::with_capacity(alloc, sources.len())?;
+        for source in sources {
+            locked.push(Mutex::new(source))?;
+        }
+        Ok(Devices {
+            log: Mutex::new(log),
+            home: Mutex::new(home),
+            sources: locked,
+        })
+    }
+}
+
+impl Signs {
+    /// So many seats are free, and no connection is open.
+    pub fn new(alloc: Global, seats: usize, settled: u64) -> Result<Signs, AllocError> {
+        Ok(Signs {
+            free: FreeSeats::new(alloc, seats)?,
+            jobs: Jobs::new(alloc)?,
+            parking: Parking::new(alloc, settled),
+            to_log: Bell::new(),
+            to_install: Bell::new(),
+            rounds: Rounds::new(),
+            open: Mutex::new(Connections::new(alloc)),
+            moments: Mutex::new(Moments::new()),
+        })
+    }
+
+    /// The moment of a call.
+    pub fn moment<R: Wait + Clock>(&self, rt: &R) -> Moment {
+        let now = match rt.since_1970() {
+            Ok(time) => moment_of(time),
+            Err(_) => None,
+        };
+        self.moments.lock(rt).next(now)
+    }
+
+    /// Hands an answer to its connection, which writes it. One to a connection that has ended is let go.
+    pub fn deliver<R: Wait>(&self, rt: &R, alloc: Global, answer: &Answer) {
+        let Some(connection) = self.connection(rt, answer.key, answer.number) else {
+            return;
+        };
+        match answer.bytes(alloc) {
+            Ok(bytes) => connection.outgoing.answer(rt, Some(bytes.as_slice())),
+            Err(_) => connection.outgoing.answer(rt, None),
+        }
+    }
+
+    /// The connection with this key and number, where it is open.
+    pub fn connection<R: Wait>(
+        &self,
+        rt: &R,
+        key: usize,
+        number: u64,
+    ) -> Option<Arc<Connection, Global>> {
+        let open = self.open.lock(rt);
+        Arc::try_clone(open.find(key, number)?).ok()
+    }
+}
+
+impl<L: Ledger, G: Whole, I: Whole, P, S> Hall<L, G, I, P, S> {
+    /// What the threads share of a pool.
+    pub fn new(
+        alloc: Global,
+        pool: Pool<L, G, I>,
+        devices: Devices<P, S>,
+        signs: Signs,
+    ) -> Hall<L, G, I, P, S> {
+        let Pool {
+            shared,
+            seats,
+            logger,
+            installer,
+        } = pool;
+        Hall {
+            alloc,
+            shared,
+            seats,
+            logger: Mutex::new(logger),
+            installer: Mutex::new(installer),
+            devices,
+            signs,
+        }
+    }
+
+    /// The pool again.
+    pub fn into_pool(self) -> Pool<L, G, I>
+    where
+        P: Drop,
+        S: Drop,
+    {
+        let Hall {
+            alloc: _,
+            shared,
+            seats,
+            logger,
+            installer,
+            devices: _,
+            signs: _,
+        } = self;
+        Pool {
+            shared,
+            seats,
+            logger: logger.into_inner(),
+            installer: installer.into_inner(),
+        }
+    }
+
+    /// Wakes the logger, where a commit waits for it, and the installer, where many are kept.
+    pub fn tell_of_commit<R: Wait>(&self, rt: &R) {
+        let look = self.shared.look(rt);
+        if !look.is_settled {
+            self.signs.to_log.ring(rt);
+        }
+        if look.kept > URGENT_COMMITS {
+            self.signs.to_install.ring_now(rt);
+        }
+    }
+}

@@ -1,0 +1,19 @@
+//! The TCP server: its threads, its connections, and how it ends.
+#![tactic(auto)]
+
+mod accepting;
+mod beginning;
+mod connection;
+mod driving;
+mod hall;
+mod installing;
+mod jobs;
+mod logging;
+mod reading;
+mod serving;
+mod sizes;
+mod working;
+
+pub use beginning::serve_store;
+pub use hall::Sides;
+pub use serving::{ServeFault, serve};

@@ -1,0 +1,145 @@
+//! The server: how it begins and ends.
+ghost use Rattle.std.specs.Thread.{IsSend, IsSync};
+
+use crate::accepting::accept_all;
+use crate::hall::{Devices, Hall, Sides, Signs};
+use crate::installing::install_all;
+use crate::logging::log_all;
+use crate::sizes::MOST_JOB_THREADS;
+use crate::working::{finish_all, work_all};
+use disk::{Port, Source};
+use pool::{Pool, Whole};
+use std::alloc::{AllocError, Global};
+use std::net::TcpListener;
+use std::sync::Wait;
+use std::sync::ledger::Ledger;
+use std::thread;
+use std::thread::{JoinHandle, Threads};
+use std::time::Clock;
+
+/// Why a server ended otherwise than with all settled.
+#[derive(Clone, Copy, Debug, PartialEq, Eq)]
+pub enum ServeFault {
+    /// No memory, or no thread, was left to begin with.
+    Memory,
+    /// A write or a barrier of the device failed, so not all is settled.
+    Device,
+}
+
+/// Serves so many connections, or without end where that is 0, and then settles all.
+pub fn serve<L, G, I, P, S, R>(
+    rt: &R,
+    alloc: Global,
+    pool: Pool<L, G, I>,
+    sides: Sides<P, S>,
+    listener: &TcpListener,
+    connections: u32,
+) -> Result<(), ServeFault>
+where
+    L: Ledger + Send + Sync,
+    G: Whole + Send + Sync,
+    I: Whole + Send + Sync,
+    P: Port + Send + Drop,
+    S: Source + Send + Drop,
+    R: Threads + Wait + Clock + Sync,
+{
+    let settled = pool.shared.look(rt).settled.0;
+    let signs = Signs::new(alloc, pool.seats.len(), settled);
+    let devices = Devices::new(alloc, sides);
+    let (Ok(signs), Ok(devices)) = (signs, devices) else {
+        dissolve(rt, pool);
+        return Err(ServeFault::Memory);
+    };
+    let hall = Hall::new(alloc, pool, devices, signs);
+    let outcome = match run(rt, &hall, listener, connections) {
+        Ok(()) => outcome_of(rt, &hall),
+        Err(_) => Err(ServeFault::Memory),
+    };
+    dissolve(rt, hall.into_pool());
+    outcome
+}
+
+// Whether all is settled.
+fn outcome_of<L: Ledger, G: Whole, I: Whole, P, S, R: Wait>(
+    rt: &R,
+    hall: &Hall<L, G, I, P, S>,
+) -> Result<(), ServeFault> {
+    let look = hall.shared.look(rt);
+    if look.is_settled && !look.broken {
+        Ok(())
+    } else {
+        Err(ServeFault::Device)
+    }
+}
+
+// Gives back what the seats have.
+fn dissolve<L: Ledger, G: Whole, I: Whole, R: Wait>(rt: &R, pool: Pool<L, G, I>) {
+    let Pool {
+        shared,
+        seats,
+        logger,
+        installer,
+    } = pool;
+    let mut seats = seats;
+    while let Some(seat) = seats.pop() {
+        shared.leave(rt, seat.into_inner());
+    }
+    seats.destroy_empty();
+    shared.leave_log(rt, logger);
+    shared.leave_install(rt, installer);
+}
+
+// Runs the threads, until so many connections have ended and all is settled.
+fn run<L, G, I, P, S, R>(
+    rt: &R,
+    hall: &Hall<L, G, I, P, S>,
+    listener: &TcpListener,
+    connections: u32,
+) -> Result<(), AllocError>
+where
+    L: Ledger + Send + Sync,
+    G: Whole + Send + Sync,
+    I: Whole + Send + Sync,
+    P: Port + Send + Drop,
+    S: Source + Send + Drop,
+    R: Threads + Wait + Clock + Sync,
+{
+    let threads = hall.seats.len().min(MOST_JOB_THREADS);
+    thread::scope(
+        thread::scope_env(),
+        rt,
+        |scope| -> Result<(), AllocError>
+            requires { IsSend L.row × IsSync L.row × IsSend G.row × IsSync G.row × IsSend I.row × IsSync I.row
+                × IsSend P.row × IsSend S.row × IsSync R.row }
+        {
+            let logger = scope.spawn(move || log_all(rt, hall)).ok();
+            let installer = scope.spawn(move || install_all(rt, hall)).ok();
+            let finisher = scope.spawn(move || finish_all(rt, hall)).ok();
+            let mut all = logger.is_some() && installer.is_some() && finisher.is_some();
+            for _ in 0..threads {
+                all = scope.spawn(move || work_all(rt, hall)).is_ok() && all;
+            }
+            if all {
+                accept_all(rt, hall, listener, connections);
+            }
+            // No job comes any more: each seat is freed by who has it.
+            hall.signs.jobs.end(rt, threads);
+            hall.signs.free.wait_for_all(rt);
+            hall.signs.to_log.end(rt);
+            join(rt, logger);
+            hall.signs.parking.end(rt);
+            join(rt, finisher);
+            hall.signs.to_install.end(rt);
+            join(rt, installer);
+            if all { Ok(()) } else { Err(AllocError) }
+        },
+    )
+}
+
+// Waits for a thread to end, if it was made.
+fn join<R: Threads>(rt: &R, thread: Option<JoinHandle<()>>) {
+    match thread {
+        Some(thread) => thread.join(rt),
+        None => {}
+    }
+}

@@ -1,0 +1,39 @@
+//! The threads that take jobs off their queue, and the one that answers what is settled.
+use crate::driving::{answer_in, see_through};
+use crate::hall::Hall;
+use disk::Source;
+use pool::Whole;
+use std::sync::Wait;
+use std::sync::ledger::Ledger;
+use std::time::Clock;
+
+/// Takes jobs until it is told that none will come, waits for a free seat for each, and drives it.
+pub fn work_all<L: Ledger, G: Whole, I: Whole, P, S: Source, R: Wait + Clock>(
+    rt: &R,
+    hall: &Hall<L, G, I, P, S>,
+) {
+    for _ in rt.forever() {
+        let Some(job) = hall.signs.jobs.take(rt) else {
+            break;
+        };
+        let seat = hall.signs.free.take(rt);
+        if let Some(answer) = answer_in(rt, hall, seat, job) {
+            hall.signs.deliver(rt, hall.alloc, &answer);
+        }
+    }
+}
+
+/// Takes parked seats whose changes are settled, until none will come, and drives each to its answer.
+pub fn finish_all<L: Ledger, G: Whole, I: Whole, P, S: Source, R: Wait + Clock>(
+    rt: &R,
+    hall: &Hall<L, G, I, P, S>,
+) {
+    for _ in rt.forever() {
+        let Some(seat) = hall.signs.parking.take(rt) else {
+            break;
+        };
+        if let Some(answer) = see_through(rt, hall, seat) {
+            hall.signs.deliver(rt, hall.alloc, &answer);
+        }
+    }
+}

@@ -1,0 +1,225 @@
+"""`serve` while a call of its image's file waits, and while the file's calls fail under load."""
+
+import os
+import select
+import shutil
+import subprocess
+import threading
+
+from cases import nfs, wire
+from cases.allocations import library
+from cases.conversing import ROOT
+from cases.running import MADE, NEW_MODE, Skipped, expect, is_so, same, wait_until
+from cases.serving_kills import CLIENTS, Worker, assert_kept, moments_of, tree_of
+from cases.tcp import Server, next_reply
+
+# It stands before the C library. While the file of a sign stands, a settling of the image waits, or a write behind the log,
+# or each write and each settling fails; the first that waits leaves the sign `waits`.
+LIBRARY = r"""
+#define _GNU_SOURCE
+#include <dlfcn.h>
+#include <errno.h>
+#include <fcntl.h>
+#include <stdio.h>
+#include <stdlib.h>
+#include <unistd.h>
+
+typedef ssize_t positioned(int, const void *, size_t, off_t);
+typedef int settles(int);
+
+static const char *path_of(char *path, const char *name) {
+    snprintf(path, 4096, "%s/%s", getenv("SIGNS"), name);
+    return path;
+}
+static int stands(const char *name) {
+    char path[4096];
+    return access(path_of(path, name), F_OK) == 0;
+}
+static void wait_while(const char *name) {
+    char path[4096];
+    if (!stands(name))
+        return;
+    close(open(path_of(path, "waits"), O_WRONLY | O_CREAT, 0600));
+    while (stands(name))
+        usleep(1000);
+}
+static int fails(void) {
+    if (stands("fail"))
+        errno = EIO;
+    else if (stands("full"))
+        errno = ENOSPC;
+    else
+        return 0;
+    return 1;
+}
+ssize_t pwrite(int file, const void *bytes, size_t count, off_t at) {
+    if (at >= 4096L * 514)
+        wait_while("hold home");
+    return fails() ? -1 : ((positioned *)dlsym(RTLD_NEXT, "pwrite"))(file, bytes, count, at);
+}
+int fdatasync(int file) {
+    wait_while("hold barrier");
+    return stands("fail") ? (errno = EIO, -1) : ((settles *)dlsym(RTLD_NEXT, "fdatasync"))(file);
+}
+"""
+
+
+class Signs:
+    """The files by which the case tells the library what to do."""
+
+    def __init__(self, place):
+        self.folder = place.path("signs")
+        os.mkdir(self.folder)
+        self.given = {"env": {**os.environ, "LD_PRELOAD": library(place, LIBRARY), "SIGNS": self.folder}}
+
+    def set(self, name):
+        with open(os.path.join(self.folder, name), "wb"):
+            pass
+
+    def clear(self, name):
+        os.remove(os.path.join(self.folder, name))
+
+    def wait(self):
+        """Waits until a call of the server waits."""
+        wait_until("a call of the file that waits", lambda: os.path.exists(os.path.join(self.folder, "waits")))
+
+
+def test_a_read_is_answered_while_a_settling_waits(place):
+    signs = Signs(place)
+    server = Server(place, place.image(), connections=2, workers=2, **signs.given)
+    first, second = server.client(), server.client()
+    file = first.create(ROOT, b"a", b"hello")
+    signs.set("hold barrier")
+    first.stream.sendall(wire.setattr_call(9, 0o700))
+    signs.wait()
+    same("what the other reads", second.read(file), b"hello")
+    same("what the other is told", second.attributes(ROOT).mode, 0o700)
+    is_so("a change was answered before it was settled", not select.select([first.stream], [], [], 0)[0])
+    signs.clear("hold barrier")
+    same("the reply's number", next_reply(first.stream)[:4], wire.words(9))
+    first.close()
+    second.close()
+    server.end()
+
+
+def test_calls_are_answered_while_a_change_is_brought_home(place):
+    signs = Signs(place)
+    server = Server(place, place.image(), connections=2, workers=2, **signs.given)
+    first, second = server.client(), server.client()
+    signs.set("hold home")
+    file = first.create(ROOT, b"a", b"hello")
+    signs.wait()
+    same("what the other reads", second.read(file), b"hello")
+    # A change is settled in the log, and so answered, before it is home.
+    same("the mode", second.set(ROOT, mode=0o700).after.mode, 0o700)
+    signs.clear("hold home")
+    first.close()
+    second.close()
+    server.end()
+
+
+def test_a_write_is_read_back_over_another_connection(place):
+    server = Server(place, place.image(), connections=2, workers=2)
+    first, second = server.client(), server.client()
+    file = first.create(ROOT, b"a")
+    for it in range(50):
+        data = b"hello %d" % it
+        first.write(file, 0, data, nfs.UNSTABLE)
+        same(f"read {it}", second.read(file)[: len(data)], data)
+    first.close()
+    second.close()
+    server.end()
+
+
+def until_refused(worker, moments):
+    """Has a client work until a call is refused, and sees that each later one is."""
+    told = worker.run(moments)
+    is_so(f"a client of a failed device: {told}", "status 5" in told)
+    worker.client.refuse(nfs.IO, nfs.GETATTR, ROOT)
+    same("NULL", wire.record(worker.client.reply(wire.null_call(9))), wire.null_reply(9))
+    worker.client.close()
+
+
+def assert_fails_under_load(place, sign):
+    image, signs = place.image(), Signs(place)
+    server = Server(place, image, connections=CLIENTS, **signs.given)
+    moments, seed = moments_of()
+    workers = [Worker(server, it, {}) for it in range(CLIENTS)]
+    failed = []
+
+    def guarded(worker, seed):
+        try:
+            until_refused(worker, moments_of(seed)[0])
+        except BaseException as error:
+            failed.append(error)
+
+    threads = [threading.Thread(target=guarded, args=[it, moments.random()], daemon=True) for it in workers]
+    for it in threads:
+        it.start()
+    wait_until("changes of each client", lambda: failed or all(it.known for it in workers))
+    signs.set(sign)
+    for it in threads:
+        it.join()
+    if failed:
+        raise failed[0]
+    server.end(1, b"nfsd: 6 Device\n")
+    # The next one, on a device that is whole again, finds all that was answered.
+    found = tree_of(place, image)
+    for it in workers:
+        assert_kept(f"{sign} by seed {seed}", it, found)
+
+
+def test_a_device_that_fails_under_load_loses_nothing_that_was_answered(place):
+    assert_fails_under_load(place, "fail")
+
+
+def test_a_full_disk_under_load_loses_nothing_that_was_answered(place):
+    assert_fails_under_load(place, "full")
+
+
+class LoopDevice:
+    """A block device over a file of so many bytes."""
+
+    def __init__(self, place, size):
+        self.file = place.path("held")
+        with open(self.file, "wb") as file:
+            file.truncate(size)
+        try:
+            ran = subprocess.run(["losetup", "--find", "--show", self.file], capture_output=True, check=True)
+        except (OSError, subprocess.CalledProcessError) as error:
+            raise Skipped(f"no loop device can be had: {error}") from error
+        self.path = ran.stdout.decode().strip()
+
+    def __enter__(self):
+        return self
+
+    def __exit__(self, *_):
+        subprocess.run(["losetup", "--detach", self.path], check=True)
+
+
+def test_a_block_device_holds_an_image_as_large_as_it_is(place):
+    # Blocks of 4096 bytes, and a part of one.
+    size = 2048 * 4096 + 512
+    with LoopDevice(place, size) as device:
+        ran = place.run(["format", device.path, "--blocks", "2049"])
+        expect("format of more blocks than there are", ran, 1, b"", b"nfsd: file\n")
+        ran = place.run(["format", device.path, "--inodes", "256", "--time", str(MADE)])
+        # 514 blocks of log, a block for each bitmap, and 8 of inodes (docs/FORMAT.md).
+        expect("format of a block device", ran, 0, b"formatted 2048 blocks 256 inodes 1524 data\n", b"")
+        for number in range(2):
+            server = Server(place, device.path, connections=1)
+            client = server.client()
+            if number == 0:
+                client.create(ROOT, b"a", b"hello")
+            same("what is read", client.read(client.find(ROOT, b"a")), b"hello")
+            client.close()
+            server.end()
+        same("the length of what it lies in", os.path.getsize(device.file), size)
+        # An image may be smaller than its device.
+        expect("format of a part", place.run(["format", device.path, "--blocks", "1024", "--inodes", "32"]), 0,
+               b"formatted 1024 blocks 32 inodes 507 data\n", b"")
+        server = Server(place, device.path, connections=1)
+        client = server.client()
+        same("the names of the new root", client.entries(ROOT), [])
+        client.close()
+        server.end()
