@@ -134,7 +134,7 @@ def test_a_write_is_read_back_over_another_connection(place):
 def until_refused(worker, moments):
     """Has a client work until a call is refused, and sees that each later one is."""
     told = worker.run(moments)
-    is_so(f"a client of a failed device: {told}", "status 5" in told)
+    is_so(f"a client of a failed device: {told}", "status: found 5, wanted 0" in told)
     worker.client.refuse(nfs.IO, nfs.GETATTR, ROOT)
     same("NULL", wire.record(worker.client.reply(wire.null_call(9))), wire.null_reply(9))
     worker.client.close()
