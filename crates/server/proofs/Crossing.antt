@@ -49,8 +49,11 @@ job_send = recorded_send Job.the_field.row _ _ Job.the_type.to_one (struct_send 
   ),
 ))
 
-jobs_sync : IsSync Jobs.the_row
-jobs_sync = search (job_send, sender.the_sync, receiver.the_sync, crosses, sendable) depth 60 fits 20000
+jobs_sync : IsSync (Jobs.the_field).row
+jobs_sync = struct_sync (Declared.shape Jobs.the_type) (
+  search (job_send, sender.the_sync, crosses, sendable) depth 60 fits 20000,
+  (search (job_send, receiver.the_sync, crosses, sendable) depth 60 fits 20000, tt),
+)
 
 worker_send : IsSend Worker.the_field.row
 worker_send = struct_send (Declared.shape Worker.the_type) (
@@ -90,8 +93,29 @@ listed_send = search (connection_send, connection_sync, crosses, sendable) depth
 open_send : IsSend (Connections.the_row (Arc.the_row Connection.the_row Global.the_row TheImpl.ghosts))
 open_send = search (listed_send, crosses, sendable) depth 60 fits 20000
 
-signs_sync : IsSync Signs.the_row
-signs_sync = search (jobs_sync, open_send, crosses, sendable) depth 60 fits 20000
+signs_sync : IsSync (Signs.the_field).row
+signs_sync = struct_sync (Declared.shape Signs.the_type) (
+  search (crosses, sendable) depth 40 fits 20000,
+  (
+    jobs_sync,
+    (
+      search (crosses, sendable) depth 40 fits 20000,
+      (
+        search (crosses, sendable) depth 40 fits 20000,
+        (
+          search (crosses, sendable) depth 40 fits 20000,
+          (
+            search (crosses, sendable) depth 40 fits 20000,
+            (
+              search (open_send, crosses, sendable) depth 40 fits 20000,
+              (search (crosses, sendable) depth 40 fits 20000, tt),
+            ),
+          ),
+        ),
+      ),
+    ),
+  ),
+)
 
 devices_sync : (P S : RattleType) → IsSend P → IsSend S → IsSync (Devices.the_field P S).row
 devices_sync P S p s = struct_sync (Declared.shape (Devices.the_type P S)) (
@@ -129,7 +153,7 @@ module _ (L G I : RattleType) (w : Whole.Ghosts G.Denot) (w' : Whole.Ghosts I.De
                 search (installer, crosses, sendable) depth 20,
                 (
                   devices,
-                  (search (signs_sync, crosses, sendable) depth 20, tt),
+                  (signs_sync, tt),
                 ),
               ),
             ),
