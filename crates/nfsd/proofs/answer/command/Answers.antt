@@ -14,8 +14,8 @@ returns-in-Ok g c =
     let formats = rw (first, fresh) at c.format_device-outcome.ensures in
     rw is (formats_command _ c.in-Format.image c.in-Format.blocks _ _ _ _ _ _ _ _ asked refl refl formats)
 
-pub returns-in-Ok-open : goal.returns-in-Ok-open
-returns-in-Ok-open g c =
+pub returns-in-Ok-open_image : goal.returns-in-Ok-open_image
+returns-in-Ok-open_image g c =
     let is : c.args.args ≡ Once c.in-Once.image c.in-Once.time = search rules in
     let first = c.beginning_with-disk-in-Once.ensures.first in
     let fresh = c.beginning_with-disk-in-Once.ensures.fresh in
