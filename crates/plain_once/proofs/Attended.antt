@@ -6,7 +6,7 @@ use Rattle.std.specs.Io.KnownBytes.{Appends, Consumes}
 use Rattle.plain_session.specs.Answering.{Files}
 use Rattle.plain_session.specs.Serving.{AreAnswered, IsFed, Session, More}
 use Rattle.plain_session.specs.Serving.{None as Nothing}
-use Rattle.plain_session.specs.declared.session.Progress.TheVariants.{Open}
+use Rattle.plain_session.specs.declared.session.Connection.TheVariants.{Open}
 use Rattle.plain_session.proofs.Pieces.{at_once}
 use Rattle.plain_once.specs.Attending.{IsAttended}
 

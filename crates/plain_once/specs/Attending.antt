@@ -22,7 +22,7 @@ pub record IsDone (start now : Session) (unread rest first written : Option (Lis
   pub at_end : IsAtEnd rest
 
 -- so it is of a session over the tree of a fresh image, with the counts and at the times that are asked for
-pub record IsAnswered (asked : Asked) (unread rest first written : Option (List ℕ)) : Type 0 where
+pub record IsServedWhole (asked : Asked) (unread rest first written : Option (List ℕ)) : Type 0 where
   pub data_blocks : ℕ
   pub has_data : HasData asked.blocks asked.inodes (Some data_blocks)
   pub last : Session

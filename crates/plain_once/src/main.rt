@@ -6,15 +6,15 @@ ghost use Rattle.std.specs.Prelude.{◌≡◌, ◌<◌, ◌≤◌, ℕ, List, []
 ghost use Rattle.std.specs.Prelude.{IfNone, IfSome};
 ghost use Rattle.std.specs.Io.KnownBytes.{Appends};
 ghost use Rattle.plain_session.specs.Serving.{Ends, IsFed, Session, session_of};
-ghost use Rattle.plain_session.specs.declared.session.Progress.TheVariants as progress;
+ghost use Rattle.plain_session.specs.declared.session.Connection.TheVariants as progress;
 ghost use Rattle.plain_session.specs.Counts.{HasData};
-ghost use Rattle.plain_once.specs.Attending.{IsAnswered, IsAttended, IsDone};
+ghost use Rattle.plain_once.specs.Attending.{IsServedWhole, IsAttended, IsDone};
 
 mod words;
 
 use crate::words::{Asked, parse};
 use limits::{MOST_READS, PIECE_BYTES};
-use plain_session::{PlainSession, Progress};
+use plain_session::{Connection, PlainSession};
 use std::alloc::{AllocError, Global};
 use std::env;
 use std::env::Env;
@@ -60,7 +60,7 @@ fn answer_asked<R: Read, W: Write>(
     reader: &mut R,
     writer: &mut W,
 ) -> u8
-    ensures ended { result ≡ ENDED → IsAnswered asked (R.remaining reader.old) (R.remaining reader.new)
+    ensures ended { result ≡ ENDED → IsServedWhole asked (R.remaining reader.old) (R.remaining reader.new)
         (W.contents writer.old) (W.contents writer.new) }
     ensures senseless { result ≡ SENSELESS → HasData asked.blocks asked.inodes None }
 {
@@ -136,8 +136,8 @@ fn status_at_the_end(session: &PlainSession) -> u8
     ensures sensible { result ≤ CLOSED }
 {
     match session.end() {
-        Progress::Open => ENDED,
-        Progress::Closed => CLOSED,
+        Connection::Open => ENDED,
+        Connection::Closed => CLOSED,
     }
 }
 
@@ -165,8 +165,8 @@ fn feed(alloc: Global, session: &mut PlainSession, piece: &[u8], replies: &mut V
         (session_of session.new) }
 {
     match session.feed(alloc, piece, replies) {
-        Ok(Progress::Open) => true,
-        Ok(Progress::Closed) | Err(_) => false,
+        Ok(Connection::Open) => true,
+        Ok(Connection::Closed) | Err(_) => false,
     }
 }
 

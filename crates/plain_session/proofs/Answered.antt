@@ -5,7 +5,7 @@ use Rattle.std.proofs.Common.{None as Nothing}
 use Rattle.plain_session.specs.Answering.{Files}
 use Rattle.plain_session.specs.Records.{IsRecord}
 use Rattle.plain_session.specs.Serving.{AreAnswered, BeginsAnswered, Fails, IsCutOff, IsFirst, More}
-use Rattle.plain_session.specs.declared.session.Progress.{Progress}
+use Rattle.plain_session.specs.declared.session.Connection.{Connection}
 use Rattle.xdr.specs.Items.{word}
 
 -- a record takes bytes
@@ -31,11 +31,11 @@ IsNext middle written left more behind after =
     (reply : List ℕ) × BeginsAnswered middle left reply behind after × (more ≡ written ++ reply)
 
 pub one_more : (before middle after : Files) (bytes first written left more behind : List ℕ)
-    (told : Option Progress) → told ≡ Nothing → AreAnswered before bytes first written left middle
+    (told : Option Connection) → told ≡ Nothing → AreAnswered before bytes first written left middle
     → IfNone told (IsNext middle written left more behind after)
     → AreAnswered before bytes first more behind after × (length behind < length left)
 one_more before middle after bytes first written left more behind told is answered next =
-    let P : Option Progress → Type 0 = λ o. IfNone o (IsNext middle written left more behind after) in
+    let P : Option Connection → Type 0 = λ o. IfNone o (IsNext middle written left more behind after) in
     let here = subst P is next in
     let told = sym here.2 in (
       subst (λ (m : List ℕ). AreAnswered before bytes first m behind after) told (More answered here.1),

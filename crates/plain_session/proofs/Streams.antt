@@ -7,8 +7,8 @@ use Rattle.plain_session.specs.Serving.{AreAnswered, BeginsClosing, Ends, EndsWi
 use Rattle.plain_session.specs.declared.answers.Pace.{Pace}
 use Rattle.plain_session.specs.Serving.{Session, Stops, fresh, fresh_files, is_closed_by, session_of}
 use Rattle.plain_session.specs.declared.session.PlainSession.{PlainSession}
-use Rattle.plain_session.specs.declared.session.Progress.{Progress}
-use Rattle.plain_session.specs.declared.session.Progress.TheVariants.{Closed, Open}
+use Rattle.plain_session.specs.declared.session.Connection.{Connection}
+use Rattle.plain_session.specs.declared.session.Connection.TheVariants.{Closed, Open}
 
 -- a session that is there is fresh
 abbrev pub IsFresh : ℕ → ℕ → ℕ → Pace → Session → Type 0
@@ -22,7 +22,7 @@ fresh_of blocks inodes made time told session is new =
     subst (λ (o : Option PlainSession). IsNew blocks inodes made time o) is new
 
 -- what is left, where it has closed or something is left
-left_at_end : (left : List ℕ) (is_closed : Bool) (went : Progress) → Stops left went
+left_at_end : (left : List ℕ) (is_closed : Bool) (went : Connection) → Stops left went
     → is_closed ≡ is_closed_by went → (is_closed ≡ true) ⊎ (left ≢ [])
     → IsTooLong left ⊎ BeginsClosing left ⊎ NeedsMore left × (left ≢ [])
 left_at_end left is_closed Open more stays (inl closed) = cc
@@ -33,7 +33,7 @@ left_at_end left is_closed Closed (inr closing) closed ends = inr (inl closing)
 pub ends_open : (session : Session) → Ends session Open → EndsWith session.unread 0
 ends_open session ends = inl (refl, ends.1)
 
-pub ends_closed : (old new : Session) (input first replies : List ℕ) (went : Progress)
+pub ends_closed : (old new : Session) (input first replies : List ℕ) (went : Connection)
     → IsFed old input first went replies new → Ends new Closed → EndsWith new.unread 1
 ends_closed old new input first replies went fed ends =
     inr (refl, left_at_end new.unread new.is_closed went fed.stops fed.closed ends)
@@ -45,7 +45,7 @@ fresh_is_open blocks inodes made time session is =
     subst (λ (s : Session). s.is_closed ≡ false) (sym is.2) refl
 
 pub stream : (blocks inodes made : ℕ) (time : Pace) (old new : Session) (input first replies : List ℕ)
-    (went : Progress) (status : ℕ) → IsFresh blocks inodes made time old → first ≡ []
+    (went : Connection) (status : ℕ) → IsFresh blocks inodes made time old → first ≡ []
     → IsFed old input first went replies new → EndsWith new.unread status
     → (data_blocks : ℕ) × HasData blocks inodes (Some data_blocks)
     × IsStream (fresh_files data_blocks inodes made time) input replies status

@@ -7,8 +7,8 @@ use Rattle.plain_session.specs.Counts.{HasData}
 use Rattle.plain_session.specs.Records.{IsRecord, IsTooLong, NeedsMore}
 use Rattle.plain_session.specs.declared.answers.Pace.{Pace}
 use Rattle.plain_session.specs.declared.session.PlainSession.{PlainSession}
-use Rattle.plain_session.specs.declared.session.Progress.{Progress}
-use Rattle.plain_session.specs.declared.session.Progress.TheVariants as progress
+use Rattle.plain_session.specs.declared.session.Connection.{Connection}
+use Rattle.plain_session.specs.declared.session.Connection.TheVariants as progress
 
 -- a session: its files, the bytes that aren't answered yet, and whether it has closed
 pub record Session : Type 0 where
@@ -66,16 +66,16 @@ pub data AreAnswered (before : Files) (bytes first : List ℕ) : List ℕ → Li
       → AreAnswered before bytes first (written ++ reply) behind after
 
 -- no record more is answered: none is whole, or the connection closes
-abbrev pub Stops : List ℕ → Progress → Type 0
+abbrev pub Stops : List ℕ → Connection → Type 0
 Stops left progress.Open = NeedsMore left
 Stops left progress.Closed = IsTooLong left ⊎ BeginsClosing left
 
-abbrev pub is_closed_by : Progress → Bool
+abbrev pub is_closed_by : Connection → Bool
 is_closed_by progress.Open = false
 is_closed_by progress.Closed = true
 
 -- What comes of a piece where memory suffices: all records that are whole by then are answered.
-pub record IsFed (old : Session) (piece first : List ℕ) (went : Progress) (written : List ℕ) (new : Session)
+pub record IsFed (old : Session) (piece first : List ℕ) (went : Connection) (written : List ℕ) (new : Session)
     : Type 0 where
   pub answered : AreAnswered old.files (old.unread ++ piece) first written new.unread new.files
   pub stops : Stops new.unread went
@@ -100,7 +100,7 @@ IsNew blocks inodes made pace (Some session) = (data_blocks : ℕ) × HasData bl
     × (session_of session ≡ fresh data_blocks inodes made pace)
 
 -- how a session stands at the end of the input: closed, where it has closed or the end is inside a record
-abbrev pub Ends : Session → Progress → Type 0
+abbrev pub Ends : Session → Connection → Type 0
 Ends session progress.Open = (session.is_closed ≡ false) × (session.unread ≡ [])
 Ends session progress.Closed = (session.is_closed ≡ true) ⊎ (session.unread ≢ [])
 

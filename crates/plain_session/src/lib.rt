@@ -14,4 +14,4 @@ pub use answers::Pace;
 pub use image::data_blocks;
 pub use laws::{a_stream_begins_one_way, pieces_come_to_one, sessions_keep_files_sound};
 pub use records::{Cut, first_record};
-pub use session::{PlainSession, Progress, answer_stream};
+pub use session::{Connection, PlainSession, answer_stream};

@@ -15,9 +15,9 @@ use nfs_types::Moment;
 use plain_server::PlainTree;
 use std::alloc::{AllocError, Global};
 
-/// How a session goes on.
+/// Whether the connection of a session is open.
 #[derive(Clone, Copy, Debug, PartialEq, Eq)]
-pub enum Progress {
+pub enum Connection {
     Open,
     /// The connection closes: behind the replies that were written before.
     Closed,
@@ -65,8 +65,8 @@ impl PlainSession {
         alloc: Global,
         piece: &[u8],
         replies: &mut Vec<u8>,
-    ) -> Result<Progress, AllocError>
-        ensures closed { (session_of self.old).is_closed ≡ true → (result ≡ Ok Progress.Closed)
+    ) -> Result<Connection, AllocError>
+        ensures closed { (session_of self.old).is_closed ≡ true → (result ≡ Ok Connection.Closed)
             × (session_of self.new ≡ session_of self.old) × (replies.new.items ≡ replies.old.items) }
         ensures ok { IfOk result (λ progress. (session_of self.old).is_closed ≡ false
             → IsFed (session_of self.old) piece.now replies.old.items progress replies.new.items
@@ -76,23 +76,23 @@ impl PlainSession {
             replies.new.items (session_of self.new).files) }
     {
         if self.is_closed {
-            return Ok(Progress::Closed);
+            return Ok(Connection::Closed);
         }
         self.is_closed = true;
         self.unread.extend_from_slice(piece)?;
         let progress = answer_all(alloc, &mut self.files, &mut self.unread, replies)?;
-        self.is_closed = matches!(progress, Progress::Closed);
+        self.is_closed = matches!(progress, Connection::Closed);
         Ok(progress)
     }
 
     /// How it stands at the end of the input: closed, where it has closed, or where that is inside a record.
-    pub fn end(&self) -> Progress
+    pub fn end(&self) -> Connection
         ensures { Ends (session_of self.now) result }
     {
         if self.is_closed || !self.unread.is_empty() {
-            Progress::Closed
+            Connection::Closed
         } else {
-            Progress::Open
+            Connection::Open
         }
     }
 }
@@ -113,7 +113,7 @@ fn answer_all(
     files: &mut PlainFiles,
     unread: &mut Vec<u8>,
     replies: &mut Vec<u8>,
-) -> Result<Progress, AllocError>
+) -> Result<Connection, AllocError>
     ensures ok { IfOk result (λ progress. AreAnswered (files_of files.old) unread.old.items replies.old.items
         replies.new.items unread.new.items (files_of files.new) × Stops unread.new.items progress) }
     ensures err { OnErr result (Fails (files_of files.old) unread.old.items replies.old.items
@@ -125,7 +125,7 @@ fn answer_all(
             return Ok(progress);
         }
     }
-    Ok(Progress::Open)
+    Ok(Connection::Open)
 }
 
 // Answers the next record, and takes its bytes away. Tells how the session goes on where none is answered.
@@ -134,7 +134,7 @@ fn answer_next(
     files: &mut PlainFiles,
     unread: &mut Vec<u8>,
     replies: &mut Vec<u8>,
-) -> Result<Option<Progress>, AllocError>
+) -> Result<Option<Connection>, AllocError>
     ensures stops { IfOk result (λ told. IfSome told (λ progress. Stops unread.old.items progress
         × (unread.new.items ≡ unread.old.items) × (replies.new.items ≡ replies.old.items)
         × (files_of files.new ≡ files_of files.old))) }
@@ -145,13 +145,13 @@ fn answer_next(
         × IsCutOff (files_of files.old) unread.old.items (files_of files.new)) }
 {
     let (record, taken) = match first_record(alloc, unread.as_slice())? {
-        Cut::NeedsMore => return Ok(Some(Progress::Open)),
-        Cut::TooLong => return Ok(Some(Progress::Closed)),
+        Cut::NeedsMore => return Ok(Some(Connection::Open)),
+        Cut::TooLong => return Ok(Some(Connection::Closed)),
         Cut::Record { record, taken } => (record, taken),
     };
     let rest = rest_of(alloc, unread.as_slice(), taken)?;
     let Some(reply) = answer_record(alloc, files, record.as_slice())? else {
-        return Ok(Some(Progress::Closed));
+        return Ok(Some(Connection::Closed));
     };
     replies.extend_from_slice(reply.as_slice())?;
     *unread = rest;
@@ -190,7 +190,7 @@ pub fn answer_stream(
     let mut replies = Vec::new(alloc);
     let _progress = session.feed(alloc, input, &mut replies)?;
     match session.end() {
-        Progress::Open => Ok(Some((replies, 0))),
-        Progress::Closed => Ok(Some((replies, 1))),
+        Connection::Open => Ok(Some((replies, 0))),
+        Connection::Closed => Ok(Some((replies, 1))),
     }
 }

@@ -2,17 +2,12 @@
 
 mod by_hand;
 mod compared;
-mod failures;
-mod first_path;
 mod formatted_runs;
 mod images;
 mod left;
-mod openings;
 mod plain;
 mod records;
 mod runs;
 mod served;
 mod settling;
-mod stopped_formats;
-mod stopped_openings;
 mod worker;

@@ -110,9 +110,6 @@ pub const GETATTR_CHANGED: [u32; 29] = [
     0,
 ];
 
-/// The reply where the store is broken: IO.
-pub const GETATTR_IO: [u32; 8] = [0x8000_001c, 3, 1, 0, 0, 0, 0, 5];
-
 /// SETATTR of mode 448 of the root by user 0, transaction 4.
 pub const SETATTR: [u32; 30] = [
     0x8000_0074,
@@ -187,6 +184,3 @@ pub const SETATTR_DONE: [u32; 37] = [
     2000,
     0,
 ];
-
-/// The reply where the store is broken: IO, with both optional parts absent.
-pub const SETATTR_IO: [u32; 10] = [0x8000_0024, 4, 1, 0, 0, 0, 0, 5, 0, 0];

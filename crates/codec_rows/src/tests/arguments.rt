@@ -6,211 +6,91 @@ use std::alloc::{AllocError, Global};
 use std::test::Fail;
 use worked_procedures::*;
 
-fn is_nfs_call(
-    alloc: Global,
-    procedure: Procedure,
-    call: Call,
-    words: &[&[u32]],
-) -> Result<bool, AllocError> {
-    let procedure = ProgramProcedure::Nfs(procedure);
-    is_call(alloc, procedure, ProgramCall::Nfs(call), words)
+fn call(alloc: Global, procedure: Procedure) -> Result<Call, AllocError> {
+    match procedure {
+        Procedure::Null => Ok(Call::Null),
+        Procedure::GetAttr => get_attr_call(alloc),
+        Procedure::SetAttr => set_attr_call(alloc),
+        Procedure::Lookup => lookup_call(alloc),
+        Procedure::Access => access_call(alloc),
+        Procedure::ReadLink => read_link_call(alloc),
+        Procedure::Read => read_call(alloc),
+        Procedure::Write => write_call(alloc),
+        Procedure::Create => create_call(alloc),
+        Procedure::MkDir => mk_dir_call(alloc),
+        Procedure::SymLink => sym_link_call(alloc),
+        Procedure::MkNod => mk_nod_call(alloc),
+        Procedure::Remove => remove_call(alloc),
+        Procedure::RmDir => rm_dir_call(alloc),
+        Procedure::Rename => rename_call(alloc),
+        Procedure::Link => link_call(alloc),
+        Procedure::ReadDir => read_dir_call(alloc),
+        Procedure::ReadDirPlus => read_dir_plus_call(alloc),
+        Procedure::FsStat => fs_stat_call(alloc),
+        Procedure::FsInfo => fs_info_call(alloc),
+        Procedure::PathConf => path_conf_call(alloc),
+        Procedure::Commit => commit_call(alloc),
+    }
 }
 
-fn is_mount_call(
-    alloc: Global,
-    procedure: MountProcedure,
-    call: MountCall,
-    words: &[&[u32]],
-) -> Result<bool, AllocError> {
-    let procedure = ProgramProcedure::Mount(procedure);
-    is_call(alloc, procedure, ProgramCall::Mount(call), words)
+fn mount_call_of(alloc: Global, procedure: MountProcedure) -> Result<MountCall, AllocError> {
+    match procedure {
+        MountProcedure::Null => Ok(MountCall::Null),
+        MountProcedure::Mount => mount_call(alloc),
+        MountProcedure::Unmount => unmount_call(alloc),
+    }
 }
+
+// The words of each.
+const ROWS: [(Procedure, &[&[u32]]); 22] = [
+    (Procedure::Null, &NO_ARGUMENTS),
+    (Procedure::GetAttr, &HANDLE_ARGUMENTS),
+    (Procedure::SetAttr, &SET_ATTR_ARGUMENTS),
+    (Procedure::Lookup, &NAME_ARGUMENTS),
+    (Procedure::Access, &ACCESS_ARGUMENTS),
+    (Procedure::ReadLink, &HANDLE_ARGUMENTS),
+    (Procedure::Read, &READ_ARGUMENTS),
+    (Procedure::Write, &WRITE_ARGUMENTS),
+    (Procedure::Create, &CREATE_ARGUMENTS),
+    (Procedure::MkDir, &MK_DIR_ARGUMENTS),
+    (Procedure::SymLink, &SYM_LINK_ARGUMENTS),
+    (Procedure::MkNod, &MK_NOD_ARGUMENTS),
+    (Procedure::Remove, &NAME_ARGUMENTS),
+    (Procedure::RmDir, &NAME_ARGUMENTS),
+    (Procedure::Rename, &RENAME_ARGUMENTS),
+    (Procedure::Link, &LINK_ARGUMENTS),
+    (Procedure::ReadDir, &READ_DIR_ARGUMENTS),
+    (Procedure::ReadDirPlus, &READ_DIR_PLUS_ARGUMENTS),
+    (Procedure::FsStat, &HANDLE_ARGUMENTS),
+    (Procedure::FsInfo, &HANDLE_ARGUMENTS),
+    (Procedure::PathConf, &HANDLE_ARGUMENTS),
+    (Procedure::Commit, &COMMIT_ARGUMENTS),
+];
+
+const MOUNT_ROWS: [(MountProcedure, &[&[u32]]); 3] = [
+    (MountProcedure::Null, &NO_ARGUMENTS),
+    (MountProcedure::Mount, &MOUNT_ARGUMENTS),
+    (MountProcedure::Unmount, &UNMOUNT_ARGUMENTS),
+];
 
 #[test]
-fn arguments_of_null(rt: HostRuntime) -> Result<(), Fail> {
-    let call = Call::Null;
-    assert!(rt; is_nfs_call(rt.alloc(), Procedure::Null, call, &NO_ARGUMENTS)?);
+fn arguments_of_each_procedure(rt: HostRuntime) -> Result<(), Fail> {
+    let alloc = rt.alloc();
+    for (procedure, words) in &ROWS {
+        let call = ProgramCall::Nfs(call(alloc, *procedure)?);
+        let asked = ProgramProcedure::Nfs(*procedure);
+        assert!(rt; is_call(alloc, asked, call, words)?, "{procedure:?}");
+    }
     Ok(())
 }
 
 #[test]
-fn arguments_of_get_attr(rt: HostRuntime) -> Result<(), Fail> {
-    let call = get_attr_call(rt.alloc())?;
-    assert!(rt; is_nfs_call(rt.alloc(), Procedure::GetAttr, call, &HANDLE_ARGUMENTS)?);
-    Ok(())
-}
-
-#[test]
-fn arguments_of_set_attr(rt: HostRuntime) -> Result<(), Fail> {
-    let call = set_attr_call(rt.alloc())?;
-    assert!(rt; is_nfs_call(rt.alloc(), Procedure::SetAttr, call, &SET_ATTR_ARGUMENTS)?);
-    Ok(())
-}
-
-#[test]
-fn arguments_of_lookup(rt: HostRuntime) -> Result<(), Fail> {
-    let call = lookup_call(rt.alloc())?;
-    assert!(rt; is_nfs_call(rt.alloc(), Procedure::Lookup, call, &NAME_ARGUMENTS)?);
-    Ok(())
-}
-
-#[test]
-fn arguments_of_access(rt: HostRuntime) -> Result<(), Fail> {
-    let call = access_call(rt.alloc())?;
-    assert!(rt; is_nfs_call(rt.alloc(), Procedure::Access, call, &ACCESS_ARGUMENTS)?);
-    Ok(())
-}
-
-#[test]
-fn arguments_of_read_link(rt: HostRuntime) -> Result<(), Fail> {
-    let call = read_link_call(rt.alloc())?;
-    assert!(rt; is_nfs_call(rt.alloc(), Procedure::ReadLink, call, &HANDLE_ARGUMENTS)?);
-    Ok(())
-}
-
-#[test]
-fn arguments_of_read(rt: HostRuntime) -> Result<(), Fail> {
-    let call = read_call(rt.alloc())?;
-    assert!(rt; is_nfs_call(rt.alloc(), Procedure::Read, call, &READ_ARGUMENTS)?);
-    Ok(())
-}
-
-#[test]
-fn arguments_of_write(rt: HostRuntime) -> Result<(), Fail> {
-    let call = write_call(rt.alloc())?;
-    assert!(rt; is_nfs_call(rt.alloc(), Procedure::Write, call, &WRITE_ARGUMENTS)?);
-    Ok(())
-}
-
-#[test]
-fn arguments_of_create(rt: HostRuntime) -> Result<(), Fail> {
-    let call = create_call(rt.alloc())?;
-    assert!(rt; is_nfs_call(rt.alloc(), Procedure::Create, call, &CREATE_ARGUMENTS)?);
-    Ok(())
-}
-
-#[test]
-fn arguments_of_mk_dir(rt: HostRuntime) -> Result<(), Fail> {
-    let call = mk_dir_call(rt.alloc())?;
-    assert!(rt; is_nfs_call(rt.alloc(), Procedure::MkDir, call, &MK_DIR_ARGUMENTS)?);
-    Ok(())
-}
-
-#[test]
-fn arguments_of_sym_link(rt: HostRuntime) -> Result<(), Fail> {
-    let call = sym_link_call(rt.alloc())?;
-    assert!(rt; is_nfs_call(rt.alloc(), Procedure::SymLink, call, &SYM_LINK_ARGUMENTS)?);
-    Ok(())
-}
-
-#[test]
-fn arguments_of_mk_nod(rt: HostRuntime) -> Result<(), Fail> {
-    let call = mk_nod_call(rt.alloc())?;
-    assert!(rt; is_nfs_call(rt.alloc(), Procedure::MkNod, call, &MK_NOD_ARGUMENTS)?);
-    Ok(())
-}
-
-#[test]
-fn arguments_of_remove(rt: HostRuntime) -> Result<(), Fail> {
-    let call = remove_call(rt.alloc())?;
-    assert!(rt; is_nfs_call(rt.alloc(), Procedure::Remove, call, &NAME_ARGUMENTS)?);
-    Ok(())
-}
-
-#[test]
-fn arguments_of_rm_dir(rt: HostRuntime) -> Result<(), Fail> {
-    let call = rm_dir_call(rt.alloc())?;
-    assert!(rt; is_nfs_call(rt.alloc(), Procedure::RmDir, call, &NAME_ARGUMENTS)?);
-    Ok(())
-}
-
-#[test]
-fn arguments_of_rename(rt: HostRuntime) -> Result<(), Fail> {
-    let call = rename_call(rt.alloc())?;
-    assert!(rt; is_nfs_call(rt.alloc(), Procedure::Rename, call, &RENAME_ARGUMENTS)?);
-    Ok(())
-}
-
-#[test]
-fn arguments_of_link(rt: HostRuntime) -> Result<(), Fail> {
-    let call = link_call(rt.alloc())?;
-    assert!(rt; is_nfs_call(rt.alloc(), Procedure::Link, call, &LINK_ARGUMENTS)?);
-    Ok(())
-}
-
-#[test]
-fn arguments_of_read_dir(rt: HostRuntime) -> Result<(), Fail> {
-    let call = read_dir_call(rt.alloc())?;
-    assert!(rt; is_nfs_call(rt.alloc(), Procedure::ReadDir, call, &READ_DIR_ARGUMENTS)?);
-    Ok(())
-}
-
-#[test]
-fn arguments_of_read_dir_plus(rt: HostRuntime) -> Result<(), Fail> {
-    let call = read_dir_plus_call(rt.alloc())?;
-    assert!(rt;
-        is_nfs_call(
-            rt.alloc(),
-            Procedure::ReadDirPlus,
-            call,
-            &READ_DIR_PLUS_ARGUMENTS
-        )?
-    );
-    Ok(())
-}
-
-#[test]
-fn arguments_of_fs_stat(rt: HostRuntime) -> Result<(), Fail> {
-    let call = fs_stat_call(rt.alloc())?;
-    assert!(rt; is_nfs_call(rt.alloc(), Procedure::FsStat, call, &HANDLE_ARGUMENTS)?);
-    Ok(())
-}
-
-#[test]
-fn arguments_of_fs_info(rt: HostRuntime) -> Result<(), Fail> {
-    let call = fs_info_call(rt.alloc())?;
-    assert!(rt; is_nfs_call(rt.alloc(), Procedure::FsInfo, call, &HANDLE_ARGUMENTS)?);
-    Ok(())
-}
-
-#[test]
-fn arguments_of_path_conf(rt: HostRuntime) -> Result<(), Fail> {
-    let call = path_conf_call(rt.alloc())?;
-    assert!(rt; is_nfs_call(rt.alloc(), Procedure::PathConf, call, &HANDLE_ARGUMENTS)?);
-    Ok(())
-}
-
-#[test]
-fn arguments_of_commit(rt: HostRuntime) -> Result<(), Fail> {
-    let call = commit_call(rt.alloc())?;
-    assert!(rt; is_nfs_call(rt.alloc(), Procedure::Commit, call, &COMMIT_ARGUMENTS)?);
-    Ok(())
-}
-
-#[test]
-fn arguments_of_mount_null(rt: HostRuntime) -> Result<(), Fail> {
-    let call = MountCall::Null;
-    assert!(rt; is_mount_call(rt.alloc(), MountProcedure::Null, call, &NO_ARGUMENTS)?);
-    Ok(())
-}
-
-#[test]
-fn arguments_of_mount(rt: HostRuntime) -> Result<(), Fail> {
-    let call = mount_call(rt.alloc())?;
-    assert!(rt; is_mount_call(rt.alloc(), MountProcedure::Mount, call, &MOUNT_ARGUMENTS)?);
-    Ok(())
-}
-
-#[test]
-fn arguments_of_unmount(rt: HostRuntime) -> Result<(), Fail> {
-    let call = unmount_call(rt.alloc())?;
-    assert!(rt;
-        is_mount_call(
-            rt.alloc(),
-            MountProcedure::Unmount,
-            call,
-            &UNMOUNT_ARGUMENTS
-        )?
-    );
+fn arguments_of_each_mount_procedure(rt: HostRuntime) -> Result<(), Fail> {
+    let alloc = rt.alloc();
+    for (procedure, words) in &MOUNT_ROWS {
+        let call = ProgramCall::Mount(mount_call_of(alloc, *procedure)?);
+        let asked = ProgramProcedure::Mount(*procedure);
+        assert!(rt; is_call(alloc, asked, call, words)?, "{procedure:?}");
+    }
     Ok(())
 }

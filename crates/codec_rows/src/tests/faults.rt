@@ -30,39 +30,42 @@ fn fault(alloc: Global, procedure: ProgramProcedure, bytes: &[u8]) -> u32 {
 
 const SET_ATTR: ProgramProcedure = ProgramProcedure::Nfs(Procedure::SetAttr);
 
-#[test]
-fn a_handle_past_its_bound_whose_bytes_end(rt: HostRuntime) -> Result<(), Fail> {
-    let bytes = spelled(rt.alloc(), &[65, 0])?;
-    assert_eq!(rt; fault(rt.alloc(), SET_ATTR, bytes.as_slice()), 4);
-    Ok(())
-}
+const MOUNT: ProgramProcedure = ProgramProcedure::Mount(MountProcedure::Mount);
+
+// What the bytes are, whose arguments they are, their words, how many of their bytes come, and the fault.
+const ROWS: [(&str, ProgramProcedure, &[u32], usize, u32); 5] = [
+    (
+        "a handle past its bound whose bytes end",
+        SET_ATTR,
+        &[65, 0],
+        8,
+        4,
+    ),
+    (
+        "a handle whose bytes end in padding that isn't zero",
+        SET_ATTR,
+        &[5, 1, 0x0200_0001],
+        11,
+        1,
+    ),
+    (
+        "padding that isn't zero before a flag of two",
+        SET_ATTR,
+        &[5, 1, 0x0200_0001, 2],
+        16,
+        2,
+    ),
+    ("a flag of two before the end", SET_ATTR, &[4, 1, 2], 12, 3),
+    ("a word behind a path", MOUNT, &[1, 0x2f00_0000, 0], 12, 5),
+];
 
 #[test]
-fn a_handle_whose_bytes_end_in_padding_that_is_not_zero(rt: HostRuntime) -> Result<(), Fail> {
-    let bytes = spelled(rt.alloc(), &[5, 1, 0x0200_0001])?;
-    let short = bytes.as_slice().get(..11).unwrap_or(&[]);
-    assert_eq!(rt; fault(rt.alloc(), SET_ATTR, short), 1);
-    Ok(())
-}
-
-#[test]
-fn padding_that_is_not_zero_before_a_flag_of_two(rt: HostRuntime) -> Result<(), Fail> {
-    let bytes = spelled(rt.alloc(), &[5, 1, 0x0200_0001, 2])?;
-    assert_eq!(rt; fault(rt.alloc(), SET_ATTR, bytes.as_slice()), 2);
-    Ok(())
-}
-
-#[test]
-fn a_flag_of_two_before_the_end(rt: HostRuntime) -> Result<(), Fail> {
-    let bytes = spelled(rt.alloc(), &[4, 1, 2])?;
-    assert_eq!(rt; fault(rt.alloc(), SET_ATTR, bytes.as_slice()), 3);
-    Ok(())
-}
-
-#[test]
-fn a_word_behind_a_path(rt: HostRuntime) -> Result<(), Fail> {
-    let bytes = spelled(rt.alloc(), &[1, 0x2f00_0000, 0])?;
-    let mount = ProgramProcedure::Mount(MountProcedure::Mount);
-    assert_eq!(rt; fault(rt.alloc(), mount, bytes.as_slice()), 5);
+fn which_fault_comes_first(rt: HostRuntime) -> Result<(), Fail> {
+    let alloc = rt.alloc();
+    for (says, procedure, words, count, wanted) in &ROWS {
+        let bytes = spelled(alloc, words)?;
+        let come = bytes.as_slice().get(..*count).unwrap_or(&[]);
+        assert_eq!(rt; fault(alloc, *procedure, come), *wanted, "{says}");
+    }
     Ok(())
 }

@@ -103,52 +103,6 @@ fn flavors(alloc: Global) -> Result<NumberList, AllocError> {
     Ok(NumberList::new(flavors))
 }
 
-fn is_nfs_reply(
-    alloc: Global,
-    procedure: Procedure,
-    reply: Reply,
-    words: &[&[u32]],
-) -> Result<bool, AllocError> {
-    let procedure = ProgramProcedure::Nfs(procedure);
-    is_reply(alloc, procedure, ProgramReply::Nfs(reply), words)
-}
-
-fn is_mount_reply(
-    alloc: Global,
-    procedure: MountProcedure,
-    reply: MountReply,
-    words: &[&[u32]],
-) -> Result<bool, AllocError> {
-    let procedure = ProgramProcedure::Mount(procedure);
-    is_reply(alloc, procedure, ProgramReply::Mount(reply), words)
-}
-
-#[test]
-fn result_of_null(rt: HostRuntime) -> Result<(), Fail> {
-    let reply = Reply::Null;
-    assert!(rt; is_nfs_reply(rt.alloc(), Procedure::Null, reply, &NO_RESULT)?);
-    Ok(())
-}
-
-#[test]
-fn result_of_get_attr(rt: HostRuntime) -> Result<(), Fail> {
-    let reply = Reply::GetAttr {
-        outcome: Ok(ATTRIBUTES),
-    };
-    assert!(rt; is_nfs_reply(rt.alloc(), Procedure::GetAttr, reply, &GET_ATTR_RESULT)?);
-    Ok(())
-}
-
-#[test]
-fn result_of_set_attr(rt: HostRuntime) -> Result<(), Fail> {
-    let reply = Reply::SetAttr {
-        outcome: Err(Status::NotSync),
-        object: WAS,
-    };
-    assert!(rt; is_nfs_reply(rt.alloc(), Procedure::SetAttr, reply, &SET_ATTR_RESULT)?);
-    Ok(())
-}
-
 fn lookup(alloc: Global) -> Result<Reply, AllocError> {
     let looked = Looked {
         object: handle(alloc)?,
@@ -160,36 +114,12 @@ fn lookup(alloc: Global) -> Result<Reply, AllocError> {
     })
 }
 
-#[test]
-fn result_of_lookup(rt: HostRuntime) -> Result<(), Fail> {
-    let reply = lookup(rt.alloc())?;
-    assert!(rt; is_nfs_reply(rt.alloc(), Procedure::Lookup, reply, &LOOKUP_RESULT)?);
-    Ok(())
-}
-
-#[test]
-fn result_of_access(rt: HostRuntime) -> Result<(), Fail> {
-    let reply = Reply::Access {
-        outcome: Ok(31),
-        object: Some(ATTRIBUTES),
-    };
-    assert!(rt; is_nfs_reply(rt.alloc(), Procedure::Access, reply, &ACCESS_RESULT)?);
-    Ok(())
-}
-
 fn read_link(alloc: Global) -> Result<Reply, AllocError> {
     let target = Octets::copied(alloc, b"a/b")?;
     Ok(Reply::ReadLink {
         outcome: Ok(target),
         link: None,
     })
-}
-
-#[test]
-fn result_of_read_link(rt: HostRuntime) -> Result<(), Fail> {
-    let reply = read_link(rt.alloc())?;
-    assert!(rt; is_nfs_reply(rt.alloc(), Procedure::ReadLink, reply, &READ_LINK_RESULT)?);
-    Ok(())
 }
 
 fn read(alloc: Global) -> Result<Reply, AllocError> {
@@ -204,23 +134,6 @@ fn read(alloc: Global) -> Result<Reply, AllocError> {
     })
 }
 
-#[test]
-fn result_of_read(rt: HostRuntime) -> Result<(), Fail> {
-    let reply = read(rt.alloc())?;
-    assert!(rt; is_nfs_reply(rt.alloc(), Procedure::Read, reply, &READ_RESULT)?);
-    Ok(())
-}
-
-#[test]
-fn result_of_write(rt: HostRuntime) -> Result<(), Fail> {
-    let reply = Reply::Write {
-        outcome: Ok(WRITTEN),
-        file: CHANGED,
-    };
-    assert!(rt; is_nfs_reply(rt.alloc(), Procedure::Write, reply, &WRITE_RESULT)?);
-    Ok(())
-}
-
 fn create(alloc: Global) -> Result<Reply, AllocError> {
     let created = Created {
         object: Some(handle(alloc)?),
@@ -232,23 +145,6 @@ fn create(alloc: Global) -> Result<Reply, AllocError> {
     })
 }
 
-#[test]
-fn result_of_create(rt: HostRuntime) -> Result<(), Fail> {
-    let reply = create(rt.alloc())?;
-    assert!(rt; is_nfs_reply(rt.alloc(), Procedure::Create, reply, &CREATE_RESULT)?);
-    Ok(())
-}
-
-#[test]
-fn result_of_mk_dir(rt: HostRuntime) -> Result<(), Fail> {
-    let reply = Reply::MkDir {
-        outcome: Err(Status::Exist),
-        directory: UNTOLD,
-    };
-    assert!(rt; is_nfs_reply(rt.alloc(), Procedure::MkDir, reply, &MK_DIR_RESULT)?);
-    Ok(())
-}
-
 fn sym_link(alloc: Global) -> Result<Reply, AllocError> {
     let created = Created {
         object: None,
@@ -258,65 +154,6 @@ fn sym_link(alloc: Global) -> Result<Reply, AllocError> {
         outcome: Ok(created),
         directory: CHANGED,
     })
-}
-
-#[test]
-fn result_of_sym_link(rt: HostRuntime) -> Result<(), Fail> {
-    let reply = sym_link(rt.alloc())?;
-    assert!(rt; is_nfs_reply(rt.alloc(), Procedure::SymLink, reply, &SYM_LINK_RESULT)?);
-    Ok(())
-}
-
-#[test]
-fn result_of_mk_nod(rt: HostRuntime) -> Result<(), Fail> {
-    let reply = Reply::MkNod {
-        outcome: Err(Status::NotSupp),
-        directory: UNTOLD,
-    };
-    assert!(rt; is_nfs_reply(rt.alloc(), Procedure::MkNod, reply, &MK_NOD_RESULT)?);
-    Ok(())
-}
-
-#[test]
-fn result_of_remove(rt: HostRuntime) -> Result<(), Fail> {
-    let reply = Reply::Remove {
-        outcome: Ok(()),
-        directory: CHANGED,
-    };
-    assert!(rt; is_nfs_reply(rt.alloc(), Procedure::Remove, reply, &REMOVE_RESULT)?);
-    Ok(())
-}
-
-#[test]
-fn result_of_rm_dir(rt: HostRuntime) -> Result<(), Fail> {
-    let reply = Reply::RmDir {
-        outcome: Err(Status::NotEmpty),
-        directory: WAS,
-    };
-    assert!(rt; is_nfs_reply(rt.alloc(), Procedure::RmDir, reply, &RM_DIR_RESULT)?);
-    Ok(())
-}
-
-#[test]
-fn result_of_rename(rt: HostRuntime) -> Result<(), Fail> {
-    let reply = Reply::Rename {
-        outcome: Ok(()),
-        source: WAS,
-        target: BECAME,
-    };
-    assert!(rt; is_nfs_reply(rt.alloc(), Procedure::Rename, reply, &RENAME_RESULT)?);
-    Ok(())
-}
-
-#[test]
-fn result_of_link(rt: HostRuntime) -> Result<(), Fail> {
-    let reply = Reply::Link {
-        outcome: Err(Status::MLink),
-        file: Some(ATTRIBUTES),
-        directory: UNTOLD,
-    };
-    assert!(rt; is_nfs_reply(rt.alloc(), Procedure::Link, reply, &LINK_RESULT)?);
-    Ok(())
 }
 
 fn read_dir(alloc: Global) -> Result<Reply, AllocError> {
@@ -331,13 +168,6 @@ fn read_dir(alloc: Global) -> Result<Reply, AllocError> {
     })
 }
 
-#[test]
-fn result_of_read_dir(rt: HostRuntime) -> Result<(), Fail> {
-    let reply = read_dir(rt.alloc())?;
-    assert!(rt; is_nfs_reply(rt.alloc(), Procedure::ReadDir, reply, &READ_DIR_RESULT)?);
-    Ok(())
-}
-
 fn read_dir_plus(alloc: Global) -> Result<Reply, AllocError> {
     let listed = ListedPlus {
         verifier: VERIFIER,
@@ -350,67 +180,6 @@ fn read_dir_plus(alloc: Global) -> Result<Reply, AllocError> {
     })
 }
 
-#[test]
-fn result_of_read_dir_plus(rt: HostRuntime) -> Result<(), Fail> {
-    let reply = read_dir_plus(rt.alloc())?;
-    assert!(rt;
-        is_nfs_reply(
-            rt.alloc(),
-            Procedure::ReadDirPlus,
-            reply,
-            &READ_DIR_PLUS_RESULT
-        )?
-    );
-    Ok(())
-}
-
-#[test]
-fn result_of_fs_stat(rt: HostRuntime) -> Result<(), Fail> {
-    let reply = Reply::FsStat {
-        outcome: Ok(SPACE),
-        object: None,
-    };
-    assert!(rt; is_nfs_reply(rt.alloc(), Procedure::FsStat, reply, &FS_STAT_RESULT)?);
-    Ok(())
-}
-
-#[test]
-fn result_of_fs_info(rt: HostRuntime) -> Result<(), Fail> {
-    let reply = Reply::FsInfo {
-        outcome: Ok(INFO),
-        object: None,
-    };
-    assert!(rt; is_nfs_reply(rt.alloc(), Procedure::FsInfo, reply, &FS_INFO_RESULT)?);
-    Ok(())
-}
-
-#[test]
-fn result_of_path_conf(rt: HostRuntime) -> Result<(), Fail> {
-    let reply = Reply::PathConf {
-        outcome: Ok(LIMITS),
-        object: None,
-    };
-    assert!(rt; is_nfs_reply(rt.alloc(), Procedure::PathConf, reply, &PATH_CONF_RESULT)?);
-    Ok(())
-}
-
-#[test]
-fn result_of_commit(rt: HostRuntime) -> Result<(), Fail> {
-    let reply = Reply::Commit {
-        outcome: Ok(VERIFIER),
-        file: UNTOLD,
-    };
-    assert!(rt; is_nfs_reply(rt.alloc(), Procedure::Commit, reply, &COMMIT_RESULT)?);
-    Ok(())
-}
-
-#[test]
-fn result_of_mount_null(rt: HostRuntime) -> Result<(), Fail> {
-    let reply = MountReply::Null;
-    assert!(rt; is_mount_reply(rt.alloc(), MountProcedure::Null, reply, &NO_RESULT)?);
-    Ok(())
-}
-
 fn mount(alloc: Global) -> Result<MountReply, AllocError> {
     let mounted = Mounted {
         root: handle(alloc)?,
@@ -421,16 +190,134 @@ fn mount(alloc: Global) -> Result<MountReply, AllocError> {
     })
 }
 
+fn reply(alloc: Global, procedure: Procedure) -> Result<Reply, AllocError> {
+    match procedure {
+        Procedure::Null => Ok(Reply::Null),
+        Procedure::GetAttr => Ok(Reply::GetAttr {
+            outcome: Ok(ATTRIBUTES),
+        }),
+        Procedure::SetAttr => Ok(Reply::SetAttr {
+            outcome: Err(Status::NotSync),
+            object: WAS,
+        }),
+        Procedure::Lookup => lookup(alloc),
+        Procedure::Access => Ok(Reply::Access {
+            outcome: Ok(31),
+            object: Some(ATTRIBUTES),
+        }),
+        Procedure::ReadLink => read_link(alloc),
+        Procedure::Read => read(alloc),
+        Procedure::Write => Ok(Reply::Write {
+            outcome: Ok(WRITTEN),
+            file: CHANGED,
+        }),
+        Procedure::Create => create(alloc),
+        Procedure::MkDir => Ok(Reply::MkDir {
+            outcome: Err(Status::Exist),
+            directory: UNTOLD,
+        }),
+        Procedure::SymLink => sym_link(alloc),
+        Procedure::MkNod => Ok(Reply::MkNod {
+            outcome: Err(Status::NotSupp),
+            directory: UNTOLD,
+        }),
+        Procedure::Remove => Ok(Reply::Remove {
+            outcome: Ok(()),
+            directory: CHANGED,
+        }),
+        Procedure::RmDir => Ok(Reply::RmDir {
+            outcome: Err(Status::NotEmpty),
+            directory: WAS,
+        }),
+        Procedure::Rename => Ok(Reply::Rename {
+            outcome: Ok(()),
+            source: WAS,
+            target: BECAME,
+        }),
+        Procedure::Link => Ok(Reply::Link {
+            outcome: Err(Status::MLink),
+            file: Some(ATTRIBUTES),
+            directory: UNTOLD,
+        }),
+        Procedure::ReadDir => read_dir(alloc),
+        Procedure::ReadDirPlus => read_dir_plus(alloc),
+        Procedure::FsStat => Ok(Reply::FsStat {
+            outcome: Ok(SPACE),
+            object: None,
+        }),
+        Procedure::FsInfo => Ok(Reply::FsInfo {
+            outcome: Ok(INFO),
+            object: None,
+        }),
+        Procedure::PathConf => Ok(Reply::PathConf {
+            outcome: Ok(LIMITS),
+            object: None,
+        }),
+        Procedure::Commit => Ok(Reply::Commit {
+            outcome: Ok(VERIFIER),
+            file: UNTOLD,
+        }),
+    }
+}
+
+fn mount_reply(alloc: Global, procedure: MountProcedure) -> Result<MountReply, AllocError> {
+    match procedure {
+        MountProcedure::Null => Ok(MountReply::Null),
+        MountProcedure::Mount => mount(alloc),
+        MountProcedure::Unmount => Ok(MountReply::Unmount),
+    }
+}
+
+// The words of each.
+const ROWS: [(Procedure, &[&[u32]]); 22] = [
+    (Procedure::Null, &NO_RESULT),
+    (Procedure::GetAttr, &GET_ATTR_RESULT),
+    (Procedure::SetAttr, &SET_ATTR_RESULT),
+    (Procedure::Lookup, &LOOKUP_RESULT),
+    (Procedure::Access, &ACCESS_RESULT),
+    (Procedure::ReadLink, &READ_LINK_RESULT),
+    (Procedure::Read, &READ_RESULT),
+    (Procedure::Write, &WRITE_RESULT),
+    (Procedure::Create, &CREATE_RESULT),
+    (Procedure::MkDir, &MK_DIR_RESULT),
+    (Procedure::SymLink, &SYM_LINK_RESULT),
+    (Procedure::MkNod, &MK_NOD_RESULT),
+    (Procedure::Remove, &REMOVE_RESULT),
+    (Procedure::RmDir, &RM_DIR_RESULT),
+    (Procedure::Rename, &RENAME_RESULT),
+    (Procedure::Link, &LINK_RESULT),
+    (Procedure::ReadDir, &READ_DIR_RESULT),
+    (Procedure::ReadDirPlus, &READ_DIR_PLUS_RESULT),
+    (Procedure::FsStat, &FS_STAT_RESULT),
+    (Procedure::FsInfo, &FS_INFO_RESULT),
+    (Procedure::PathConf, &PATH_CONF_RESULT),
+    (Procedure::Commit, &COMMIT_RESULT),
+];
+
+const MOUNT_ROWS: [(MountProcedure, &[&[u32]]); 3] = [
+    (MountProcedure::Null, &NO_RESULT),
+    (MountProcedure::Mount, &MOUNT_RESULT),
+    (MountProcedure::Unmount, &NO_RESULT),
+];
+
 #[test]
-fn result_of_mount(rt: HostRuntime) -> Result<(), Fail> {
-    let reply = mount(rt.alloc())?;
-    assert!(rt; is_mount_reply(rt.alloc(), MountProcedure::Mount, reply, &MOUNT_RESULT)?);
+fn result_of_each_procedure(rt: HostRuntime) -> Result<(), Fail> {
+    let alloc = rt.alloc();
+    for (procedure, words) in &ROWS {
+        let reply = ProgramReply::Nfs(reply(alloc, *procedure)?);
+        let asked = ProgramProcedure::Nfs(*procedure);
+        assert!(rt; is_reply(alloc, asked, reply, words)?, "{procedure:?}");
+    }
     Ok(())
 }
 
 #[test]
-fn result_of_unmount(rt: HostRuntime) -> Result<(), Fail> {
-    let reply = MountReply::Unmount;
-    assert!(rt; is_mount_reply(rt.alloc(), MountProcedure::Unmount, reply, &NO_RESULT)?);
+fn result_of_each_mount_procedure(rt: HostRuntime) -> Result<(), Fail> {
+    let alloc = rt.alloc();
+    for (procedure, words) in &MOUNT_ROWS {
+        let reply = ProgramReply::Mount(mount_reply(alloc, *procedure)?);
+        let asked = ProgramProcedure::Mount(*procedure);
+        assert!(rt; is_reply(alloc, asked, reply, words)?, "{procedure:?}");
+    }
     Ok(())
 }

@@ -1,13 +1,15 @@
-//! An image with a file of each kind, which was laid out by hand, decoded.
+//! An image with a file of each kind, which was laid out by hand, and a fresh one, decoded.
 
-use crate::tests::plain::DATA_BLOCKS;
-use crate::tests::served::formatted;
+use crate::tests::plain::{DATA_BLOCKS, fresh};
+use crate::tests::served::{INODES, formatted};
+use compared_trees::is_tree_of;
 use disk::{Block, BlockNo, CrashDisk, MemDisk};
-use limits::BLOCK_BYTES;
+use limits::{BLOCK_BYTES, LEAST_BLOCKS};
 use nfs_types::Verifier;
-use plain_image::{PlainContent, PlainFile, PlainImage, PlainName, read_image};
+use plain_image::{PlainContent, PlainFile, PlainName, read_image};
 use std::alloc::Global;
 use std::test::Fail;
+use worked_messages::MADE;
 
 // The block of the table with the first 32 inodes, and the first data block.
 const TABLE: u32 = 516;
@@ -169,8 +171,8 @@ fn has_target(content: &PlainContent) -> bool {
     }
 }
 
-// Whether the inode has the fields of FILE besides its kind and blocks.
-fn is_inode_of_file(file: &PlainFile) -> bool {
+// Whether it has the fields of FILE besides its kind, its bytes, and three blocks.
+fn is_file(file: &PlainFile) -> bool {
     let inode = &file.inode;
     let verifier = Verifier {
         bytes: [1, 2, 3, 4, 5, 6, 7, 8],
@@ -180,47 +182,29 @@ fn is_inode_of_file(file: &PlainFile) -> bool {
         && inode.mtime.nanoseconds == 2
         && (inode.stamp.boot, inode.stamp.transaction) == (1, 9)
         && inode.verifier == Some(verifier)
+        && has_bytes(&file.content)
+        && file.blocks == 3
 }
 
 #[test]
-fn three_files(rt: HostRuntime) -> Result<(), Fail> {
+fn a_file_of_each_kind(rt: HostRuntime) -> Result<(), Fail> {
     let image = read_image(rt.alloc(), &laid_out(rt.alloc())?)?;
     assert_eq!(rt; image.geometry.data_blocks(), DATA_BLOCKS);
     assert_eq!(rt; image.files.len(), 3);
-    Ok(())
-}
-
-#[test]
-fn a_directory_with_names(rt: HostRuntime) -> Result<(), Fail> {
-    let image = read_image(rt.alloc(), &laid_out(rt.alloc())?)?;
     assert!(rt; image.file(1).is_some_and(|file| has_names(&file.content)));
-    Ok(())
-}
-
-#[test]
-fn a_regular_file_with_an_indirect_block(rt: HostRuntime) -> Result<(), Fail> {
-    let image = read_image(rt.alloc(), &laid_out(rt.alloc())?)?;
-    assert!(rt; image.file(2).is_some_and(|file| has_bytes(&file.content)));
-    Ok(())
-}
-
-#[test]
-fn a_link_with_its_target(rt: HostRuntime) -> Result<(), Fail> {
-    let image = read_image(rt.alloc(), &laid_out(rt.alloc())?)?;
+    assert!(rt; image.file(2).is_some_and(|file| is_file(file)));
     assert!(rt; image.file(3).is_some_and(|file| has_target(&file.content)));
     Ok(())
 }
 
 #[test]
-fn an_inode_with_each_field(rt: HostRuntime) -> Result<(), Fail> {
-    let image = read_image(rt.alloc(), &laid_out(rt.alloc())?)?;
-    assert!(rt; image.file(2).is_some_and(|file| is_inode_of_file(file)));
-    Ok(())
-}
-
-#[test]
-fn blocks_of_a_file_are_counted(rt: HostRuntime) -> Result<(), Fail> {
-    let image = read_image(rt.alloc(), &laid_out(rt.alloc())?)?;
-    assert!(rt; image.file(2).is_some_and(|file| file.blocks == 3));
+fn a_fresh_image_has_the_root_alone(rt: HostRuntime) -> Result<(), Fail> {
+    let alloc = rt.alloc();
+    let mut disk = MemDisk::new(alloc, LEAST_BLOCKS)?;
+    assert_eq!(rt; store::format(alloc, &mut disk, INODES, MADE)?, DATA_BLOCKS);
+    let image = read_image(alloc, &disk)?;
+    assert_eq!(rt; image.boot, 0);
+    assert_eq!(rt; image.files.len(), 1);
+    assert!(rt; is_tree_of(&image, &fresh(alloc)?));
     Ok(())
 }

@@ -13,9 +13,6 @@ use worked_messages::{GETATTR, GETATTR_CHANGED, GETATTR_FRESH, SETATTR};
 /// The calls that the log makes for a group of one block: its content, a barrier, the header, a barrier.
 pub const LOG_CALLS: usize = 4;
 
-/// Which contents a crash leaves of the first two blocks that have several.
-pub const CHOICES: [[u32; 2]; 4] = [[0, 0], [1, 1], [0, 1], [1, 0]];
-
 // Whether the image has the tree before the call, and not the one after it; or the other way round.
 fn is_left(alloc: Global, image: &PlainImage, is_new: bool) -> Result<bool, Fail> {
     let old = fresh(alloc)?;

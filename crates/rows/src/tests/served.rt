@@ -18,7 +18,6 @@ pub const INODES: u32 = 64;
 /// What serving a stream gave.
 #[derive(Drop)]
 pub struct Served {
-    pub boot: u64,
     pub output: Vec<u8>,
     pub result: Result<u64, SessionFault>,
     pub disk: MemDisk,
@@ -31,31 +30,18 @@ pub fn formatted(alloc: Global) -> Result<MemDisk, Fail> {
     Ok(disk)
 }
 
-/// Opens the image and closes it, which brings home what the log has.
-pub fn reopened(alloc: Global, disk: MemDisk) -> Result<MemDisk, Fail> {
-    let store = store::open(alloc, disk).map_err(|refused| refused.1)?;
-    Ok(store::close(store))
-}
-
-/// Opens the image and serves a stream of these bytes.
-pub fn serve_bytes(alloc: Global, disk: MemDisk, input: &[u8]) -> Result<Served, Fail> {
+/// Opens the image and serves a stream of these messages.
+pub fn serve(alloc: Global, disk: MemDisk, messages: &[&[u32]]) -> Result<Served, Fail> {
+    let input = stream(alloc, messages)?;
     let mut store = store::open(alloc, disk).map_err(|refused| refused.1)?;
-    let boot = store.boot();
-    let mut reader = session::Input::new(input);
+    let mut reader = session::Input::new(input.as_slice());
     let mut output = Vec::new(alloc);
     let result = session::serve(alloc, &mut store, &mut reader, &mut output, NOW);
     Ok(Served {
-        boot,
         output,
         result,
         disk: store::close(store),
     })
-}
-
-/// Opens the image and serves a stream of these messages.
-pub fn serve(alloc: Global, disk: MemDisk, messages: &[&[u32]]) -> Result<Served, Fail> {
-    let input = stream(alloc, messages)?;
-    serve_bytes(alloc, disk, input.as_slice())
 }
 
 /// Whether these replies were written, and no more.

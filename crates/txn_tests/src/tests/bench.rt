@@ -1,10 +1,9 @@
 //! What each test drives: a core of toy changes over the log of a device in memory.
 ghost use Rattle.std.specs.Prelude.{◌≡◌, ◌<◌, [], ◌∷◌, IfSome};
 
-use crate::tests::toys::{BLOCKS, INODES, Toy};
+use crate::tests::toys::{At, BLOCKS, INODES, Toy};
 use disk::{Block, BlockNo, CrashDisk, MemDisk};
 use limits::FIRST_HOME_BLOCK;
-use objects::Addr;
 use std::alloc::Global;
 use std::test::Fail;
 use txn::*;
@@ -15,9 +14,9 @@ use wal::{Seq, Wal};
 #[derive(Clone, Copy)]
 pub enum Step {
     // It wants an object, and makes its fetch where there is one.
-    Want(Addr),
+    Want(At),
     // It wants an object, and again where it was fetched.
-    Read(Addr),
+    Read(At),
     Claim(BlockNo),
     // Meanwhile the logger makes its calls.
     Log,
@@ -132,10 +131,10 @@ impl<D: CrashDisk> Bench<D> {
     }
 
     // Wants an object behind these steps, which has to be fetched, and hands the fetch out.
-    pub fn fetch_out(&mut self, steps: &[Step], addr: Addr) -> Option<(Tx, FetchIo)> {
+    pub fn fetch_out(&mut self, steps: &[Step], at: At) -> Option<(Tx, FetchIo)> {
         let tx = self.begin()?;
         let (tx, _) = self.take_all(tx, steps, &[]);
-        let tx = match self.core.want(self.alloc, tx, addr) {
+        let tx = match self.core.want(self.alloc, tx, at.addr()) {
             Want::Fetch(tx, io) => return Some((tx, io)),
             Want::Held(tx, _) => tx,
             Want::Busy(tx) | Want::Loading(tx) | Want::Outside(tx) | Want::NoMemory(tx) => tx,
@@ -207,8 +206,8 @@ impl<D: CrashDisk> Bench<D> {
 
     fn take(&mut self, tx: Tx, step: Step) -> (Tx, Seen) {
         match step {
-            Step::Want(addr) => self.want(tx, addr),
-            Step::Read(addr) => self.read(tx, addr),
+            Step::Want(at) => self.want(tx, at),
+            Step::Read(at) => self.read(tx, at),
             Step::Claim(block) => self.claim(tx, block),
             Step::Log => {
                 self.log_all();
@@ -217,24 +216,24 @@ impl<D: CrashDisk> Bench<D> {
         }
     }
 
-    fn read(&mut self, tx: Tx, addr: Addr) -> (Tx, Seen) {
-        let (tx, seen) = self.want(tx, addr);
+    fn read(&mut self, tx: Tx, at: At) -> (Tx, Seen) {
+        let (tx, seen) = self.want(tx, at);
         if seen == Seen::Fetched {
-            return self.want(tx, addr);
+            return self.want(tx, at);
         }
         (tx, seen)
     }
 
-    pub fn want(&mut self, tx: Tx, addr: Addr) -> (Tx, Seen) {
-        let (tx, seen) = self.want_once(tx, addr);
+    pub fn want(&mut self, tx: Tx, at: At) -> (Tx, Seen) {
+        let (tx, seen) = self.want_once(tx, at);
         if seen == Seen::NoMemory {
-            return self.want_once(tx, addr);
+            return self.want_once(tx, at);
         }
         (tx, seen)
     }
 
-    fn want_once(&mut self, tx: Tx, addr: Addr) -> (Tx, Seen) {
-        match self.core.want(self.alloc, tx, addr) {
+    fn want_once(&mut self, tx: Tx, at: At) -> (Tx, Seen) {
+        match self.core.want(self.alloc, tx, at.addr()) {
             Want::Held(tx, bytes) => (tx, Seen::Bytes(first(&bytes))),
             Want::Busy(tx) => (tx, Seen::Busy),
             Want::Fetch(tx, io) => (tx, self.fetch(io)),

@@ -1,8 +1,7 @@
 //! With ample memory nothing is refused for want of it, at sizes far past the smallest.
 
 use crate::tests::bench::{Bench, Ended, Seen, Step};
-use crate::tests::toys::{Toy, change_of, eight, home, whole};
-use objects::Addr;
+use crate::tests::toys::{At, Toy, change_of, home};
 use std::alloc::{AllocError, Global};
 use std::test::Fail;
 use txn::Change;
@@ -12,7 +11,7 @@ use wal::Seq;
 fn reads(alloc: Global, count: u8) -> Result<Vec<Step>, AllocError> {
     let mut steps = Vec::new(alloc);
     for index in 0..u32::from(count) {
-        steps.push(Step::Read(whole(index)))?;
+        steps.push(Step::Read(At::Whole(index)))?;
     }
     Ok(steps)
 }
@@ -27,10 +26,10 @@ fn many_blocks_are_held_at_once(rt: HostRuntime) -> Result<(), Fail> {
 }
 
 // So many whole blocks from the first home block on, each with its byte.
-fn whole_blocks(alloc: Global, count: u8) -> Result<Vec<(Addr, u8)>, AllocError> {
+fn whole_blocks(alloc: Global, count: u8) -> Result<Vec<(At, u8)>, AllocError> {
     let mut told = Vec::new(alloc);
     for index in 0..u32::from(count) {
-        told.push((whole(index), 3))?;
+        told.push((At::Whole(index), 3))?;
     }
     Ok(told)
 }
@@ -64,7 +63,11 @@ fn a_change_of_64_blocks_is_committed(rt: HostRuntime) -> Result<(), Fail> {
 #[test]
 fn a_block_of_two_objects_is_added_once(rt: HostRuntime) -> Result<(), Fail> {
     let bench = Bench::new(rt.alloc(), 0, &[])?;
-    let toy = change_of(rt.alloc(), &[], &[(eight(0), 1), (eight(8), 2)])?;
+    let toy = change_of(
+        rt.alloc(),
+        &[],
+        &[(At::Eight(0, 0), 1), (At::Eight(0, 8), 2)],
+    )?;
     assert_eq!(rt; bench.core.added_blocks(toy.written()), 1);
     Ok(())
 }

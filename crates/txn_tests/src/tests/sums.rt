@@ -2,15 +2,14 @@
 
 use crate::tests::bench::{Bench, Ended, Seen, Step};
 use crate::tests::change;
-use crate::tests::toys::{change_of, eight_in};
+use crate::tests::toys::{At, change_of};
 use disk::{CrashDisk, MemDisk};
-use objects::Addr;
 use std::alloc::Global;
 use std::test::Fail;
 
 // The object of the one and of the other: 8 bytes, each in a block of its own.
-fn account(other: bool) -> Addr {
-    eight_in(u32::from(other), 16)
+fn account(other: bool) -> At {
+    At::Eight(u32::from(other), 16)
 }
 
 // Takes 3 from the one, which has 10, for the other, which has nothing.

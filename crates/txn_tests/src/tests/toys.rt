@@ -59,7 +59,7 @@ impl Change for Toy {
 }
 
 // A change that read these objects, each with its byte, and writes these so.
-pub fn change_of(alloc: Global, read: &[(Addr, u8)], written: &[(Addr, u8)]) -> Result<Toy, Fail> {
+pub fn change_of(alloc: Global, read: &[(At, u8)], written: &[(At, u8)]) -> Result<Toy, Fail> {
     let read = objects(alloc, read)?;
     let written = objects(alloc, written)?;
     match toy_of(read, written) {
@@ -80,10 +80,10 @@ fn toy_of(read: Vec<Object>, written: Vec<Object>) -> Option<Toy> {
     None
 }
 
-fn objects(alloc: Global, told: &[(Addr, u8)]) -> Result<Vec<Object>, AllocError> {
+fn objects(alloc: Global, told: &[(At, u8)]) -> Result<Vec<Object>, AllocError> {
     let mut objects = Vec::new(alloc);
-    for (addr, byte) in told {
-        objects.push(object(alloc, *addr, *byte)?)?;
+    for (at, byte) in told {
+        objects.push(object(alloc, at.addr(), *byte)?)?;
     }
     Ok(objects)
 }
@@ -97,21 +97,28 @@ pub fn home(index: u32) -> BlockNo {
     BlockNo(FIRST_HOME_BLOCK.saturating_add(index))
 }
 
-// A home block, as an object.
-pub fn whole(index: u32) -> Addr {
-    Addr::whole(home(index))
+// Where an object lies.
+#[derive(Clone, Copy)]
+pub enum At {
+    // The 8 bytes of a home block, counted from the first one, from an offset on.
+    Eight(u32, u8),
+    // A home block, counted so.
+    Whole(u32),
+    // A block of any number.
+    Numbered(u32),
 }
 
-// The 8 bytes of the first home block from an offset on, of those that it has.
-pub fn eight(offset: u8) -> Addr {
-    eight_in(0, offset)
-}
-
-// The same of any home block.
-pub fn eight_in(index: u32, offset: u8) -> Addr {
-    Addr {
-        block: home(index),
-        offset: usize::from(offset),
-        len: 8,
+impl At {
+    // Its address.
+    pub fn addr(self) -> Addr {
+        match self {
+            At::Eight(index, offset) => Addr {
+                block: home(index),
+                offset: usize::from(offset),
+                len: 8,
+            },
+            At::Whole(index) => Addr::whole(home(index)),
+            At::Numbered(block) => Addr::whole(BlockNo(block)),
+        }
     }
 }
