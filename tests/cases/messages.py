@@ -40,16 +40,11 @@ def test_the_run_of_plain_once_is_an_example(place):
     same("its standard output", contents(f"{folder}/stdout"), reply)
 
 
-def test_the_commands_of_the_readme_do_what_it_says(place):
-    # The lines of a block of code that begins with ./nfsd, on an image in the case's own folder.
-    blocks = re.findall(r"(?:^ {4}\S.*\n)+", readme(place), re.M)
-    found = [it for it in blocks if it.startswith("    ./nfsd ")]
-    is_so("README.md has no block that begins with ./nfsd", found)
-    os.symlink(place.program, place.path("nfsd"))
-    os.symlink(os.path.join(place.top, "examples"), place.path("examples"))
-    script = re.sub(r"/tmp/\w+", place.path("image"), found[0])
-    ran = place.run(["-euc", script], command=["bash"])
-    expect("the commands", ran, 0, FORMATTED + b"same\n", b"")
+def test_the_first_command_of_the_readme_does_what_it_says(place):
+    found = re.search(r"^ {4}(\S.*)$", readme(place), re.M)
+    same("the first line of code", found and found[1], "examples/serve")
+    ran = place.run(["-euc", found[1]], command=["bash"], cwd=place.top, env={**os.environ, "NFSD": place.program})
+    expect("the command", ran, 0, FORMATTED + b"same\n", b"")
 
 
 def test_the_readme_names_the_check(place):

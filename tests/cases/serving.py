@@ -9,7 +9,7 @@ import time
 
 from cases import nfs, wire
 from cases.conversing import ROOT, ROOT_USER
-from cases.running import FORMATTED, MADE, NEW_MODE, expect, is_so, same
+from cases.running import MADE, NEW_MODE, expect, is_so, same
 from cases.tcp import MNT, UMNT, Server, is_closed, mount_call, mounted, next_reply, replies, spent
 
 CALLER = nfs.credential(*ROOT_USER)
@@ -330,11 +330,6 @@ def test_a_device_that_fails_is_told_to_each_client_and_at_the_end(place):
         client.close()
     server.end(1, b"nfsd: 6 Device\n")
     place.attributes(image, NEW_MODE, MADE, "the next server")
-
-
-def test_the_example_of_serve_prints_same(place):
-    ran = place.run([], command=["bash", os.path.join(place.top, "examples/serve")], env={**os.environ, "NFSD": place.program})
-    expect("examples/serve", ran, 0, FORMATTED + b"same\n", b"")
 
 
 def test_an_idle_server_takes_no_time(place):
