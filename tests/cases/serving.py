@@ -1,6 +1,5 @@
 """`serve`: many connections at once, in pieces of any size, and clients that misbehave."""
 
-import os
 import random
 import socket
 import struct
