@@ -2,14 +2,13 @@
 
 import os
 import select
-import shutil
 import subprocess
 import threading
 
 from cases import nfs, wire
 from cases.allocations import library
 from cases.conversing import ROOT
-from cases.running import MADE, NEW_MODE, Skipped, expect, is_so, same, wait_until
+from cases.running import MADE, Skipped, expect, is_so, same, wait_until
 from cases.serving_kills import CLIENTS, Worker, assert_kept, moments_of, tree_of
 from cases.tcp import Server, next_reply
 
