@@ -22,10 +22,13 @@ pub fn asked(alloc: Global, message: &[u32]) -> Result<(Credential, Call), Fail>
     match judge(alloc, bytes.as_slice()) {
         Judged::Call {
             credential,
-            call: ProgramCall::Nfs(call),
+            call,
             ..
-        } => Ok((credential, call)),
-        _ => Err(Fail::from("no call of NFS")),
+        } => match call {
+            ProgramCall::Nfs(call) => Ok((credential, call)),
+            ProgramCall::Mount(_) => Err(Fail::from("a call of MOUNT")),
+        },
+        _ => Err(Fail::from("no call")),
     }
 }
 
