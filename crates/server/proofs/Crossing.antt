@@ -108,7 +108,10 @@ signs_sync = struct_sync (Declared.shape Signs.the_type) (
             search (crosses, sendable) depth 40 fits 20000,
             (
               search (open_send, crosses, sendable) depth 40 fits 20000,
-              (search (crosses, sendable) depth 40 fits 20000, tt),
+              (
+                search (crosses, sendable) depth 40 fits 20000,
+                (search (crosses, sendable) depth 40 fits 20000, tt),
+              ),
             ),
           ),
         ),

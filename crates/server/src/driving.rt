@@ -87,52 +87,76 @@ fn go_on<L: Ledger, G: Whole, I: Whole, P, S: Source, R: Wait + Clock>(
         return Driven::Empty;
     };
     let mut seat = seat.lock(rt);
-    let mut looked = false;
     let mut kept_off = 0;
     for _ in rt.forever() {
-        if step(rt, hall, number, &mut *seat, &mut kept_off) {
-            return Driven::Empty;
+        let rounds = hall.signs.rounds.count();
+        let made = steps(rt, hall, &mut *seat);
+        if made.committed {
+            hall.tell_of_commit(rt);
         }
         if let Some(answer) = seat.take_answer() {
             return Driven::Answered(answer);
         }
-        if let Some(place) = seat.waits() {
-            if looked {
-                return Driven::Waits(place.0);
-            }
-            looked = true;
+        match seat.told() {
+            Told::KeptOff => pause(rt, &mut kept_off),
+            Told::Full => wait_for_room(rt, hall, rounds),
+            Told::Nothing | Told::Committed => kept_off = 0,
+        }
+        if seat.is_due() {
+            read(rt, hall, number, &mut *seat);
+        } else if let Some(place) = seat.waits() {
+            return Driven::Waits(place.0);
+        } else if made.turn == Turn::Idle {
+            return Driven::Empty;
         }
     }
     Driven::Empty
 }
 
-// One step of a seat, and the read that is due behind it. True where it has no call.
-fn step<L: Ledger, G: Whole, I: Whole, P, S: Source, R: Wait + Clock>(
+// What steps in a row came to.
+#[derive(Clone, Copy)]
+struct Made {
+    turn: Turn,
+    committed: bool,
+}
+
+// Steps of a seat in a row, as far as none has to wait for something. Of those who drive seats one at a time makes
+// them, so that the lock round the core, which each step takes, is seldom taken by another.
+fn steps<L: Ledger, G: Whole, I: Whole, P, S, R: Wait>(
     rt: &R,
     hall: &Hall<L, G, I, P, S>,
-    number: usize,
     seat: &mut Seat<L>,
-    kept_off: &mut u32,
-) -> bool {
-    let rounds = hall.signs.rounds.count();
-    if hall.shared.work(rt, hall.alloc, seat) == Turn::Idle && !seat.is_due() {
-        return true;
-    }
-    match seat.told() {
-        Told::Nothing => *kept_off = 0,
-        Told::Committed => hall.tell_of_commit(rt),
-        Told::KeptOff => pause(rt, kept_off),
-        Told::Full => {
-            hall.signs.to_log.ring(rt);
-            hall.signs.to_install.ring_now(rt);
-            let patience = Duration::from_millis(FULL_MILLISECONDS);
-            hall.signs.rounds.wait_for_next(rt, rounds, patience);
+) -> Made {
+    let _turn = hall.signs.turn.lock(rt);
+    let mut committed = false;
+    let mut looked = false;
+    for _ in rt.forever() {
+        let turn = hall.shared.work(rt, hall.alloc, seat);
+        let told = seat.told();
+        committed = committed || told == Told::Committed;
+        let is_held_up = told == Told::KeptOff || told == Told::Full || seat.is_due();
+        let waits = seat.waits().is_some();
+        if turn != Turn::Moved || is_held_up || (waits && looked) {
+            return Made { turn, committed };
         }
+        looked = waits;
     }
-    if seat.is_due() {
-        read(rt, hall, number, seat);
+    Made {
+        turn: Turn::Idle,
+        committed,
     }
-    false
+}
+
+// Waits until there may be room in the log.
+fn wait_for_room<L: Ledger, G: Whole, I: Whole, P, S, R: Wait + Clock>(
+    rt: &R,
+    hall: &Hall<L, G, I, P, S>,
+    rounds: u64,
+) {
+    hall.signs.to_log.ring(rt);
+    hall.signs.to_install.ring_now(rt);
+    let patience = Duration::from_millis(FULL_MILLISECONDS);
+    hall.signs.rounds.wait_for_next(rt, rounds, patience);
 }
 
 // Makes the read that is due.

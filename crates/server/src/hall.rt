@@ -48,6 +48,8 @@ pub struct Signs {
     pub rounds: Rounds,
     pub open: Mutex<Connections<Arc<Connection, Global>>>,
     pub moments: Mutex<Moments>,
+    // Who drives a seat has it for the steps that it makes in a row.
+    pub turn: Mutex<()>,
 }
 
 impl<P, S> Devices<P, S> {
@@ -82,6 +84,7 @@ impl Signs {
             rounds: Rounds::new(),
             open: Mutex::new(Connections::new(alloc)),
             moments: Mutex::new(Moments::new()),
+            turn: Mutex::new(()),
         })
     }
 
