@@ -41,12 +41,12 @@ home_left : (all logged made next : ℕ) → logged ≤ all → 0 < logged
 home_left all logged made next within some = grind (arith, nat_tests)
 
 -- a call of a group was made, and it wasn't the last
-made_left : (blocks made next : ℕ) → 0 < blocks → made < next → made ≤ blocks + 2
+pub made_left : (blocks made next : ℕ) → 0 < blocks → made < next → made ≤ blocks + 2
     → group_left blocks next < group_left blocks made
 made_left blocks made next some later within = grind (arith, nat_tests)
 
 -- the last call of a group was made
-last_left : (blocks made : ℕ) → 0 < blocks → made ≡ blocks + 2 → group_left blocks made ≡ 1
+pub last_left : (blocks made : ℕ) → 0 < blocks → made ≡ blocks + 2 → group_left blocks made ≡ 1
 last_left blocks made some last = grind (arith, nat_tests)
 
 -- ---- the logger
@@ -84,7 +84,7 @@ log_out_left log lawful has =
           (nat_le (length log.changes) LOG_SLOTS) has,
     )
 
-may_is : (broken some out : Bool) → (not broken && (some && not out)) ≡ true
+pub may_is : (broken some out : Bool) → (not broken && (some && not out)) ≡ true
     → (broken ≡ false) × (some ≡ true)
 may_is false true out is = (refl, refl)
 may_is false false out is = absurd (true≢false (sym is))
@@ -161,7 +161,7 @@ inst_out_as log lawful false has some =
     (grind (arith, lawful.taken_within)) logged in
     (grind (arith), logged)
 
-inst_out_left : (log : Log) → IsLawful log → (nat_lt 0 log.installing || nat_lt 0 log.logged) ≡ true
+pub inst_out_left : (log : Log) → IsLawful log → (nat_lt 0 log.installing || nat_lt 0 log.logged) ≡ true
     → (calls_left (with_inst_out log) ≤ calls_left log) × (0 < (with_inst_out log).installing)
 inst_out_left log lawful some = inst_out_as log lawful (nat_lt 0 log.installing) refl some
 

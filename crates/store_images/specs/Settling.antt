@@ -2,7 +2,7 @@
 use Rattle.std.specs.Prelude.{◌≡◌, ℕ, ◌+◌, ◌-◌, ◌*◌, ◌<◌, ◌≤◌, ◌⊎◌, true, false, if◌then◌else◌, nat_eq, None}
 use Rattle.std.specs.Prelude.{[], length}
 use Rattle.disk.specs.Device.{Device}
-use Rattle.wal.specs.Log.{Log}
+use Rattle.wal.specs.Log.{Log, tail_count}
 use Rattle.txn.specs.Core.{CoreState}
 use Rattle.store_promise.specs.Openings.{IsLater}
 use Rattle.store_images.specs.Fetches.{FetchesOnly}
@@ -69,3 +69,30 @@ HasBroken log before after = (log.broken ≡ true) ⊎ HasLost before after
 -- a write or a barrier had failed before, or a device call failed since, which may be a read
 abbrev pub HasFailed : Log → Device → Device → Type 0
 HasFailed log before after = (log.broken ≡ true) ⊎ (before.failures < after.failures)
+
+-- ---- at most twice the blocks in the log, and twelve
+
+-- A side of the log that has taken blocks, and has no call out, has made a call for them, unless the log is
+-- broken: it takes them as it hands out the first.
+pub record HaveSetOut (log : Log) : Type 0 where
+  pub logger : log.broken ≡ false → log.log_out ≡ false → 0 < log.taken → 0 < log.log_step
+  pub installer : log.broken ≡ false → log.inst_out ≡ false → 0 < log.installing → 0 < log.inst_step
+
+-- The most device calls that a settling has before it, group by group: what is left of the logger's group and
+-- of what the installer has taken; what stands behind that, brought home at once; and the tail, logged at once
+-- and brought home at once.
+abbrev pub settling_left : Log → ℕ
+settling_left log = group_left log.taken log.log_step + group_left log.installing log.inst_step
+    + (group_left (log.logged + log.taken - log.installing) 0 + 2 * group_left (tail_count log) 0)
+
+-- none once the log is broken
+abbrev pub settling_calls : Log → ℕ
+settling_calls log = if log.broken then 0 else settling_left log
+
+-- each call of a settling that was made is one of these
+pub record SpendsSettling (before : Device) (old : Log) (after : Device) (new : Log) : Type 0 where
+  pub few : after.clock + settling_calls new ≤ before.clock + settling_calls old
+
+-- The most device calls of a settling: two for each block in the log, and three for each of four groups.
+abbrev pub most_of_settling : Log → ℕ
+most_of_settling log = 2 * length log.changes + 12

@@ -1,5 +1,6 @@
 //! An open store: a disk with the core over it.
-ghost use Rattle.std.specs.Prelude.{◌≡◌, ◌+◌, ◌<◌, ◌≤◌, ◌↔◌, IsTrue, IsFalse, OnOk, OnErr, length, true};
+ghost use Rattle.std.specs.Prelude.{◌≡◌, ◌+◌, ◌<◌, ◌≤◌, ◌↔◌, IsTrue, IsFalse, OnOk, OnErr, length};
+ghost use Rattle.std.specs.Prelude.{true, false};
 ghost use Rattle.limits.specs.declared.TheConstants.{MOST_KEPT_COMMITS};
 ghost use Rattle.layout.specs.Geometry.{IsLawful};
 ghost use Rattle.store_images.specs.Counts.{SameFrame};
@@ -7,7 +8,8 @@ ghost use Rattle.store_images.specs.Fetches.{KeepsFetches};
 ghost use Rattle.store_images.specs.Further.{LeavesOpen};
 ghost use Rattle.store_images.specs.Opening.{IsSettled};
 ghost use Rattle.store_images.specs.Settling.{HasBroken, HasCalled, IsQuiet, SameNumbers};
-ghost use Rattle.store_images.specs.Settling.{SpendsCalls, most_calls};
+ghost use Rattle.store_images.specs.Settling.{HaveSetOut, SpendsCalls, SpendsSettling, most_calls};
+ghost use Rattle.store_images.specs.Settling.{most_of_settling};
 ghost use Rattle.store_images.specs.SettlingStops.{KeepsPrefixes, StayOpen};
 ghost use Rattle.wal_law.specs.Installer.{may_install};
 ghost use Rattle.wal_law.specs.Logger.{may_log};
@@ -32,6 +34,7 @@ pub struct Store<D: CrashDisk> {
     pub boot: u64,
     pub ghost size: { (D.device disk).size ≡ core.log.blocks },
     pub ghost lawful: { IsLawful core.log.blocks core.inodes },
+    pub ghost set_out: { HaveSetOut core.log },
 }
 
 impl<D: CrashDisk> Store<D> {
@@ -65,10 +68,10 @@ pub fn close<D: CrashDisk>(store: Store<D>) -> D
 /// Makes every change settled in the log. What is logged is brought home only where the log has no room
 /// behind its settled start for the changes that wait, or where more than MOST_KEPT_COMMITS commits are kept;
 /// what is left, the next opening brings home. It fails only where a write or a barrier fails in it, or
-/// failed since the opening. It makes at most `most_calls` device calls. Whatever comes of
-/// it, a store that is open for some entries stays open for them, and each stop leaves the files after a
-/// beginning of them, in which is what was settled before, and behind each device call what is settled by
-/// then.
+/// failed since the opening. It makes at most `most_calls` device calls, and at most two for each block in the
+/// log and twelve besides. Whatever comes of it, a store that is open for some entries stays open for them, and
+/// each stop leaves the files after a beginning of them, in which is what was settled before, and behind each
+/// device call what is settled by then.
 pub fn settle<D: CrashDisk>(store: &mut Store<D>) -> Result<(), Failed>
     requires { IsQuiet store.old.core.log }
     ensures out { store.new.core.out ≡ store.old.core.out }
@@ -84,12 +87,15 @@ pub fn settle<D: CrashDisk>(store: &mut Store<D>) -> Result<(), Failed>
     ensures broken { OnErr result (store.new.core.log.broken ≡ true) }
     ensures few { (D.device store.new.disk).clock ≤ (D.device store.old.disk).clock + most_calls
         store.old.core.log }
+    ensures bound { (D.device store.new.disk).clock ≤ (D.device store.old.disk).clock
+        + most_of_settling store.old.core.log }
     ensures keeps { D.keeps_model store.new.disk → KeepsPrefixes (D.device store.old.disk) store.old.core
         (D.device store.new.disk) store.new.core }
     ensures model { D.keeps_model store.new.disk → D.keeps_model store.old.disk }
 {
     a_stop_leaves_a_beginning();
     an_open_store_keeps_its_files();
+    store.core.lawful();
     'calls: loop {
         if store.core.broken() {
             return Err(Failed);
@@ -112,7 +118,7 @@ pub fn keeps_too_many<D: CrashDisk>(store: &Store<D>) -> bool
 }
 
 // Makes the next device call of the log, if there is one.
-#[tactic(auto, using(crate::proofs::Made::made_size, crate::proofs::CallsLeft::log_called))]
+#[tactic(auto, using(crate::proofs::Made::made_size, crate::proofs::CallsLeft::log_called, crate::proofs::SetOut::log_handed, crate::proofs::SetOut::log_given))]
 fn log_one<D: CrashDisk>(store: &mut Store<D>) -> bool
     requires { IsQuiet store.old.core.log }
     ensures out { store.new.core.out ≡ store.old.core.out }
@@ -131,6 +137,8 @@ fn log_one<D: CrashDisk>(store: &mut Store<D>) -> bool
         store.new.core.log }
     ensures stays { StayOpen (D.device store.old.disk) store.old.core (D.device store.new.disk) store.new.core }
     ensures model { D.keeps_model store.new.disk → D.keeps_model store.old.disk }
+    ensures spends { SpendsSettling (D.device store.old.disk) store.old.core.log (D.device store.new.disk)
+        store.new.core.log }
 {
     a_stop_leaves_a_beginning();
     the_logger_leaves_the_store_open();
@@ -150,7 +158,7 @@ fn log_one<D: CrashDisk>(store: &mut Store<D>) -> bool
 }
 
 // Makes the next device call of the installer, if there is one.
-#[tactic(auto, using(crate::proofs::Made::made_size, crate::proofs::CallsLeft::inst_called))]
+#[tactic(auto, using(crate::proofs::Made::made_size, crate::proofs::CallsLeft::inst_called, crate::proofs::SetOut::inst_handed, crate::proofs::SetOut::inst_given))]
 fn install_one<D: CrashDisk>(store: &mut Store<D>) -> bool
     requires { IsQuiet store.old.core.log }
     ensures out { store.new.core.out ≡ store.old.core.out }
@@ -169,6 +177,8 @@ fn install_one<D: CrashDisk>(store: &mut Store<D>) -> bool
         store.new.core.log }
     ensures stays { StayOpen (D.device store.old.disk) store.old.core (D.device store.new.disk) store.new.core }
     ensures model { D.keeps_model store.new.disk → D.keeps_model store.old.disk }
+    ensures spends { may_log store.old.core.log ≡ false → SpendsSettling (D.device store.old.disk)
+        store.old.core.log (D.device store.new.disk) store.new.core.log }
 {
     a_stop_leaves_a_beginning();
     the_installer_leaves_the_store_open();

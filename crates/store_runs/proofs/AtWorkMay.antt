@@ -22,7 +22,6 @@ use Rattle.objects.specs.declared.mode.Mode.TheVariants as modes
 use Rattle.procs.proofs.FewClaimed.{claimed_object}
 use Rattle.procs.specs.Asks.{Asks, Claims}
 use Rattle.procs.specs.Outcome.{Outcome}
-use Rattle.procs.specs.declared.next.Plan.{Plan}
 use Rattle.procs.specs.declared.next.Plan.TheVariants as plan
 use Rattle.inode.specs.Snap.{is_claimed, is_seen, same_addr}
 use Rattle.layout.proofs.OnGrid.{at_home}

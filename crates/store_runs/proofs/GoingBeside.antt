@@ -1,5 +1,5 @@
 -- A run goes on with an event that commits nothing and ends no call: its step is all that is told with it.
-use Rattle.std.proofs.Common.{◌≡◌, refl, sym, subst, ℕ, ◌+◌, ◌<◌, List, [], Option, Some, None, take, arith}
+use Rattle.std.proofs.Common.{◌≡◌, refl, sym, subst, ℕ, ◌+◌, List, [], Option, Some, None, take, arith}
 use Rattle.std.proofs.lemmas.Option.{slice_get_within}
 use Rattle.disk.specs.Crash.{Image}
 use Rattle.disk.specs.Device.{current}

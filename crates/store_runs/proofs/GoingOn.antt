@@ -32,7 +32,7 @@ use Rattle.store_promise.specs.Schedule.{IsNextOfInstaller, IsNextOfLog, IsStepO
 use Rattle.store_promise.specs.Schedule.{IsStepOfLog, IsStepOfLogIo, IsTaken, Setting, Told, told_after}
 use Rattle.store_promise.specs.Schedule.{worker_of}
 use Rattle.store_promise.specs.Transcript.{Transcript, entries_of, entry_of, transcript_of}
-use Rattle.run_law.specs.Noting.{Noted, commits, ends_of, progress_now, told_now, with_noted}
+use Rattle.run_law.specs.Noting.{Noted, commits, ends_of, told_now, with_noted}
 use Rattle.run_law.specs.Run.{Beginning, GoesOn, IsRun}
 use Rattle.store_workers.specs.Alone.{HasOfCall, HasTaken, PlansAlone}
 use Rattle.store_workers.specs.Asked.{Asking}
@@ -47,7 +47,6 @@ use Rattle.store_workers.proofs.ShareCore.{share_by}
 use Rattle.store_workers.specs.Beside.{ShareCore}
 use Rattle.store_runs.specs.Running.{DoesItsStep}
 use Rattle.store_workers.specs.Seen.{Seen, seen_in}
-use Rattle.store_workers.specs.Stages.{IsWorkerAt, progress_of}
 use Rattle.store_workers.specs.Worker.{GoesWith}
 use Rattle.store_workers.specs.declared.workers.parts.Job.{Job}
 use Rattle.store_workers.specs.declared.workers.parts.Phase.{Phase}

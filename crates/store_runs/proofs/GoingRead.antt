@@ -1,6 +1,6 @@
 -- A run goes on with a read of a worker.
-use Rattle.std.proofs.Common.{◌≡◌, ◌∙◌, refl, sym, ap, subst, ℕ, ◌+◌, Bool, is_ok, List, [], All, Option, Some, None}
-use Rattle.disk.specs.Device.{Device, current}
+use Rattle.std.proofs.Common.{◌≡◌, ◌∙◌, refl, sym, ap, subst, ℕ, ◌+◌, is_ok, List, [], Option, Some, None}
+use Rattle.disk.specs.Device.{Device}
 use Rattle.disk.specs.declared.block.BlockNo.{BlockNo}
 use Rattle.model.specs.Entry.{Entry}
 use Rattle.txn_law.specs.Fetch.{Fetch}
@@ -10,7 +10,7 @@ use Rattle.store_promise.specs.declared.events.Step.{Step}
 use Rattle.store_promise.specs.declared.events.Step.TheVariants as step
 use Rattle.store_promise.specs.declared.transcript.Run.{Run}
 use Rattle.store_promise.specs.Progress.{Progress, progressed}
-use Rattle.store_promise.specs.Running.{IsFetchOver, IsMovedBy, IsRunningOver, IsTold, StoreSide}
+use Rattle.store_promise.specs.Running.{IsMovedBy, IsRunningOver, IsTold, StoreSide}
 use Rattle.store_promise.specs.Schedule.{IsStepOfRead, IsTaken, Setting, Told, told_after}
 use Rattle.store_promise.specs.Transcript.{Transcript, entries_of, transcript_of}
 use Rattle.run_law.specs.Noting.{told_now}
@@ -24,7 +24,6 @@ use Rattle.store_workers.specs.Worker.{GoesWith}
 use Rattle.store_workers.specs.WorkTells.{TellsRead}
 use Rattle.store_workers.specs.WorkerReads.{HasReadBlock, MakesRead, with_read}
 use Rattle.store_workers.specs.WorkerSteps.{side}
-use Rattle.store_workers.specs.declared.workers.parts.Begun.{Begun}
 use Rattle.store_workers.specs.declared.workers.parts.Phase.TheVariants.{Reading}
 use Rattle.store_workers.specs.declared.workers.parts.State.{State}
 use Rattle.store_runs.proofs.AtWorkEvents.{read_work}

@@ -1,13 +1,12 @@
 -- What keeps a worker off is another's, and told so: what that has taken, or the block that it fetches. And no
 -- change of a worker is foreign.
-use Rattle.std.proofs.Common.{◌≡◌, ◌∙◌, ◌≢◌, ◌+◌, ◌*◌, ◌<◌, ◌≤◌, refl, sym, ap, subst, true≢false, ℕ, ◌⊎◌, inl, inr, Bool}
+use Rattle.std.proofs.Common.{◌≡◌, ◌∙◌, ◌+◌, refl, sym, ap, subst, true≢false, ℕ, ◌⊎◌, inl, inr, Bool}
 use Rattle.std.proofs.Common.{true, false, ◌&&◌, ◌||◌, nat_eq, nat_lt, Option, Some, None, List, [], ◌∷◌, ◌++◌, All, arith}
 use Rattle.std.proofs.Common.{is_some, slice_get}
 use Rattle.std.specs.Prelude.{Contains, IfSome, IsSomeAnd}
 use Rattle.std.specs.List.{list_any}
 use Rattle.std.proofs.lemmas.Bool.{and_from, eq-eqb, eqb-true, lt-ltb, or_left, or_right}
 use Rattle.std.proofs.lemmas.List.Elements.{All-contains, Contains-append_right}
-use Rattle.limits.specs.declared.TheConstants.{BLOCK_BYTES}
 use Rattle.disk.specs.Device.{Content}
 use Rattle.disk.specs.declared.block.BlockNo.{BlockNo}
 use Rattle.layout.specs.declared.geometry.Geometry.{Geometry}
@@ -19,13 +18,12 @@ use Rattle.objects.specs.declared.addr.Addr.{Addr}
 use Rattle.objects.specs.declared.mode.Mode.{Mode}
 use Rattle.objects.specs.declared.mode.Mode.TheVariants as modes
 use Rattle.procs.proofs.FewClaimed.{claimed_object}
-use Rattle.procs.specs.Asks.{Asks, Claims, IsWritable}
+use Rattle.procs.specs.Asks.{Asks, Claims}
 use Rattle.procs.specs.Finished.{EndsFrom}
 use Rattle.procs.specs.Outcome.{Outcome}
 use Rattle.procs.specs.declared.next.Plan.TheVariants as plan
-use Rattle.inode.specs.Snap.{is_claimed, is_seen, same_addr}
 use Rattle.inode.specs.declared.snap.Snap.{Snap}
-use Rattle.txn.specs.Claimed.{IsAmongRead, IsClaimedBy, IsClaimedObject}
+use Rattle.txn.specs.Claimed.{IsAmongRead, IsClaimedObject}
 use Rattle.txn.specs.Outcomes.{IsClaimed, IsCommit, IsWanted}
 use Rattle.txn.specs.Wishes.{IsWhole}
 use Rattle.txn.specs.declared.outcomes.Claim.{Claim}
@@ -35,7 +33,7 @@ use Rattle.txn.specs.declared.outcomes.Commit.TheVariants as commit
 use Rattle.txn.specs.declared.outcomes.Want.{Want}
 use Rattle.txn.specs.declared.outcomes.Want.TheVariants as want
 use Rattle.wal_law.specs.Log.{added_blocks}
-use Rattle.txn.proofs.OwnChange.{is_own, taken_at}
+use Rattle.txn.proofs.OwnChange.{taken_at}
 use Rattle.txn_law.specs.Commit.{IsOwn, IsReadBy}
 use Rattle.txn_law.specs.Core.{CoreState, IsOut}
 use Rattle.txn_law.specs.Fetch.{Fetch}
@@ -46,7 +44,7 @@ use Rattle.txn_law.specs.Object.{ObjectBytes}
 use Rattle.txn_law.specs.Others.{IsKeptOff}
 use Rattle.txn_law.specs.Present.{content_in, is_pending, present_of}
 use Rattle.txn_law.specs.Tidy.{AreTidy}
-use Rattle.txn_law.specs.Wishes.{IsBusy, IsLoading}
+use Rattle.txn_law.specs.Wishes.{IsBusy}
 use Rattle.txn_law.specs.declared.hold.Hold.{Hold}
 use Rattle.txn_law.specs.declared.present.Present.{Present}
 use Rattle.txn_law.proofs.Again as again
@@ -71,7 +69,7 @@ use Rattle.store_workers.proofs.LoneWorker.{had, has_of, own_change, seen_of, wa
 use Rattle.store_workers.proofs.PlansStay.{wish_by}
 use Rattle.store_workers.proofs.WorkCases.{Cases, IsWished, by_cases}
 use Rattle.store_workers.specs.Alone.{HasOfCall, PlansAlone}
-use Rattle.store_workers.specs.Beside.{IsFetchAt, IsLeftOf, IsNoted, IsOneOf, NotesAll, NotesTaken, ShareCore}
+use Rattle.store_workers.specs.Beside.{IsFetchAt, IsLeftOf, IsNoted, IsOneOf, NotesTaken, ShareCore}
 use Rattle.store_workers.specs.Phases.{has_fetch, has_transaction}
 use Rattle.store_workers.specs.Seen.{Seen, seen_in}
 use Rattle.store_workers.specs.Stages.{IsFetchOf, IsJobIn, IsWorkerAt, RunsIn, StandsAt, at_fetch, at_stage, begun_of}

@@ -1,5 +1,5 @@
 -- Lemmas: where one of the workers is set, it alone has moved.
-use Rattle.std.proofs.Common.{◌≡◌, ◌∙◌, ◌<◌, refl, sym, ap, ℕ, zero, suc, All, List, [], ◌∷◌, Some, arith, get_or}
+use Rattle.std.proofs.Common.{◌≡◌, ◌<◌, refl, sym, ap, ℕ, zero, suc, All, List, [], ◌∷◌, Some, arith, get_or}
 use Rattle.std.proofs.Common.{length, set, slice_get, subst}
 use Rattle.std.proofs.lemmas.List.Elements.{All-cons, All-head, All-tail}
 use Rattle.store_runs.specs.Running.{MovesOne, states_of}

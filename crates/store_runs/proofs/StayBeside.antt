@@ -1,15 +1,14 @@
 -- A worker of a run stands as it did, with all that it has, while another of them or the log goes on.
-use Rattle.std.proofs.Common.{◌≡◌, ◌∙◌, ◌+◌, ◌<◌, refl, sym, ap, subst, true≢false, ℕ, zero, suc, Bool, true, false, nat_eq}
+use Rattle.std.proofs.Common.{◌≡◌, ◌∙◌, ◌+◌, ◌<◌, refl, sym, ap, subst, ℕ, zero, suc, Bool, true, false, nat_eq}
 use Rattle.std.proofs.Common.{inl, inr, Option, Some, None, is_some, List, [], ◌∷◌, ◌++◌, All, map, length, slice_get}
 use Rattle.std.specs.Prelude.{IfSome, IsSomeAnd}
 use Rattle.std.specs.List.{list_any}
-use Rattle.std.proofs.Common.{cond, if◌then◌else◌, ne_eqb}
+use Rattle.std.proofs.Common.{if◌then◌else◌, ne_eqb}
 use Rattle.std.proofs.lemmas.Bool.{cases_eq, eq-eqb}
 use Rattle.std.proofs.lemmas.List.{map-append}
 use Rattle.std.proofs.lemmas.Option.{same_Some}
 use Rattle.std.proofs.lemmas.List.Elements.{All-cons, All-head, All-nil, All-weaker}
 use Rattle.disk.specs.Crash.{Image}
-use Rattle.disk.specs.Device.{Content}
 use Rattle.layout.specs.Geometry.{IsLawful}
 use Rattle.model.specs.Entry.{Entry}
 use Rattle.objects.specs.declared.addr.Addr.{Addr}
@@ -19,7 +18,7 @@ use Rattle.txn_law.specs.Others.{KeepsTaken}
 use Rattle.wal_law.specs.declared.outcomes.Seq.{Seq}
 use Rattle.store_promise.specs.Running.{IsFetchOver, KeepsTransactions}
 use Rattle.store_promise.specs.Progress.{Progress}
-use Rattle.store_promise.specs.Schedule.{Told, told_after, with_worker}
+use Rattle.store_promise.specs.Schedule.{told_after, with_worker}
 use Rattle.store_promise.specs.Transcript.{Transcript, entries_of, entry_of}
 use Rattle.store_promise.specs.declared.events.Event.{Event}
 use Rattle.store_promise.specs.declared.aims.Aim.{Aim}
@@ -32,9 +31,7 @@ use Rattle.store_runs.specs.Going.{AreSoFar, IsSoFar}
 use Rattle.store_workers.proofs.ShareCore.{share_still}
 use Rattle.store_workers.proofs.StaysAlone.{moved, same_taken}
 use Rattle.store_workers.specs.Alone.{HasTaken, PlansAlone}
-use Rattle.store_workers.specs.Asked.{Asking}
 use Rattle.store_workers.specs.Beside.{IsFetchedBy, IsOneOf, LeavesOthers, NotesTaken, Replaces, ShareCore}
-use Rattle.store_workers.specs.Knowing.{Knowing}
 use Rattle.store_workers.specs.Stages.{IsWorkerAt, StandsAt, WaitsFor, entry_at, progress_of}
 use Rattle.store_workers.specs.WorkerSteps.{Side}
 use Rattle.store_workers.specs.declared.workers.parts.Phase.{Phase}

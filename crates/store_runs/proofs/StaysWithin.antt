@@ -23,7 +23,7 @@ use Rattle.store_workers.proofs.WorkCases.{Cases, by_cases}
 use Rattle.store_workers.specs.Worker.{ReadsWithin}
 use Rattle.store_workers.specs.WorkerAnswers.{after_commit, begun_claimed, begun_wanted, told_of, with_answer}
 use Rattle.store_workers.specs.WorkerAnswers.{with_entry}
-use Rattle.store_workers.specs.WorkerSteps.{GoesOn, IsTold, Side, Waits, none_begun, with_snap}
+use Rattle.store_workers.specs.WorkerSteps.{GoesOn, IsTold, Side, none_begun, with_snap}
 use Rattle.store_workers.specs.declared.workers.parts.Begun.{Begun}
 use Rattle.store_workers.specs.declared.workers.parts.Job.{Job}
 use Rattle.store_workers.specs.declared.workers.parts.Phase.{Phase}

@@ -37,15 +37,12 @@ use Rattle.store_workers.specs.Phases.{has_fetch, has_transaction}
 use Rattle.store_workers.specs.Telling.{told}
 use Rattle.store_workers.specs.WorkerAnswers.{after_commit, begun_claimed, begun_wanted, told_of, with_answer}
 use Rattle.store_workers.specs.WorkerAnswers.{with_entry}
-use Rattle.store_workers.specs.WorkerSteps.{GoesOn, HasAborted, HasBegun, HasClaimed, HasCommitted, HasGivenBack}
-use Rattle.store_workers.specs.WorkerSteps.{HasWanted, IsTold, KeepsReadsOf, Side, Waits, none_begun, planned_of}
+use Rattle.store_workers.specs.WorkerSteps.{GoesOn, HasAborted, HasBegun, HasGivenBack}
+use Rattle.store_workers.specs.WorkerSteps.{IsTold, KeepsReadsOf, Side, Waits, none_begun, planned_of}
 use Rattle.store_workers.specs.WorkerSteps.{side, there_given, with_snap}
 use Rattle.store_workers.specs.declared.workers.parts.Begun.{Begun}
 use Rattle.store_workers.specs.declared.workers.parts.Job.{Job}
 use Rattle.store_workers.specs.declared.workers.parts.Phase.{Phase}
-use Rattle.store_workers.specs.declared.workers.parts.Phase.TheVariants.{Idle, Called, Planning}
-use Rattle.store_workers.specs.declared.workers.parts.Phase.TheVariants.{Reading, Read}
-use Rattle.store_workers.specs.declared.workers.parts.Phase.TheVariants.{Refused, Again, Waiting}
 use Rattle.store_workers.specs.declared.workers.parts.State.{State}
 
 -- ---- lists of transactions

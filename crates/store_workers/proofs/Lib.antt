@@ -15,3 +15,4 @@ pub mod PlansStay
 pub mod LeavesOthers
 pub mod NotesAll
 pub mod ShareCore
+pub mod KeepsSetOut

@@ -1,6 +1,6 @@
 -- A worker notes all that its transaction takes.
-use Rattle.std.proofs.Common.{◌≡◌, ◌∙◌, ◌+◌, refl, sym, ap, subst, true≢false, ℕ, ◌⊎◌, inl, inr, Bool, true, false}
-use Rattle.std.proofs.Common.{if◌then◌else◌, nat_eq, Option, Some, None, List, [], ◌∷◌}
+use Rattle.std.proofs.Common.{◌≡◌, ◌∙◌, refl, sym, ap, subst, true≢false, ℕ, inl, inr, Bool, true, false}
+use Rattle.std.proofs.Common.{if◌then◌else◌, nat_eq, Option, Some, None, List}
 use Rattle.std.specs.Prelude.{Contains, IfSome, IsSomeAnd, is_some}
 use Rattle.std.proofs.lemmas.Bool.{eqb-true}
 use Rattle.disk.specs.declared.block.BlockNo.{BlockNo}
@@ -39,7 +39,7 @@ use Rattle.store_workers.specs.Knowing.{Knowing, with_off}
 use Rattle.store_workers.specs.Phases.{has_transaction}
 use Rattle.store_workers.specs.WorkerAnswers.{after_commit, begun_claimed, begun_wanted, known_claimed, known_off}
 use Rattle.store_workers.specs.WorkerAnswers.{known_wanted, object, told_of, with_answer, with_entry}
-use Rattle.store_workers.specs.WorkerSteps.{GoesOn, HasBegun, HasCommitted, HasGivenBack, IsTold, Side, Waits}
+use Rattle.store_workers.specs.WorkerSteps.{GoesOn, HasBegun, HasGivenBack, IsTold, Side, Waits}
 use Rattle.store_workers.specs.WorkerSteps.{none_begun, planned_of, with_snap}
 use Rattle.store_workers.specs.declared.workers.parts.Job.{Job}
 use Rattle.store_workers.specs.declared.workers.parts.Phase.{Phase}

@@ -1,19 +1,16 @@
 -- Workers that share a core do so after a step of one of them.
-use Rattle.std.proofs.Common.{◌≡◌, ◌∙◌, ◌+◌, ◌≤◌, ◌<◌, refl, sym, ap, subst, true≢false, ℕ, ◌⊎◌, inl, inr, Bool}
-use Rattle.std.proofs.Common.{true, false, nat_eq, Option, Some, None, List, slice_get, arith}
-use Rattle.std.specs.Prelude.{IfSome, IsSomeAnd}
+use Rattle.std.proofs.Common.{◌≡◌, ◌∙◌, ◌+◌, ◌≤◌, ◌<◌, refl, sym, ap, subst, true≢false, ℕ, ◌⊎◌, inl, inr}
+use Rattle.std.proofs.Common.{true, nat_eq, Option, Some, None, List, slice_get, arith}
 use Rattle.std.specs.List.{list_any}
 use Rattle.std.proofs.lemmas.Bool.{cases_eq, eqb-true}
 use Rattle.std.proofs.lemmas.List.Elements.{All-contains}
 use Rattle.disk.specs.declared.block.BlockNo.{BlockNo}
-use Rattle.objects.specs.declared.addr.Addr.{Addr}
 use Rattle.txn_law.proofs.Claims.{all_four, found_by}
 use Rattle.txn_law.specs.Core.{CoreState, IsOut}
 use Rattle.txn_law.specs.Fetch.{Fetch}
 use Rattle.txn_law.specs.Holds.{is_hold_of}
-use Rattle.txn_law.specs.Leaves.{is_fetching, taken_by}
+use Rattle.txn_law.specs.Leaves.{is_fetching}
 use Rattle.txn_law.specs.Tidy.{AreTidy, IsOfOne}
-use Rattle.txn_law.specs.declared.hold.Hold.{Hold}
 use Rattle.store_workers.specs.Beside.{IsFetchAt, IsFetchedBy, IsOneOf, LeavesOthers, NoneTakenBeyond}
 use Rattle.store_workers.specs.Beside.{Replaces, ShareCore}
 use Rattle.store_workers.specs.WorkerSteps.{Side}

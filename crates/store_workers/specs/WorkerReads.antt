@@ -1,5 +1,5 @@
 -- What a read leaves of a worker.
-use Rattle.std.specs.Prelude.{◌≡◌, ℕ, Bool, true, false, Option, Some, None, Result, is_ok}
+use Rattle.std.specs.Prelude.{◌≡◌, Bool, true, false, Option, Some, None, Result, is_ok}
 use Rattle.disk.specs.Device.{Content, CountsFailure, Device, HasRead, current, newest}
 use Rattle.disk.specs.declared.device.Failed.{Failed}
 use Rattle.txn.specs.Fetch.{Fetch}

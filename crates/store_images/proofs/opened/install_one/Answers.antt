@@ -10,6 +10,7 @@ use Rattle.wal_law.specs.Installer.{is_inst_out, may_install, with_inst_out}
 use Rattle.wal_law.specs.Log.{Log, settled_place}
 use Rattle.store_images.proofs.CallsLeft.{inst_called}
 use Rattle.store_images.proofs.CallsMade.{spends_none, spends_one}
+use Rattle.store_images.proofs.SettlingCalls.{inst_nears, settles_none, settles_one}
 use Rattle.store_images.proofs.LogMoves.{answer_is, inst_back_is, inst_given, inst_made, inst_taken}
 use Rattle.store_images.proofs.LogSteps.{failed_is, fewer, goes_on, log_alone, log_places, same_core_places}
 use Rattle.store_images.proofs.LogSteps.{same_transactions, still_loaded}
@@ -217,3 +218,19 @@ returns-clause-stays g c = λ base boot first last entries since.
       base = home_after base out.log ok;
       since = given;
     }
+
+pub returns-in_default-clause-spends : goal.returns-in_default-clause-spends
+returns-in_default-clause-spends g c = λ _.
+    settles_none c.args.store.now.core c.inst_next.new.self (g.D.CrashDisk.device c.args.store.now.disk)
+    (g.D.CrashDisk.device c.args.store.now.disk) (search rules) refl
+
+pub returns-clause-spends : goal.returns-clause-spends
+returns-clause-spends g c = λ none.
+    let d = g.D.CrashDisk.device c.args.store.now.disk in
+    let e = g.D.CrashDisk.device c.perform.new.disk in
+    settles_one c.args.store.now.core.log c.inst_done.new.self.log d e
+    (inst_nears c.args.store.now.core.log c.inst_next.new.self.log c.inst_done.new.self.log c.in-Some.io
+    c.is_ok-ok.result c.lawful.ensures.log c.in-Some.ensures.causes none c.requires.logging
+    (ap (λ (core : CoreState). core.log) (c.in-Some.ensures.some refl)) c.lawful-2.ensures.log
+    c.in-Some.ensures.call c.inst_done.ensures.log)
+    (made_later d c.in-Some.io c.perform.result e c.perform.ensures.call).clock

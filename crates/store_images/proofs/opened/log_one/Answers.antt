@@ -13,6 +13,7 @@ use Rattle.store_images.proofs.LogMoves.{answer_is, log_given, log_made, log_tak
 use Rattle.store_images.proofs.LogSteps.{failed_is, fewer, goes_on, log_alone, log_places, same_core_places}
 use Rattle.store_images.proofs.LogSteps.{same_transactions}
 use Rattle.store_images.proofs.Made.{made_later}
+use Rattle.store_images.proofs.SettlingCalls.{log_nears, settles_none, settles_one}
 use Rattle.store_images.proofs.SameNumbers.{log_places as log_keeps_places}
 use Rattle.store_images.proofs.StillOpen.{called_further, log_end, open_by}
 use Rattle.store_images.specs.Settling.{HasCalled}
@@ -206,3 +207,19 @@ returns-clause-stays g c = λ base boot first last entries since.
       base = base;
       since = given;
     }
+
+pub returns-in_default-clause-spends : goal.returns-in_default-clause-spends
+returns-in_default-clause-spends g c =
+    settles_none c.args.store.now.core c.log_next.new.self (g.D.CrashDisk.device c.args.store.now.disk)
+    (g.D.CrashDisk.device c.args.store.now.disk) (search rules) refl
+
+pub returns-clause-spends : goal.returns-clause-spends
+returns-clause-spends g c =
+    let d = g.D.CrashDisk.device c.args.store.now.disk in
+    let e = g.D.CrashDisk.device c.perform.new.disk in
+    settles_one c.args.store.now.core.log c.log_done.new.self.log d e
+    (log_nears c.args.store.now.core.log c.log_next.new.self.log c.log_done.new.self.log c.in-Some.io
+    c.is_ok-ok.result c.lawful.ensures.log c.in-Some.ensures.causes
+    (ap (λ (core : CoreState). core.log) (c.in-Some.ensures.some refl)) c.lawful-2.ensures.log
+    c.in-Some.ensures.call c.log_done.ensures.log)
+    (made_later d c.in-Some.io c.perform.result e c.perform.ensures.call).clock

@@ -3,7 +3,8 @@ use Rattle.procs.specs.Finished.{HasPlan}
 use Rattle.store_images.specs.Further.{LeavesOpen}
 use Rattle.store_images.proofs.CallsLeft.{stuck}
 use Rattle.store_images.proofs.CallsMade.{made_few, spends_along}
-use Rattle.store_images.specs.Settling.{SpendsCalls}
+use Rattle.store_images.proofs.SettlingCalls.{settled_by, settles_along}
+use Rattle.store_images.specs.Settling.{SpendsCalls, SpendsSettling}
 use Rattle.store_images.proofs.Staying.{prefixes_kept, stay_along, still_open}
 use Rattle.store_images.proofs.StillOpen.{open_then, same_open}
 use Rattle.store_images.specs.SettlingStops.{StayOpen}
@@ -16,7 +17,7 @@ use Rattle.store_images.proofs.opened.settle.Goals as goal
 pub unreachable-requires : goal.unreachable-requires
 unreachable-requires g c =
     let core = c.calls.store.core in
-    let rest = stuck core c.log_one.new.store.core HasPlan c.lawful.ensures (search rules)
+    let rest = stuck core c.log_one.new.store.core HasPlan c.lawful-in-calls.ensures (search rules)
     (c.calls.invariant.1.log_out ∙ c.requires.logging) (c.calls.invariant.1.inst_out ∙ c.requires.installing)
     c.if-not-log_one.ensures.may (c.if-not-log_one.ensures.none refl).0 c.if-not-install_one.ensures.may in
     elim c.else-is_settled.branch [
@@ -31,6 +32,12 @@ returns-then-broken-clause-few g c =
     made_few (g.D.CrashDisk.device c.args.store.now.disk) (g.D.CrashDisk.device c.calls.store.disk)
     c.args.store.now.core.log c.calls.store.core.log c.calls.invariant.8
 
+pub returns-then-broken-clause-bound : goal.returns-then-broken-clause-bound
+returns-then-broken-clause-bound g c =
+    settled_by (g.D.CrashDisk.device c.args.store.now.disk) (g.D.CrashDisk.device c.calls.store.disk)
+    c.args.store.now.core.log c.calls.store.core.log c.lawful.ensures.log c.requires
+    c.args.store.now.set_out c.calls.invariant.9
+
 pub returns-then-broken-clause-keeps : goal.returns-then-broken-clause-keeps
 returns-then-broken-clause-keeps g c = λ keeps.
     prefixes_kept (g.D.CrashDisk.device c.args.store.now.disk) (g.D.CrashDisk.device c.calls.store.disk)
@@ -41,6 +48,12 @@ pub returns-then-not-keeps_too_many-clause-few : goal.returns-then-not-keeps_too
 returns-then-not-keeps_too_many-clause-few g c =
     made_few (g.D.CrashDisk.device c.args.store.now.disk) (g.D.CrashDisk.device c.calls.store.disk)
     c.args.store.now.core.log c.calls.store.core.log c.calls.invariant.8
+
+pub returns-then-not-keeps_too_many-clause-bound : goal.returns-then-not-keeps_too_many-clause-bound
+returns-then-not-keeps_too_many-clause-bound g c =
+    settled_by (g.D.CrashDisk.device c.args.store.now.disk) (g.D.CrashDisk.device c.calls.store.disk)
+    c.args.store.now.core.log c.calls.store.core.log c.lawful.ensures.log c.requires
+    c.args.store.now.set_out c.calls.invariant.9
 
 pub returns-then-not-keeps_too_many-clause-keeps : goal.returns-then-not-keeps_too_many-clause-keeps
 returns-then-not-keeps_too_many-clause-keeps g c = λ keeps.
@@ -61,6 +74,7 @@ calls-init g c =
       same_open device core,
       still_open device core,
       record { few = omega arith },
+      record { few = omega arith },
     )
 
 pub calls-preserved : goal.calls-preserved
@@ -79,6 +93,10 @@ calls-preserved g c =
     spends_along (device first.disk) (device old.disk) (device mid.disk) first.core.log
     old.core.log mid.core.log
     c.calls.invariant.8 c.log_one.ensures.few in
+    let settled : SpendsSettling (device first.disk) first.core.log (device mid.disk) mid.core.log =
+    settles_along (device first.disk) (device old.disk) (device mid.disk) first.core.log
+    old.core.log mid.core.log
+    c.calls.invariant.9 c.log_one.ensures.spends in
     elim c.else-not-log_one.branch [
       | else-not-log_one-via-then-not-log_one+else-not-install_one w ↦
           let new = w.install_one.new.store in
@@ -101,6 +119,10 @@ calls-preserved g c =
                 (spends_along (device first.disk) (device mid.disk) (device new.disk)
                 first.core.log mid.core.log
                 new.core.log spent w.install_one.ensures.few),
+            subst (λ s. SpendsSettling (device first.disk) first.core.log (device s.disk) s.core.log) same
+                (settles_along (device first.disk) (device mid.disk) (device new.disk)
+                first.core.log mid.core.log
+                new.core.log settled (w.install_one.ensures.spends (search rules))),
           )
       | else-not-log_one-via-else-not-log_one w ↦
           let same = sym w.store-is in (
@@ -113,5 +135,7 @@ calls-preserved g c =
             subst (λ s. LeavesOpen (device first.disk) first.core (device s.disk) s.core) same logged,
             subst (λ s. StayOpen (device first.disk) first.core (device s.disk) s.core) same stayed,
             subst (λ s. SpendsCalls (device first.disk) first.core.log (device s.disk) s.core.log) same spent,
+            subst (λ s. SpendsSettling (device first.disk) first.core.log (device s.disk) s.core.log) same
+                settled,
           )
     ]

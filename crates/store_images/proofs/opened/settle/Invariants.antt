@@ -5,7 +5,7 @@ use Rattle.std.proofs.Common.{◌≡◌}
 use Rattle.store_images.specs.Counts.{SameFrame}
 use Rattle.store_images.specs.Fetches.{KeepsFetches}
 use Rattle.store_images.specs.Further.{LeavesOpen}
-use Rattle.store_images.specs.Settling.{SameNumbers, SpendsCalls, most_calls}
+use Rattle.store_images.specs.Settling.{SameNumbers, SpendsCalls, SpendsSettling, most_calls}
 use Rattle.store_images.specs.SettlingStops.{StayOpen}
 use Rattle.store_images.proofs.opened.settle.Given as goal
 
@@ -22,6 +22,8 @@ invariant-calls g l = (l.store.core.out ≡ l.fn.store.core.out)
     (g.D.CrashDisk.device l.store.disk) l.store.core
     × SpendsCalls (g.D.CrashDisk.device l.fn.store.disk) l.fn.store.core.log (g.D.CrashDisk.device l.store.disk)
     l.store.core.log
+    × SpendsSettling (g.D.CrashDisk.device l.fn.store.disk) l.fn.store.core.log
+    (g.D.CrashDisk.device l.store.disk) l.store.core.log
 
 abbrev pub decreases-calls : goal.decreases-calls
 decreases-calls g l = most_calls l.store.core.log

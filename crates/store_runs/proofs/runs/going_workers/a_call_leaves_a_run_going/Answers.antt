@@ -1,4 +1,4 @@
-use Rattle.std.proofs.Common.{◌+◌, ◌<◌, [], None, refl, arith}
+use Rattle.std.proofs.Common.{◌+◌, [], None, refl, arith}
 use Rattle.store_promise.specs.declared.events.Event.TheVariants as event
 use Rattle.store_promise.specs.Transcript.{entries_of, transcript_of}
 use Rattle.run_law.specs.Noting.{told_now}

@@ -1,4 +1,4 @@
-use Rattle.std.proofs.Common.{◌+◌, ◌<◌, [], refl, sym, subst, is_ok, Some, None, arith}
+use Rattle.std.proofs.Common.{◌+◌, [], refl, subst, is_ok, Some, None, arith}
 use Rattle.std.proofs.lemmas.List.Elements.{All-nil}
 use Rattle.store_promise.specs.declared.events.Event.TheVariants as event
 use Rattle.store_promise.specs.declared.events.Step.TheVariants as step

@@ -1,4 +1,4 @@
-use Rattle.std.proofs.Common.{◌≡◌, ◌<◌, ap, sym, subst, refl, inl, inr, arith, ℕ, List, length, false, Option, None}
+use Rattle.std.proofs.Common.{◌≡◌, ◌<◌, ap, sym, subst, inl, inr, arith, ℕ, List, length, false, Option, None}
 use Rattle.std.proofs.lemmas.Bool.{cases_lt}
 use Rattle.std.proofs.lemmas.List.{length-map}
 use Rattle.disk.specs.Device.{current}

@@ -1,4 +1,4 @@
-use Rattle.std.proofs.Common.{Some, refl, ap, sym, subst, ◌∙◌, true≢false}
+use Rattle.std.proofs.Common.{Some, refl, ap, sym, subst, true≢false}
 use Rattle.store_runs.specs.Running.{KeepsFits, MovesOne}
 use Rattle.store_workers.specs.WorkerReads.{MakesRead}
 use Rattle.store_workers.specs.declared.workers.Worker.{Worker}
