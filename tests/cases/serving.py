@@ -233,14 +233,30 @@ def test_a_client_that_resets_in_mid_reply_is_gone_alone(place):
         stream.sendall(b"".join(nfs.READ.call(it, CALLER, file, 0, 32768) for it in range(40)))
         stream.sendall(nfs.WRITE.call(99, CALLER, file, 0, 5, nfs.FILE_SYNC, b"hello"))
         stream.recv(1000)
-        # The stream is torn down at once, and not closed in order.
-        stream.setsockopt(socket.SOL_SOCKET, socket.SO_LINGER, struct.pack("ii", 1, 0))
-        stream.close()
+        torn_down(stream)
     for it in range(50):
         client.set(ROOT, mode=it)
     assert_serves(server)
     client.close()
     server.end()
+
+
+def torn_down(stream):
+    """Ends a stream at once, and not in order."""
+    stream.setsockopt(socket.SOL_SOCKET, socket.SO_LINGER, struct.pack("ii", 1, 0))
+    stream.close()
+
+
+def test_it_ends_where_its_last_client_resets_with_calls_in_flight(place):
+    for stable in (nfs.FILE_SYNC, nfs.UNSTABLE):
+        for workers in (1, 4):
+            server = Server(place, place.image(f"{stable} {workers}"), connections=1, workers=workers)
+            client = server.client()
+            file = client.create(ROOT, b"a")
+            calls = [nfs.WRITE.call(it, CALLER, file, 100 * it, 5, stable, b"hello") for it in range(60)]
+            client.stream.sendall(b"".join(calls))
+            torn_down(client.stream)
+            server.end()
 
 
 def test_calls_are_answered_behind_the_end_of_what_is_sent(place):

@@ -1,9 +1,10 @@
 -- What the program does for its arguments: what it prints, and which fault it tells.
-use Rattle.std.specs.Prelude.{◌≡◌, ℕ, ◌-◌, List, ◌++◌, [], ◌∷◌, Option, Some, None, Result, Ok, Err, OnOk, IfSome, codes}
+use Rattle.std.specs.Prelude.{◌≡◌, ℕ, ◌-◌, ◌≤◌, List, ◌++◌, [], ◌∷◌, Option, Some, None, Result, Ok, Err, OnOk, IfSome, codes}
 use Rattle.std.specs.Fmt.{decimal}
 use Rattle.std.specs.Io.KnownBytes.{Appends}
 use Rattle.std.specs.declared.io.Error.{Error}
 use Rattle.clap.specs.Words.{Text}
+use Rattle.limits.specs.declared.TheConstants.{MOST_BLOCKS}
 use Rattle.disk.specs.declared.file.FirstContents.{FirstContents}
 use Rattle.disk.specs.declared.file_disk.FileDisk.{FileDisk}
 use Rattle.disk.specs.Device.{Device}
@@ -96,9 +97,10 @@ device_in None = None
 device_in (Some disk) =
     Some (file_device (first_in disk.first.blocks.items) disk.blocks disk.file.calls.items)
 
--- so many blocks are as many as are asked for, where a number is
+-- so many blocks are as many as are asked for, or no more than the most of an image, where no number is
 abbrev pub AreAsked : Option ℕ → ℕ → Type 0
-AreAsked blocks size = IfSome blocks (λ asked. size ≡ asked)
+AreAsked None size = size ≤ MOST_BLOCKS
+AreAsked (Some asked) size = size ≡ asked
 
 -- The command that is asked for was done to the device of a file that held this, this came of it, and the device
 -- is handed back as that left it, but for a device that was served from; or there is no device, and the fault is

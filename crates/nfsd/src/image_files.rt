@@ -31,7 +31,10 @@ where
     ensures fresh { IfOk result (λ d. d.file.calls.items ≡ []) }
 {
     if !is_block_device(rt, path) {
-        return FileDisk::create(rt, path, blocks.unwrap_or(FILE_BLOCKS));
+        return match blocks {
+            None => FileDisk::create(rt, path, FILE_BLOCKS),
+            Some(asked) => FileDisk::create(rt, path, asked),
+        };
     }
     let (file, size) = open_device(rt, path)?;
     match blocks {
@@ -78,15 +81,15 @@ where
     Ok((file, blocks.min(u64::from(u32::MAX)) as u32))
 }
 
-// How many blocks an image has that lies on a device of this size: all of it, where its first block tells nothing
-// lawful.
+// How many blocks an image has that lies on a device of this size: all of it, where its first block can't be read or
+// tells nothing lawful.
 fn blocks_of_image<F: Read + Seek>(file: &mut F, size: u32) -> io::Result<u32> {
     let mut block = [0u8; BLOCK_BYTES];
-    if size == 0 {
-        return Ok(0);
-    }
     file.seek(SeekFrom::Start(0))?;
-    file.read_exact(&mut block)?;
+    if file.read_exact(&mut block).is_err() {
+        // The opening tells of it.
+        return Ok(size);
+    }
     match Super::read(&block) {
         Ok(found) => Ok(found.geometry.blocks.min(size)),
         Err(_) => Ok(size),

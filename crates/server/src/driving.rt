@@ -93,6 +93,7 @@ fn go_on<L: Ledger, G: Whole, I: Whole, P, S: Source, R: Wait + Clock>(
         let made = steps(rt, hall, &mut *seat);
         if made.committed {
             hall.tell_of_commit(rt);
+            wait_while_crowded(rt, hall);
         }
         if let Some(answer) = seat.take_answer() {
             return Driven::Answered(answer);
@@ -157,6 +158,21 @@ fn wait_for_room<L: Ledger, G: Whole, I: Whole, P, S, R: Wait + Clock>(
     hall.signs.to_install.ring_now(rt);
     let patience = Duration::from_millis(FULL_MILLISECONDS);
     hall.signs.rounds.wait_for_next(rt, rounds, patience);
+}
+
+// Waits while too many commits are kept, as bringing them home is slow.
+fn wait_while_crowded<L: Ledger, G: Whole, I: Whole, P, S, R: Wait + Clock>(
+    rt: &R,
+    hall: &Hall<L, G, I, P, S>,
+) {
+    for _ in rt.forever() {
+        let rounds = hall.signs.rounds.count();
+        if !hall.is_crowded(rt) {
+            return;
+        }
+        let patience = Duration::from_millis(FULL_MILLISECONDS);
+        hall.signs.rounds.wait_for_next(rt, rounds, patience);
+    }
 }
 
 // Makes the read that is due.

@@ -1,7 +1,7 @@
 //! What the threads share.
 use crate::connection::Connection;
 use crate::jobs::Jobs;
-use crate::sizes::URGENT_COMMITS;
+use crate::sizes::{MOST_KEPT_COMMITS, URGENT_COMMITS};
 use nfs_types::Moment;
 use pool::{Answer, Connections, IoSeat, Pool, Seat, Shared, Whole};
 use server_parts::{Bell, FreeSeats, Moments, Parking, Rounds, moment_of};
@@ -78,7 +78,7 @@ impl Signs {
         Ok(Signs {
             free: FreeSeats::new(alloc, seats)?,
             jobs: Jobs::new(alloc)?,
-            parking: Parking::new(alloc, settled),
+            parking: Parking::new(alloc, settled, seats)?,
             to_log: Bell::new(),
             to_install: Bell::new(),
             rounds: Rounds::new(),
@@ -177,5 +177,11 @@ impl<L: Ledger, G: Whole, I: Whole, P, S> Hall<L, G, I, P, S> {
         if look.kept > URGENT_COMMITS {
             self.signs.to_install.ring_now(rt);
         }
+    }
+
+    /// Whether so many commits are kept that who has committed waits until some of them are home.
+    pub fn is_crowded<R: Wait>(&self, rt: &R) -> bool {
+        let look = self.shared.look(rt);
+        look.kept > MOST_KEPT_COMMITS && !look.broken
     }
 }

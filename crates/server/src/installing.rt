@@ -44,8 +44,9 @@ pub fn install_all<L: Ledger, G: Whole, I: Whole, P: Port, S, R: Wait + Clock>(
             Rung::End => install(rt, hall, u64::MAX),
             _ => install(rt, hall, BARRIERS_OF_BATCH),
         };
-        // There is room in the log, or the store is broken.
+        // There is room in the log, and fewer commits are kept, or the store is broken.
         hall.signs.to_log.ring(rt);
+        hall.signs.rounds.next(rt);
         if !goes_on || rung == Rung::End {
             return;
         }

@@ -120,6 +120,14 @@ fn serve_records<L: Ledger, G: Whole, I: Whole, P, S: Source, R: Wait + Clock>(
         let Some(record) = next else {
             break;
         };
+        if !desk
+            .connection
+            .outgoing
+            .wait_for_room(rt, MOST_WAITING_BYTES)
+        {
+            goes_on = false;
+            break;
+        }
         if !serve_record(rt, hall, desk, &record, &mut replies) {
             goes_on = false;
             break;

@@ -105,6 +105,7 @@ where
     R: Threads + Wait + Clock + Sync,
 {
     let threads = hall.seats.len().min(MOST_JOB_THREADS);
+    let mut working = Vec::with_capacity(hall.alloc, threads)?;
     thread::scope(
         thread::scope_env(),
         rt,
@@ -117,13 +118,18 @@ where
             let finisher = scope.spawn(move || finish_all(rt, hall)).ok();
             let mut all = logger.is_some() && installer.is_some() && finisher.is_some();
             for _ in 0..threads {
-                all = scope.spawn(move || work_all(rt, hall)).is_ok() && all;
+                match scope.spawn(move || work_all(rt, hall)) {
+                    // There is room for each.
+                    Ok(thread) => drop(working.push(thread)),
+                    Err(_) => all = false,
+                }
             }
             if all {
                 accept_all(rt, hall, listener, connections);
             }
-            // No job comes any more: each seat is freed by who has it.
+            // No job comes any more. Those that wait are done first, and then each seat is freed by who has it.
             hall.signs.jobs.end(rt, threads);
+            join_all(rt, working);
             hall.signs.free.wait_for_all(rt);
             hall.signs.to_log.end(rt);
             join(rt, logger);
@@ -134,6 +140,13 @@ where
             if all { Ok(()) } else { Err(AllocError) }
         },
     )
+}
+
+// Waits for threads to end.
+fn join_all<R: Threads>(rt: &R, threads: Vec<JoinHandle<()>>) {
+    for thread in threads {
+        thread.join(rt);
+    }
 }
 
 // Waits for a thread to end, if it was made.

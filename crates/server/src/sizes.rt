@@ -20,6 +20,8 @@ pub const IDLE_SECONDS: u64 = 900;
 pub const INSTALL_MILLISECONDS: u64 = 50;
 /// Of how many kept commits on the installer doesn't wait.
 pub const URGENT_COMMITS: usize = 256;
+/// Of how many kept commits on who has committed waits until some are home: each keeps what it has read, up to 32 KB.
+pub const MOST_KEPT_COMMITS: usize = 2048;
 /// How often a thread that is kept off yields before it sleeps.
 pub const YIELDS: u32 = 8;
 /// How long it sleeps first, and at most.
@@ -28,5 +30,5 @@ pub const FIRST_SLEEP_MICROSECONDS: u64 = 50;
 pub const LONGEST_SLEEP_MICROSECONDS: u64 = 1000;
 /// How long is waited after an accept that failed, before the next.
 pub const ACCEPT_SLEEP_MILLISECONDS: u64 = 20;
-/// How long who found no room in the log waits for the logger, before trying again.
+/// How long who found no room in the log, or too many commits kept, waits before looking again.
 pub const FULL_MILLISECONDS: u64 = 20;

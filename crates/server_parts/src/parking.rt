@@ -19,15 +19,15 @@ pub struct Waiting {
 }
 
 impl Waiting {
-    /// No seat waits.
-    pub fn new(alloc: Global, settled: u64) -> Waiting
-        ensures settled { result.settled ≡ settled }
-        ensures parked { result.parked.items ≡ [] }
+    /// No seat waits, and there is room for so many.
+    pub fn new(alloc: Global, settled: u64, seats: usize) -> Result<Waiting, AllocError>
+        ensures settled { IfOk result (λ waiting. waiting.settled ≡ settled) }
+        ensures parked { IfOk result (λ waiting. waiting.parked.items ≡ []) }
     {
-        Waiting {
+        Ok(Waiting {
             settled,
-            parked: Vec::new(alloc),
-        }
+            parked: Vec::with_capacity(alloc, seats)?,
+        })
     }
 
     /// Parks a seat, and answers whether it did: one whose place is settled goes on at once.
@@ -87,15 +87,15 @@ pub struct Parking {
 }
 
 impl Parking {
-    /// No seat waits.
-    pub fn new(alloc: Global, settled: u64) -> Parking {
-        Parking {
+    /// No seat waits, and there is room for so many.
+    pub fn new(alloc: Global, settled: u64, seats: usize) -> Result<Parking, AllocError> {
+        Ok(Parking {
             under: Mutex::new(Under {
-                waiting: Waiting::new(alloc, settled),
+                waiting: Waiting::new(alloc, settled, seats)?,
                 ended: false,
             }),
             changed: Condvar::new(),
-        }
+        })
     }
 
     /// Parks a seat, and answers whether it did. One whose place is settled goes on at once, and so does one for

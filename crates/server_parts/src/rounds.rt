@@ -3,7 +3,7 @@ use std::sync::atomic::{AtomicU64, Ordering};
 use std::sync::{Condvar, Mutex, Wait};
 use std::time::{Clock, Duration};
 
-/// Counts how often there was room again, as far as somebody waited for it.
+/// Counts how often there was room again.
 #[derive(Drop)]
 pub struct Rounds {
     count: AtomicU64,
@@ -28,13 +28,13 @@ impl Rounds {
         self.count.load(Ordering::SeqCst)
     }
 
-    /// Tells of another, where somebody waits.
+    /// Tells of another.
     pub fn next<R: Wait>(&self, rt: &R) {
+        self.count.fetch_add(1, Ordering::SeqCst);
         if self.waiting.load(Ordering::SeqCst) == 0 {
             return;
         }
         let _guard = self.lock.lock(rt);
-        self.count.fetch_add(1, Ordering::SeqCst);
         self.changed.notify_all();
     }
 
