@@ -31,9 +31,16 @@ fn lies_in(objects: &[Object], block: BlockNo) -> bool
 pub(crate) fn is_kept<C: Change>(records: &VecDeque<Record<C>>, block: BlockNo) -> bool
     ensures { result ≡ list_any (λ kept. lies_in (C.planned kept.change).read block) records.now.items }
 {
-    records
-        .iter()
-        .any(|record| lies_in(record.change.read(), block))
+    // The newest first: what a commit read its own record has.
+    let mut i = records.len();
+    while i > 0 {
+        i -= 1;
+        let record = &records[i];
+        if lies_in(record.change.read(), block) {
+            return true;
+        }
+    }
+    false
 }
 
 /// Whether anyone has taken a part of the block, or a kept record read one.
