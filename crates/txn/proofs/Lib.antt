@@ -1,4 +1,6 @@
 pub mod Mapped
+pub mod Neat
+pub mod Ending
 pub mod Answered
 pub mod FetchedWish
 pub mod LoneTransaction

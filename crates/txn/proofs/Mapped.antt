@@ -5,8 +5,8 @@ use Rattle.std.proofs.lemmas.List.{map-append}
 use Rattle.std.specs.List.{list_any, filter}
 use Rattle.wal_law.specs.Log.{Log, installed_place}
 use Rattle.txn_law.specs.Commit.{Planned, footprint, with_record, refreshed, committed}
-use Rattle.txn_law.specs.Core.{CoreState, ended}
-use Rattle.txn_law.specs.Holds.{is_taken}
+use Rattle.txn_law.specs.Core.{CoreState, ended, installed, past, without}
+use Rattle.txn_law.specs.Holds.{is_taken, released}
 use Rattle.txn_law.specs.Records.{lies_in, swept}
 use Rattle.txn_law.specs.Window.{Footprint}
 use Rattle.txn_law.specs.declared.hold.Hold.{Hold}
@@ -66,3 +66,17 @@ committed_is old new tx plan log present records is here kept =
     { log = log; present = refreshed log old.present; records = rs })
     tx) kept in
     one ∙ ap (λ (l : Log). committed old tx plan l) (sym (ap (λ (core : CoreState). core.log) one))
+
+-- an end of a transaction leaves what it should, told by the parts
+pub ended_is : (old : CoreState) (tx : ℕ) (out : List ℕ) (holds : List Hold) (present : List Present)
+    → out ≡ without tx old.out → holds ≡ released old.holds tx
+    → present ≡ swept (released old.holds tx) old.records old.present
+    → record old { out = out; holds = holds; present = present } ≡ ended old tx
+ended_is old tx out holds present o h p = λ i. record old { out = o i; holds = h i; present = p i }
+
+-- so does an installation
+pub installed_is : (old : CoreState) (log : Log) (records : List Footprint) (present : List Present)
+    → records ≡ past (installed_place log) old.records
+    → present ≡ swept old.holds (past (installed_place log) old.records) old.present
+    → record old { log = log; records = records; present = present } ≡ installed old log
+installed_is old log records present r p = λ i. record old { log = log; records = r i; present = p i }

@@ -2,6 +2,7 @@ pub mod Outcomes
 pub mod Exactly
 pub mod Source
 pub mod Claimed
+pub mod Neat
 -- What the contracts here cite, for the crates above.
 pub use Rattle.txn_law.specs.Object
 pub use Rattle.txn_law.specs.Group

@@ -1,7 +1,8 @@
 //! The commits that aren't installed.
-ghost use Rattle.std.specs.Prelude.{◌≡◌, ◌<◌, ◌++◌, ◌∷◌, [], ◌||◌, if◌then◌else◌, is_none, nat_lt};
+ghost use Rattle.std.specs.Prelude.{◌≡◌, ◌<◌, ◌++◌, ◌∷◌, [], ◌||◌, ◌&&◌, if◌then◌else◌, is_none, nat_lt};
+ghost use Rattle.std.specs.Prelude.{All, not, nat_eq, true};
 ghost use Rattle.std.specs.List.{filter, list_any};
-ghost use Rattle.txn_law.specs.Holds.{is_taken};
+ghost use Rattle.txn_law.specs.Holds.{is_taken, released};
 ghost use Rattle.txn_law.specs.Records.{lies_in};
 ghost use Rattle.std.specs.VecDeque.{deque_len, deque_capacity};
 
@@ -30,9 +31,28 @@ fn lies_in(objects: &[Object], block: BlockNo) -> bool
 pub(crate) fn is_kept<C: Change>(records: &VecDeque<Record<C>>, block: BlockNo) -> bool
     ensures { result ≡ list_any (λ kept. lies_in (C.planned kept.change).read block) records.now.items }
 {
-    records
-        .iter()
-        .any(|record| lies_in(record.change.read(), block))
+    // The newest first: what a commit read its own record has.
+    let mut i = records.len();
+    while i > 0 {
+        i -= 1;
+        let record = &records[i];
+        if lies_in(record.change.read(), block) {
+            return true;
+        }
+    }
+    false
+}
+
+/// Whether anyone has taken a part of the block, or a kept record read one.
+pub(crate) fn is_used<C: Change>(
+    holds: &[Hold],
+    records: &VecDeque<Record<C>>,
+    block: BlockNo,
+) -> bool
+    ensures { result ≡ (is_taken holds.now block
+        || list_any (λ kept. lies_in (C.planned kept.change).read block) records.now.items) }
+{
+    is_taken(holds, block) || is_kept(records, block)
 }
 
 /// Keeps the record of a commit, for which there is room, until it is installed.
@@ -71,4 +91,82 @@ pub(crate) fn sweep<C: Change>(
     present.retain(|entry| {
         entry.content.is_none() || is_taken(holds, entry.block) || is_kept(records, entry.block)
     });
+}
+
+// Whether a hold of anyone but the transaction is of a part of the block.
+fn any_beside(holds: &[Hold], transaction: u64, block: BlockNo) -> bool
+    ensures { result ≡ list_any (λ hold. not (nat_eq hold.transaction transaction)
+        && nat_eq hold.addr.block.0 block.0) holds.now }
+{
+    holds.iter().any(|hold| hold.transaction != transaction && hold.addr.block == block)
+}
+
+// Whether anyone but the transaction has taken a part of the block.
+fn is_taken_beside(holds: &[Hold], transaction: u64, block: BlockNo) -> bool
+    ensures { result ≡ is_taken (released holds.now transaction) block }
+{
+    any_beside(holds, transaction, block)
+}
+
+// Whether a fetch of the block is pending, anyone but the transaction has taken a part of it, or a kept record
+// read one.
+fn is_needed_beside<C: Change>(
+    entry: &Present,
+    holds: &[Hold],
+    records: &VecDeque<Record<C>>,
+    transaction: u64,
+) -> bool
+    ensures { result ≡ (is_none entry.now.content
+        || is_taken (released holds.now transaction) entry.now.block
+        || list_any (λ kept. lies_in (C.planned kept.change).read entry.now.block) records.now.items) }
+{
+    entry.content.is_none()
+        || is_taken_beside(holds, transaction, entry.block)
+        || is_kept(records, entry.block)
+}
+
+// Looks at the block that a hold is of, if the transaction has it: lets go of the block, if nobody else has taken
+// a part of it, no kept record read one and no fetch is pending of it.
+fn sweep_hold<C: Change>(
+    present: &mut Vec<Present>,
+    holds: &[Hold],
+    records: &VecDeque<Record<C>>,
+    transaction: u64,
+    hold: &Hold,
+)
+    ensures { present.new.items ≡ (if nat_eq hold.now.transaction transaction
+        then filter (λ entry. not (nat_eq entry.block.0 hold.now.addr.block.0)
+        || (is_none entry.content || is_taken (released holds.now transaction) entry.block
+        || list_any (λ kept. lies_in (C.planned kept.change).read entry.block) records.now.items))
+        present.old.items
+        else present.old.items) }
+{
+    if hold.transaction != transaction {
+        return;
+    }
+    let block = hold.addr.block;
+    present.retain(|entry| {
+        entry.block != block || is_needed_beside(entry, holds, records, transaction)
+    });
+}
+
+/// Lets go of the blocks that nobody but the transaction has taken, no kept record read and no fetch is pending
+/// of, where somebody needs each: so only those are looked at that the transaction has taken.
+pub(crate) fn sweep_end<C: Change>(
+    present: &mut Vec<Present>,
+    holds: &[Hold],
+    records: &VecDeque<Record<C>>,
+    transaction: u64,
+)
+    requires { All (λ entry. (is_none entry.content || is_taken holds.now entry.block
+        || list_any (λ kept. lies_in (C.planned kept.change).read entry.block) records.now.items) ≡ true)
+        present.old.items }
+    ensures { present.new.items ≡ filter (λ entry. is_none entry.content
+        || is_taken (released holds.now transaction) entry.block
+        || list_any (λ kept. lies_in (C.planned kept.change).read entry.block) records.now.items)
+        present.old.items }
+{
+    for hold in holds {
+        sweep_hold(present, holds, records, transaction, hold);
+    }
 }

@@ -5,7 +5,7 @@ ghost use Rattle.std.specs.List.{list_any};
 ghost use Rattle.std.specs.Prelude.{nat_eq, IfOk, ◌∷◌, true, false, is_some, if◌then◌else◌, [], length, All};
 ghost use Rattle.limits.specs.declared.TheConstants.{CHANGED_BLOCKS};
 ghost use Rattle.wal_law.specs.Grows.{IsWholeChange};
-ghost use Rattle.wal_law.specs.Log.{settled_place, installed_place, tail_count, added_blocks, IsHomeOn};
+ghost use Rattle.wal_law.specs.Log.{settled_place, tail_count, added_blocks, IsHomeOn};
 ghost use Rattle.wal_law.specs.Log.{IsLawful};
 ghost use Rattle.txn_law.specs.Group.{blocks_of};
 ghost use Rattle.wal_law.specs.Calls.{LogCallGoesOut, LogCallComesBack, InstCallGoesOut, InstCallComesBack};
@@ -13,12 +13,11 @@ ghost use Rattle.wal_law.specs.Io.{IsCallWithin};
 ghost use Rattle.wal_law.specs.Logger.{IsNextLogCall, may_log, with_log_out, is_log_out, with_log_back};
 ghost use Rattle.wal_law.specs.Installer.{IsNextInstCall, may_install, with_inst_out, is_inst_out};
 ghost use Rattle.wal_law.specs.Installer.{with_inst_back};
-ghost use Rattle.txn_law.specs.Core.{IsOut, with_begun, without, ended, past, installed};
-ghost use Rattle.txn_law.specs.Records.{swept};
+ghost use Rattle.txn_law.specs.Core.{IsOut, with_begun, without, ended, installed};
 ghost use Rattle.txn_law.specs.Wishes.{IsInside};
 
 use crate::outcomes::BeginFault;
-use crate::records::{Record, forget, sweep};
+use crate::records::{Record, forget, sweep, sweep_end};
 use crate::{Change, Object, Stable, Tx};
 use disk::BlockNo;
 use holds::group::blocks_of_objects;
@@ -31,7 +30,8 @@ use std::marker::Model;
 use txn_law::{Hold, Present};
 use wal::{InstIo, LogIo, Seq, Wal};
 
-/// What a core has.
+/// What a core has. Its type keeps that nothing is in memory that nobody needs, and that no commit is kept that
+/// is installed: so only what an end or an installation changes is looked through.
 #[derive(Drop)]
 pub(crate) struct State<C: Change> {
     pub(crate) log: Wal,
@@ -64,6 +64,11 @@ impl<C: Change> Model for State<C> {
       present = c.present.items;
       records = map (λ r. footprint r.place.0 (C.planned r.change)) c.records.items;
     } };
+
+    ghost use Rattle.txn.specs.Neat.{IsNeat};
+
+    ghost invariant = { λ c. IsNeat c.log c.holds.items
+        (map (λ r. footprint r.place.0 (C.planned r.change)) c.records.items) c.present.items };
 }
 
 impl<C: Change> State<C> {
@@ -157,24 +162,8 @@ impl<C: Change> State<C> {
         ensures { self.new ≡ ended self.old transaction }
     {
         leave(&mut self.out, transaction);
+        sweep_end(&mut self.present, &self.holds, &self.records, transaction);
         release(&mut self.holds, transaction);
-        self.sweep();
-    }
-
-    // Lets go of the records of the commits that are installed.
-    fn forget(&mut self)
-        ensures { self.new
-            ≡ record self.old { records = past (installed_place self.old.log) self.old.records } }
-    {
-        forget(&mut self.records, self.log.installed());
-    }
-
-    // Lets go of the blocks that nobody has taken, no kept record read and no fetch is pending of.
-    pub(crate) fn sweep(&mut self)
-        ensures { self.new
-            ≡ record self.old { present = swept self.old.holds self.old.records self.old.present } }
-    {
-        sweep(&mut self.present, &self.holds, &self.records);
     }
 
     // Whether the transaction is out, and a change may write the address's block.
@@ -282,10 +271,22 @@ impl<C: Change> State<C> {
         ensures others { self.new ≡ installed self.old self.new.log }
         ensures law { InstCallComesBack self.old.log io ok self.new.log }
     {
+        let before = self.log.installed();
         self.log.inst_done(io, ok);
-        self.forget();
-        self.sweep();
+        let installed = self.log.installed();
+        if is_at_most(installed, before) {
+            return;
+        }
+        forget(&mut self.records, installed);
+        sweep(&mut self.present, &self.holds, &self.records);
     }
+}
+
+// Whether the place is no further than the other.
+fn is_at_most(place: Seq, other: Seq) -> bool
+    ensures { IsTrue result ↔ (place.0 ≤ other.0) }
+{
+    place <= other
 }
 
 // Whether the number is among these.

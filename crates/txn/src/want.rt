@@ -6,10 +6,11 @@ ghost use Rattle.txn.specs.Exactly.{IsWantedExactly, IsClaimedExactly};
 ghost use Rattle.txn_law.specs.Present.{present_of, is_pending};
 ghost use Rattle.txn_law.specs.Window.{part};
 ghost use Rattle.txn_law.specs.Wishes.{IsWhole};
-ghost use Rattle.txn_law.specs.Fetched.{fetched, fetch_failed};
+ghost use Rattle.txn_law.specs.Fetched.{fetched, fetch_failed, filled};
 ghost use Rattle.txn.specs.Source.{IsSource, IsSourceWithin};
 
 use crate::outcomes::{Claim, Want};
+use crate::records::{is_used, sweep};
 use crate::state::State;
 use crate::{Change, FetchIo, Tx};
 use disk::{Block, BlockNo};
@@ -17,6 +18,7 @@ use holds::present::{add, content_of, fill, is_pending, let_go};
 use holds::taken::{for_fetching, for_reading, for_writing, is_free, take};
 use objects::{Addr, Mode};
 use std::alloc::{AllocError, Global};
+use txn_law::Present;
 
 // What want found, before the transaction is handed back.
 enum Source {
@@ -115,8 +117,11 @@ impl<C: Change> State<C> {
         ensures { self.new ≡ fetched self.old io.block io.content }
     {
         let FetchIo { block, buffer } = io;
-        fill(&mut self.present, block, buffer);
-        self.sweep();
+        put(&mut self.present, block, buffer);
+        if is_used(&self.holds, &self.records, block) {
+            return;
+        }
+        sweep(&mut self.present, &self.holds, &self.records);
     }
 
     /// Gives a fetch back that failed. The next want of the block asks for it again.
@@ -126,6 +131,13 @@ impl<C: Change> State<C> {
         let FetchIo { block, buffer: _ } = io;
         let_go(&mut self.present, block);
     }
+}
+
+// Puts the content of a block in its place, where its fetch is pending.
+fn put(present: &mut Vec<Present>, block: BlockNo, content: Block)
+    ensures { present.new.items ≡ filled present.old.items block content }
+{
+    fill(present, block, content);
 }
 
 // The bytes of a block that an object has.
