@@ -8,23 +8,17 @@ use Rattle.nfs_types.specs.declared.program.ProgramCall.{ProgramCall}
 use Rattle.nfs_types.specs.declared.program.ProgramCall.TheVariants as programs
 use Rattle.nfs_types.specs.declared.program.ProgramReply.{ProgramReply}
 use Rattle.nfs_types.specs.declared.program.ProgramReply.TheVariants as replies
-use Rattle.nfs_types.specs.declared.reply.Reply.{Reply}
-use Rattle.nfs_types.specs.declared.status.Status.TheVariants as status
+use Rattle.nfs_types.specs.declared.reply.Reply.TheVariants as reply
 use Rattle.model.specs.Mount.{mount_reply}
-use Rattle.model.specs.Refused.{refused}
 
--- The calls that are served: each begins a transaction of its own. NULL has no rules, as it does nothing.
-abbrev pub has_rules : Call → Bool
-has_rules call.Null = false
-has_rules _ = true
-
--- The reply to a call that isn't served: NOTSUPP, with nothing told of any file. NULL is never refused.
-abbrev pub unsupported : Call → Reply
-unsupported c = refused status.NotSupp c
+-- Whether a call begins a transaction of its own: each procedure's does but that of NULL, which does nothing.
+abbrev pub begins_transaction : Call → Bool
+begins_transaction call.Null = false
+begins_transaction _ = true
 
 -- The reply to a call that begins no transaction: a function of the call alone.
 abbrev pub plain_reply : ProgramCall → ProgramReply
-plain_reply (programs.Nfs asked) = replies.Nfs (unsupported asked)
+plain_reply (programs.Nfs asked) = replies.Nfs reply.Null
 plain_reply (programs.Mount asked) = replies.Mount (mount_reply asked)
 
 abbrev pub is_unstable : Stability → Bool

@@ -2,10 +2,11 @@
 use Rattle.std.proofs.Common.{◌≡◌, ◌∙◌, refl, sym, ap, subst, ℕ, Bool, true, false, true≢false, Option, Some, None, inl, inr}
 use Rattle.std.specs.Prelude.{IsSomeAnd, IsTrue, MatchOption, if◌then◌else◌, is_some, ◌↔◌, ◌≤◌, unwrap_or}
 use Rattle.disk.specs.declared.block.BlockNo.{BlockNo}
-use Rattle.model.specs.Calls.{has_rules, is_answered_stable, unsupported}
+use Rattle.model.specs.Calls.{begins_transaction, is_answered_stable}
 use Rattle.model.specs.Refused.{refused}
 use Rattle.nfs_types.specs.declared.call.Call.{Call}
 use Rattle.nfs_types.specs.declared.reply.Reply.{Reply}
+use Rattle.nfs_types.specs.declared.reply.Reply.TheVariants.{Null}
 use Rattle.nfs_types.specs.declared.status.Status.TheVariants as status
 use Rattle.objects.specs.declared.addr.Addr.{Addr}
 use Rattle.objects.specs.declared.mode.Mode.TheVariants as modes
@@ -106,12 +107,12 @@ module _ (job : Job) (old new : Side) (none : old.worker.work.answer ≡ None) w
   refuses base mine why of worker = answers base (refusal mine.call why) None
       (inr (inl (why, ap (λ (call : Call). refusal call why) of.1))) worker
 
-  replies : (mine : own.Job) → IsOf job mine → has_rules mine.call ≡ false
-      → new.worker ≡ with_answer (verdict.Reply (unsupported mine.call)) None old.worker → Leaves job new.worker
-  replies mine of served worker = answers old.worker (verdict.Reply (unsupported mine.call)) None
+  replies : (mine : own.Job) → IsOf job mine → begins_transaction mine.call ≡ false
+      → new.worker ≡ with_answer (verdict.Reply Null) None old.worker → Leaves job new.worker
+  replies mine of served worker = answers old.worker (verdict.Reply Null) None
       (inr (inr (
-        sym (ap has_rules of.1) ∙ served,
-        ap (λ (call : Call). verdict.Reply (unsupported call)) of.1,
+        sym (ap begins_transaction of.1) ∙ served,
+        refl,
       ))) worker
 
   -- one that is kept off waits, or begins again: its call stays

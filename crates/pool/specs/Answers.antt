@@ -1,10 +1,11 @@
 -- What a seat hands over.
 use Rattle.std.specs.Prelude.{◌≡◌, ◌≤◌, ◌⊎◌, ℕ, true, false, Option, Some}
 use Rattle.layout.specs.declared.geometry.Geometry.{Geometry}
-use Rattle.model.specs.Calls.{has_rules, is_answered_stable, unsupported}
+use Rattle.model.specs.Calls.{begins_transaction, is_answered_stable}
 use Rattle.nfs_types.specs.declared.ctx.Ctx.{Ctx}
 use Rattle.nfs_types.specs.declared.program.ProgramReply.TheVariants as program_replies
 use Rattle.nfs_types.specs.declared.reply.Reply.{Reply}
+use Rattle.nfs_types.specs.declared.reply.Reply.TheVariants.{Null}
 use Rattle.procs.specs.Outcome.{Outcome}
 use Rattle.procs.specs.Steps.{IsStepOf}
 use Rattle.rpc.specs.declared.refusal.Refusal.TheVariants.{SystemError}
@@ -66,8 +67,8 @@ IsInItsPlace job given = (why : Cause) × (given.verdict ≡ refusal job.call wh
 
 -- the reply to a call that begins no transaction
 abbrev pub IsWithoutTransaction : Job → CallAnswer → Type 0
-IsWithoutTransaction job given = (has_rules job.call ≡ false)
-    × (given.verdict ≡ verdict.Reply (unsupported job.call))
+IsWithoutTransaction job given = (begins_transaction job.call ≡ false)
+    × (given.verdict ≡ verdict.Reply Null)
 
 abbrev pub AnswersJob : Job → CallAnswer → Type 0
 AnswersJob job given = IsOfItsChange job given ⊎ (IsInItsPlace job given ⊎ IsWithoutTransaction job given)

@@ -27,8 +27,7 @@ use Rattle.nfs_types.specs.declared.reply.Reply.{Reply}
 use Rattle.nfs_types.specs.declared.reply.Reply.TheVariants as reply
 use Rattle.nfs_types.specs.declared.status.Status.{Status}
 use Rattle.nfs_types.specs.declared.status.Status.TheVariants as status
-use Rattle.model.specs.Attributes.{untold}
-use Rattle.model.specs.Calls.{is_answered_stable, unsupported}
+use Rattle.model.specs.Calls.{is_answered_stable}
 use Rattle.model.specs.Find.{find_file, is_number, number_in, same_stamp, stamp_in, stamped}
 use Rattle.model.specs.GetAttr.{attributes_found}
 use Rattle.model.specs.Node.{Node, Body, DirectoryEntry, Regular, Directory, Link}
@@ -65,19 +64,11 @@ use Rattle.procedures.specs.ReadLink.{target_of}
 use Rattle.procedures.specs.Rename.{Place, file_in, move, move_refusal, new_slot, places_refusal, rename}
 use Rattle.procedures.specs.Rename.{goes_below_itself, has_no_link, is_other_sort, rename_file, renaming}
 use Rattle.procedures.specs.Rename.{with_moved}
-use Rattle.procedures.specs.Told.{Acts, Effect, Tells, answer_of, change_told}
+use Rattle.procedures.specs.Told.{Acts, Effect, Tells, answer_of}
 use Rattle.procedures.specs.Step.{numbered_step}
 
-abbrev is_unsupported : Status → Bool
-is_unsupported status.NotSupp = true
-is_unsupported _ = false
-
--- a status that no test answers
-abbrev is_untested : Status → Bool
-is_untested s = is_failure s || is_unsupported s
-
 abbrev fails : {A : Type 0} → Result A Status → Bool
-fails outcome = fails_with is_untested outcome
+fails outcome = fails_with is_failure outcome
 
 abbrev is_mknod : Call → Bool
 is_mknod (call.MkNod _ _) = true
@@ -85,16 +76,16 @@ is_mknod _ = false
 
 fails_test : Option Status → Bool
 fails_test None = false
-fails_test (Some status) = is_untested status
+fails_test (Some status) = is_failure status
 
-chosen : (b : Bool) (s : Status) (rest : Option Status) → is_untested s ≡ false → fails_test rest ≡ false
+chosen : (b : Bool) (s : Status) (rest : Option Status) → is_failure s ≡ false → fails_test rest ≡ false
     → fails_test (cond b (Some s) rest) ≡ false
 unfolding fails_test
 chosen true s rest one two = one
 chosen false s rest one two = two
 
 abbrev are_fine : List (Bool × Status) → Bool
-are_fine tests = list_all (λ test. not (is_untested test.1)) tests
+are_fine tests = list_all (λ test. not (is_failure test.1)) tests
 
 first_of : (a b : Bool) → (a && b) ≡ true → a ≡ true
 first_of true b e = refl
@@ -218,7 +209,7 @@ target_fine (Regular bytes mapped) = refl
 target_fine (Directory named span parent) = refl
 target_fine (Link target) = refl
 
-ok_or_fine : {A : Type 0} (o : Option A) (s : Status) → is_untested s ≡ false → fails (ok_or o s) ≡ false
+ok_or_fine : {A : Type 0} (o : Option A) (s : Status) → is_failure s ≡ false → fails (ok_or o s) ≡ false
 ok_or_fine None s e = e
 ok_or_fine (Some x) s e = refl
 
@@ -326,7 +317,7 @@ listing_fine caller cookie verifier count directory left some = by_tests (
 
 pub untested : (tree next : Tree) (ctx : Ctx) (new : Option ℕ) (asked : Call) (answered : Reply)
     → is_mknod asked ≡ false → numbered_step tree ctx new asked answered next
-    → tells_one_of is_untested answered ≡ false
+    → tells_one_of is_failure answered ≡ false
 untested tree next ctx new (call.GetAttr object) (reply.GetAttr outcome) e s =
     ap fails s.told ∙ attributes_fine (find_file tree object.bytes) (find_fine tree object.bytes)
 untested tree next ctx new (call.SetAttr object wanted guard) (reply.SetAttr outcome told) e s =
@@ -469,14 +460,10 @@ untested tree next ctx new _ _ e s = absurd s
 
 -- ---- MKNOD is refused whatever it names
 
-first_is : (a b : Bool) → (a || b) ≡ false → a ≡ false
-first_is true b e = cc
-first_is false b e = refl
-
 mknod_fine : (found : Result (ℕ × Node) Status) → fails found ≡ false
     → fails_with is_failure (answer_of {A = Created} (found_then found (λ _ _. Err status.NotSupp))) ≡ false
 mknod_fine (Ok found) e = refl
-mknod_fine (Err s) e = first_is (is_failure s) (is_unsupported s) e
+mknod_fine (Err s) e = e
 
 mknod_told : (tree next : Tree) (ctx : Ctx) (new : Option ℕ) (asked : Call) (answered : Reply)
     → is_mknod asked ≡ true → numbered_step tree ctx new asked answered next → tells_failure answered ≡ false
@@ -486,20 +473,14 @@ mknod_told tree next ctx new (call.MkNod name special) (reply.MkNod outcome told
 mknod_told tree next ctx new (call.MkNod name special) _ e s = absurd s
 mknod_told tree next ctx new _ _ e s = cc
 
-mknod_untold : (next : Tree) (found : Result (ℕ × Node) Status) → fails found ≡ false
-    → Err status.NotSupp ≡ answer_of {A = Created} (found_then found (λ _ _. Err status.NotSupp))
-    → untold ≡ change_told next found → ⊥
-mknod_untold next (Ok found) e answered parts = let no = ap (λ (told : WeakCacheData). told.before) parts in cc
-mknod_untold next (Err s) e answered parts = let no : true ≡ false = ap fails answered ∙ e in cc
-
 -- ---- no step tells of a failure
 
 outcome_fine : {A : Type 0} (outcome : Result A Status) → fails outcome ≡ false
     → fails_with is_failure outcome ≡ false
 outcome_fine (Ok answer) e = refl
-outcome_fine (Err s) e = first_is (is_failure s) (is_unsupported s) e
+outcome_fine (Err s) e = e
 
-reply_fine : (given : Reply) → tells_one_of is_untested given ≡ false → tells_failure given ≡ false
+reply_fine : (given : Reply) → tells_one_of is_failure given ≡ false → tells_failure given ≡ false
 reply_fine reply.Null e = refl
 reply_fine (reply.GetAttr outcome) e = outcome_fine outcome e
 reply_fine (reply.SetAttr outcome _) e = outcome_fine outcome e
@@ -538,17 +519,3 @@ pub told_stable : (failure : Status) (asked : Call) → is_failure failure ≡ t
     → is_answered_stable asked ≡ true → tells_failure (refused failure asked) ≡ true
 told_stable failure call.Null fails stable = cc
 told_stable failure _ fails stable = fails
-
--- ---- what isn't served is no step
-
-never : true ≡ false → ⊥
-never e = cc
-
-pub unsupported_never : (tree next : Tree) (ctx : Ctx) (new : Option ℕ) (asked : Call)
-    → numbered_step tree ctx new asked (unsupported asked) next → ⊥
-unsupported_never tree next ctx new call.Null s = s
-unsupported_never tree next ctx new (call.MkNod name special) s =
-    mknod_untold next (find_file tree name.directory.bytes) (find_fine tree name.directory.bytes) s.answered
-    s.parts
-unsupported_never tree next ctx new asked s =
-    never (untested tree next ctx new asked (unsupported asked) refl s)

@@ -3,16 +3,10 @@ ghost use Rattle.std.specs.Prelude.{◌≡◌, true};
 ghost use Rattle.nfs_types.specs.declared.call.Call.{Call};
 ghost use Rattle.nfs_types.specs.declared.ctx.Ctx.{Ctx};
 ghost use Rattle.nfs_types.specs.declared.status.Status.TheVariants as status;
-ghost use Rattle.model.specs.Calls.{is_answered_stable, unsupported};
+ghost use Rattle.model.specs.Calls.{is_answered_stable};
 ghost use Rattle.model.specs.Refused.{refused};
 ghost use Rattle.model.specs.Tree.{Tree};
 ghost use Rattle.procedures.specs.Step.{step};
-
-/// The reply to a call that isn't served is no step of the sequential server, whatever the call.
-pub fn an_unsupported_call_is_no_step()
-    ensures { (tree next : Tree) (ctx : Ctx) (asked : Call)
-        → step tree ctx asked (unsupported asked) next → ⊥ }
-{}
 
 /// Of a call that is answered only once what it changed is stable, no step replies IO or SERVERFAULT: those
 /// tell that the store failed, and not what the procedure found.

@@ -16,7 +16,7 @@ pub use bits::{
     ACCESS_DELETE, ACCESS_EXECUTE, ACCESS_EXTEND, ACCESS_LOOKUP, ACCESS_MODIFY, ACCESS_READ,
     HAS_LINKS, HAS_SYMBOLIC_LINKS, IS_HOMOGENEOUS, SETS_TIMES,
 };
-pub use calls::{an_unsupported_call_is_no_step, no_stable_answer_tells_a_failure};
+pub use calls::no_stable_answer_tells_a_failure;
 pub use cookies::{FIRST_SLOT_COOKIE, ITSELF_COOKIE, PARENT_COOKIE};
 pub use files::{
     a_commit_bears_the_verifier_of_what_was_written, a_hole_is_zeros,

@@ -4,7 +4,7 @@ use Rattle.limits.specs.declared.TheConstants.{CHANGED_BLOCKS}
 use Rattle.nfs_types.specs.declared.call.Call.{Call}
 use Rattle.nfs_types.specs.declared.ctx.Ctx.{Ctx}
 use Rattle.nfs_types.specs.declared.reply.Reply.{Reply}
-use Rattle.model.specs.Calls.{has_rules}
+use Rattle.model.specs.Calls.{begins_transaction}
 use Rattle.txn.specs.Group.{blocks_of}
 use Rattle.txn.specs.Object.{ObjectBytes}
 use Rattle.inode.specs.declared.snap.Snap.{Snap}
@@ -27,7 +27,7 @@ pub record IsFinished (done : Outcome) : Type 0 where
   pub ctx : Ctx
   pub asked : Call
   pub snap : Snap
-  pub served : has_rules asked ≡ true
+  pub served : begins_transaction asked ≡ true
   pub ends : EndsFrom snap done
   pub step : IsStepOf snap.geometry ctx asked done
   pub few : ChangesFew CHANGED_BLOCKS done

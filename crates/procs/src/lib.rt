@@ -20,5 +20,5 @@ pub use done::Done;
 pub use inode::Snap;
 pub use next::Plan;
 pub use refused::refused_reply;
-pub use rules::{has_rules, is_answered_stable};
+pub use rules::{begins_transaction, is_answered_stable};
 pub use work::plan;

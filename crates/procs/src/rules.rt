@@ -1,12 +1,12 @@
-//! Which calls are served.
+//! What is known of a call before its plan.
 ghost use Rattle.std.specs.Prelude.{◌≡◌};
-ghost use Rattle.model.specs.Calls.{has_rules, is_answered_stable, is_unstable};
+ghost use Rattle.model.specs.Calls.{begins_transaction, is_answered_stable, is_unstable};
 
 use nfs_types::{Call, Stability};
 
-/// Whether the call is served: each but NULL, which does nothing (RFC 1813, section 3.3).
-pub fn has_rules(call: &Call) -> bool
-    ensures { result ≡ has_rules call.now }
+/// Whether the call begins a transaction: each but NULL, which does nothing (RFC 1813, section 3.3).
+pub fn begins_transaction(call: &Call) -> bool
+    ensures { result ≡ begins_transaction call.now }
 {
     !matches!(call, Call::Null)
 }

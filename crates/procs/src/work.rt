@@ -1,6 +1,6 @@
 //! Plans: what a call needs next, or what comes of it.
 ghost use Rattle.std.specs.Prelude.{◌≡◌, true, IfErr, IfOk};
-ghost use Rattle.model.specs.Calls.{has_rules};
+ghost use Rattle.model.specs.Calls.{begins_transaction};
 ghost use Rattle.inode.specs.Snap.{IsNew};
 ghost use Rattle.procs.specs.Asks.{IsAsked};
 ghost use Rattle.procs.specs.Finished.{EndsFrom};
@@ -22,7 +22,7 @@ use std::alloc::Global;
 
 // What comes of a call that is served, or what stands in its way, by the one body of its procedure.
 fn answer(alloc: Global, ctx: &Ctx, call: &Call, snap: &Snap) -> Result<Draft, Stop>
-    requires { has_rules call.now ≡ true }
+    requires { begins_transaction call.now ≡ true }
     ensures ok { IfOk result (λ done. EndsFrom snap.now done) }
     ensures step { IfOk result (λ done. IsStepOf snap.now.geometry ctx.now call.now done) }
     ensures err { IfErr result (λ stop. IsNew snap.now stop) }
@@ -58,7 +58,7 @@ fn answer(alloc: Global, ctx: &Ctx, call: &Call, snap: &Snap) -> Result<Draft, S
 // The same, where the file of the call's first handle is read before. Where the layout refuses nothing that was
 // read, it doesn't refuse this file.
 fn answer_behind(alloc: Global, ctx: &Ctx, call: &Call, snap: &Snap) -> Result<Draft, Stop>
-    requires { has_rules call.now ≡ true }
+    requires { begins_transaction call.now ≡ true }
     ensures ok { IfOk result (λ done. EndsFrom snap.now done) }
     ensures step { IfOk result (λ done. IsStepOf snap.now.geometry ctx.now call.now done) }
     ensures err { IfErr result (λ stop. IsNew snap.now stop) }
@@ -78,7 +78,7 @@ fn answer_behind(alloc: Global, ctx: &Ctx, call: &Call, snap: &Snap) -> Result<D
 // The same, where nothing that was read is refused. All of it is looked through once, when nothing more is to be
 // read.
 fn work(alloc: Global, ctx: &Ctx, call: &Call, snap: &Snap) -> Result<Draft, Stop>
-    requires { has_rules call.now ≡ true }
+    requires { begins_transaction call.now ≡ true }
     ensures ok { IfOk result (λ done. EndsFrom snap.now done) }
     ensures step { IfOk result (λ done. IsStepOf snap.now.geometry ctx.now call.now done) }
     ensures err { IfErr result (λ stop. IsNew snap.now stop) }
@@ -100,7 +100,7 @@ fn work(alloc: Global, ctx: &Ctx, call: &Call, snap: &Snap) -> Result<Draft, Sto
 
 // A call is done.
 fn finish(ctx: &Ctx, call: &Call, snap: &Snap, draft: Draft) -> Plan
-    requires served { has_rules call.now ≡ true }
+    requires served { begins_transaction call.now ≡ true }
     requires ends { EndsFrom snap.now draft }
     requires step { IsStepOf snap.now.geometry ctx.now call.now draft }
     ensures plan { IsPlanFor snap.now result }
@@ -116,7 +116,7 @@ fn finish(ctx: &Ctx, call: &Call, snap: &Snap, draft: Draft) -> Plan
 /// told and nothing written. Where blocks stand for a tree what comes of the call is a step of the sequential server, so that
 /// it is never IO there.
 pub fn plan(alloc: Global, ctx: &Ctx, call: &Call, snap: &Snap) -> Plan
-    requires { has_rules call.now ≡ true }
+    requires { begins_transaction call.now ≡ true }
     ensures plan { IsPlanFor snap.now result }
     ensures step { IsStepPlan snap.now.geometry ctx.now call.now result }
     ensures io { IsIoWhereRefused call.now snap.now result }

@@ -3,7 +3,7 @@
 use Rattle.std.proofs.Common.{◌≡◌, ◌⊎◌, inl, inr, ℕ, ◌+◌, ◌≤◌, ap, sym, ◌∙◌, refl, subst, arith, Bool, true}
 use Rattle.std.proofs.Common.{false}
 use Rattle.std.proofs.Common.{if◌then◌else◌, slice_get, List, Option, Some, None, Ok, Err}
-use Rattle.model.specs.Calls.{has_rules, is_answered_stable}
+use Rattle.model.specs.Calls.{begins_transaction, is_answered_stable}
 use Rattle.store_promise.specs.declared.aims.Aim.{Aim}
 use Rattle.store_promise.specs.declared.events.Event.{Event}
 use Rattle.store_promise.specs.declared.events.Event.TheVariants as event
@@ -69,7 +69,7 @@ module _ (o : Setting) (workers : ℕ) (told : Told) (now : Event) (made : Optio
           record {
             own = work;
             is = is_step;
-            fresh = next_number (has_rules job.call) number
+            fresh = next_number (begins_transaction job.call) number
                 (subst (λ (p : Progress). IsStepOfWork o told worker p
                 (Some (step.Begun (Ok number)))) at of_work);
           }

@@ -7,7 +7,7 @@ use Rattle.std.proofs.lemmas.List.{length-append}
 use Rattle.limits.specs.declared.TheConstants.{CHANGED_BLOCKS}
 use Rattle.disk.specs.Device.{Device}
 use Rattle.disk.specs.Failures.{failures_from}
-use Rattle.model.specs.Calls.{has_rules, unsupported}
+use Rattle.model.specs.Calls.{begins_transaction}
 use Rattle.model.specs.Entry.{Entry}
 use Rattle.model.specs.Refused.{refused}
 use Rattle.model.specs.Tree.{Tree}
@@ -18,6 +18,7 @@ use Rattle.nfs_types.specs.declared.ctx.Moment.{Moment}
 use Rattle.nfs_types.specs.declared.mount.MountCall.{MountCall}
 use Rattle.nfs_types.specs.declared.program.ProgramCall.TheVariants as calls
 use Rattle.nfs_types.specs.declared.status.Status.TheVariants as status
+use Rattle.nfs_types.specs.declared.reply.Reply.TheVariants.{Null}
 use Rattle.procedures.specs.Step as procedures
 use Rattle.session_wire.specs.declared.message.Judged.{Judged}
 use Rattle.session_wire.specs.declared.message.Judged.TheVariants.{Closed, Refused, Call}
@@ -256,7 +257,7 @@ module _ (boot : ℕ) (moment : Moment) (end : Device) where
     refused_so : (why : Cause) (later : Files) → IsLater old.device new.device → AgreesWith new
         → verdict ≡ refusal asked why → store.HasCause o new why
         → wire.Stays s (standing_of old files.last) (standing_of new later.last)
-        → wire.IsReplyWithRules s (standing_of old files.last) xid credential asked bytes
+        → wire.IsTransactionReply s (standing_of old files.last) xid credential asked bytes
         (standing_of new later.last)
     refused_so cause.Io later past same is because at =
         wire.Failed at (has_failed old new files later past same because) (told_as (refusal asked cause.Io) is)
@@ -265,10 +266,10 @@ module _ (boot : ℕ) (moment : Moment) (end : Device) where
     refused_so cause.NoMemory later past same is because at =
         wire.NoMemory at (told_as (refusal asked cause.NoMemory) is)
 
-    by_rules : (rules : Bool) (later : Files) → has_rules asked ≡ rules
+    by_rules : (rules : Bool) (later : Files) → begins_transaction asked ≡ rules
         → wire.IsNfsReply s (standing_of old files.last) rules xid credential asked bytes
         (standing_of new later.last)
-        → wire.IsNfsReply s (standing_of old files.last) (has_rules asked) xid credential asked bytes
+        → wire.IsNfsReply s (standing_of old files.last) (begins_transaction asked) xid credential asked bytes
         (standing_of new later.last)
     by_rules rules later is reply = subst (λ (b : Bool). wire.IsNfsReply s (standing_of old files.last) b
         xid credential asked bytes (standing_of new later.last)) (sym is) reply
@@ -277,28 +278,28 @@ module _ (boot : ℕ) (moment : Moment) (end : Device) where
         → IsOpenFor new (left entry last) → store.GoesTo old new → IsLater old.device new.device
         → AgreesWith new
         → store.Tells o entry verdict new
-        → wire.IsNfsReply s (standing_of old files.last) (has_rules asked) xid credential asked bytes
+        → wire.IsNfsReply s (standing_of old files.last) (begins_transaction asked) xid credential asked bytes
         (standing_of new last)
     by_entry (Some entry) last made after goes past same (inl reply) =
-        by_rules true (left (Some entry) last) made.begun_for.rules (wire.Done entry.reply
+        by_rules true (left (Some entry) last) made.begun_for.begins (wire.Done entry.reply
         (steps entry last made after (goes_on old new files (left (Some entry) last) goes past same))
         (told_as (verdicts.Reply entry.reply) reply.told_is))
     by_entry (Some entry) last made after goes past same (inr un) =
-        by_rules true (left (Some entry) last) made.begun_for.rules
+        by_rules true (left (Some entry) last) made.begun_for.begins
         (wire.Unsettled entry.reply
         (steps entry last made after (goes_on old new files (left (Some entry) last) goes past same))
         (has_broken old new files (left (Some entry) last) same un.failed) un.stable
         (told_as (verdicts.Reply (refused status.Io asked)) un.told_is))
     by_entry None last comes after goes past same (inl un) =
-        by_rules false (left None last) un.rules (
+        by_rules false (left None last) un.begins (
           record {
             stays = stays last comes after (goes_on old new files (left None last) goes past same);
             numbers = ap (λ (n : ℕ). n + 1) un.begun;
           },
-          inl (told_as (verdicts.Reply (unsupported asked)) un.told_is),
+          inl (told_as (verdicts.Reply Null) un.told_is),
         )
     by_entry None last comes after goes past same (inr why) =
-        by_rules true (left None last) why.rules
+        by_rules true (left None last) why.begins
         (refused_so why.why (left None last) past same why.told_is why.because
         (stays last comes after (goes_on old new files (left None last) goes past same)))
 
@@ -340,14 +341,14 @@ module _ (boot : ℕ) (moment : Moment) (end : Device) where
   one_message K settled old files (Call xid credential (calls.Nfs asked)) bytes new later one other
       is is_open same
       answered (inr (error, at, fs)) =
-      subst (λ (to : wire.Standing). wire.IsNfsReply s (standing_of old files.last) (has_rules asked) xid
+      subst (λ (to : wire.Standing). wire.IsNfsReply s (standing_of old files.last) (begins_transaction asked) xid
       credential asked
       bytes to) (sym (same_standing old new files later at fs))
-      (no_memory (has_rules asked) old files xid credential asked bytes error)
+      (no_memory (begins_transaction asked) old files xid credential asked bytes error)
   one_message K settled old files (Call xid credential (calls.Nfs asked)) bytes new later one other
       is is_open same
       answered (inl (verdict, has, fs, spelled, by)) =
-      subst (λ (f : Files). wire.IsNfsReply s (standing_of old files.last) (has_rules asked) xid
+      subst (λ (f : Files). wire.IsNfsReply s (standing_of old files.last) (begins_transaction asked) xid
       credential asked bytes
       (standing_of new f.last)) (sym fs)
       (by_entry old new files credential asked xid bytes verdict is is_open spelled has.entry has.last has.comes

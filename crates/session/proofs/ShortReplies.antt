@@ -9,7 +9,7 @@ use Rattle.std.specs.FinMap as map
 use Rattle.std.specs.Option.{ok_or, option_map}
 use Rattle.limits.specs.declared.TheConstants.{LISTING_BYTES, NEW_DIRECTORY_MODE, NEW_LINK_MODE, TARGET_BYTES, TRANSFER_BYTES}
 use Rattle.model.specs.Attributes.{untold}
-use Rattle.model.specs.Calls.{has_rules}
+use Rattle.model.specs.Calls.{begins_transaction}
 use Rattle.model.specs.Find.{find_file}
 use Rattle.model.specs.Node.{Body, Directory, Link, Node, Regular}
 use Rattle.model.specs.Refused.{refused as refused_reply}
@@ -260,7 +260,7 @@ boots boot = verifiers (boot_verifier boot) (search rules)
 -- ---- a step's reply is short, in a sound tree
 
 module _ (tree : Tree) (ctx : Ctx) (new : Option ℕ) (next : Tree) (sound : Sound tree) where
-  numbered_is_short : (c : types.Call) (reply : Reply) → has_rules c ≡ true
+  numbered_is_short : (c : types.Call) (reply : Reply) → begins_transaction c ≡ true
       → numbered_step tree ctx new c reply next → IsShortReply reply
   unfolding get_attr set_attr lookup access read_link read write create remove rename link read_dir read_dir_plus
       fs_stat fs_info path_conf commit
@@ -416,7 +416,7 @@ module _ (tree : Tree) (ctx : Ctx) (new : Option ℕ) (next : Tree) (sound : Sou
   numbered_is_short call.Null reply rules is = absurd (true≢false (sym rules))
 
 pub step_is_short : (tree : Tree) (ctx : Ctx) (c : types.Call) (reply : Reply) (next : Tree) → Sound tree
-    → has_rules c ≡ true → step tree ctx c reply next → IsShortReply reply
+    → begins_transaction c ≡ true → step tree ctx c reply next → IsShortReply reply
 step_is_short tree ctx c reply next sound rules is =
     numbered_is_short tree ctx is.new next sound c reply rules is.leads
 
@@ -448,7 +448,7 @@ pub never_too_long : (xid : ℕ) (o : Outset) (entry : Option Entry) (last : Tre
 never_too_long xid o (Some entry) last told now sound comes (inl reply) =
     subst (IsFine xid) (sym reply.told_is)
     (not_long xid entry.reply (step_is_short o.last entry.ctx entry.call entry.reply last sound
-    (subst (λ (c : types.Call). has_rules c ≡ true) (sym comes.call) comes.begun_for.rules) comes.step))
+    (subst (λ (c : types.Call). begins_transaction c ≡ true) (sym comes.call) comes.begun_for.begins) comes.step))
 never_too_long xid o (Some entry) last told now sound comes (inr unsettled) =
     subst (IsFine xid) (sym unsettled.told_is) (fine_refusal xid o.asked.call cause.Io)
 never_too_long xid o None last told now sound comes (inl unserved) =

@@ -9,7 +9,7 @@ use Rattle.nfs_types.specs.declared.ctx.Ctx.{Ctx}
 use Rattle.nfs_types.specs.declared.program.ProgramCall.{ProgramCall}
 use Rattle.nfs_types.specs.declared.program.ProgramCall.TheVariants as program_calls
 use Rattle.nfs_types.specs.Fits.{CallFits, ProgramCallFits}
-use Rattle.model.specs.Calls.{has_rules, plain_reply}
+use Rattle.model.specs.Calls.{begins_transaction, plain_reply}
 use Rattle.model.specs.Sound.{Sound, SoundCtx}
 use Rattle.procedures.proofs.Served.{some_step}
 use Rattle.procedures.proofs.SoundSteps.{step_sound}
@@ -23,7 +23,7 @@ use Rattle.session_wire.specs.Calls.{CredentialFits, caller_of}
 use Rattle.session_wire.specs.Judging.{judged}
 use Rattle.rpc.specs.Refused.{refused}
 use Rattle.session_wire.specs.Served.{FailsWithin, HasBroken, HasFailed, HasNoCause, IsCallReply, IsDone, IsLater}
-use Rattle.session_wire.specs.Served.{IsNfsDone, IsNfsReply, IsPlain, IsReplyTo, IsReplyWithRules}
+use Rattle.session_wire.specs.Served.{IsNfsDone, IsNfsReply, IsPlain, IsReplyTo, IsTransactionReply}
 use Rattle.session_wire.specs.Served.{IsServable, IsSpent, LacksMemory, LosesWithin, Rests, Serving, Standing, Stays}
 use Rattle.session_wire.specs.Served.{Steps, all_done, done, done_but_for_memory, nfs_done, served}
 use Rattle.session_wire.proofs.CallLaws.{judged_takes}
@@ -126,12 +126,12 @@ on s a b c first second = record {
 
 module _ (s : Serving) (old new : Standing) (bytes : List ℕ) where
   served-on : (xid : ℕ) (credential : Credential) (call : types.Call)
-      → IsReplyWithRules s old xid credential call bytes new → IsLater s old new
-  served-on xid credential call (IsReplyWithRules.Done reply taken told) = taken.later
-  served-on xid credential call (IsReplyWithRules.NoMemory stays told) = stays.later
-  served-on xid credential call (IsReplyWithRules.Spent stays spent told) = stays.later
-  served-on xid credential call (IsReplyWithRules.Failed stays failed told) = stays.later
-  served-on xid credential call (IsReplyWithRules.Unsettled reply taken failed waits told) = taken.later
+      → IsTransactionReply s old xid credential call bytes new → IsLater s old new
+  served-on xid credential call (IsTransactionReply.Done reply taken told) = taken.later
+  served-on xid credential call (IsTransactionReply.NoMemory stays told) = stays.later
+  served-on xid credential call (IsTransactionReply.Spent stays spent told) = stays.later
+  served-on xid credential call (IsTransactionReply.Failed stays failed told) = stays.later
+  served-on xid credential call (IsTransactionReply.Unsettled reply taken failed waits told) = taken.later
 
   nfs-on : (rules : Bool) (xid : ℕ) (credential : Credential) (call : types.Call)
       → IsNfsReply s old rules xid credential call bytes new → IsLater s old new
@@ -140,7 +140,7 @@ module _ (s : Serving) (old new : Standing) (bytes : List ℕ) where
 
   call-on : (xid : ℕ) (credential : Credential) (call : ProgramCall)
       → IsCallReply s old xid credential call bytes new → IsLater s old new
-  call-on xid credential (program_calls.Nfs call) told = nfs-on (has_rules call) xid credential call told
+  call-on xid credential (program_calls.Nfs call) told = nfs-on (begins_transaction call) xid credential call told
   call-on xid credential (program_calls.Mount call) told = same s old new told.0
 
   reply-on : (j : Judged) → IsReplyTo s old j bytes new → IsLater s old new
@@ -162,14 +162,14 @@ module _ (s : Serving) (old new : Standing) (bytes : List ℕ) where
   nfs_served : (rules : Bool) (xid : ℕ) (credential : Credential) (call : types.Call)
       → IsNfsDone s old rules xid credential call bytes new
       → IsNfsReply s old rules xid credential call bytes new
-  nfs_served true xid credential call (reply, taken, told) = IsReplyWithRules.Done reply taken told
+  nfs_served true xid credential call (reply, taken, told) = IsTransactionReply.Done reply taken told
   nfs_served false xid credential call (rests, told) = (rests, inl told)
 
   reply_served : (j : Judged) → IsDone s old j bytes new → IsReplyTo s old j bytes new
   reply_served Closed is = absurd is
   reply_served (Refused xid why) is = is
   reply_served (Call xid credential (program_calls.Nfs call)) is =
-      nfs_served (has_rules call) xid credential call is
+      nfs_served (begins_transaction call) xid credential call is
   reply_served (Call xid credential (program_calls.Mount call)) is = (is.0, inl is.1)
 
 pub done_served : (s : Serving) (old new : Standing) (messages replies : List (List ℕ))
@@ -232,15 +232,15 @@ not_broken s old new none (inr broken) = let whole = none.whole in cc
 
 module _ (s : Serving) (old new : Standing) (bytes : List ℕ) (none : HasNoCause s old new) where
   with_rules : (xid : ℕ) (credential : Credential) (call : types.Call)
-      → IsReplyWithRules s old xid credential call bytes new
+      → IsTransactionReply s old xid credential call bytes new
       → IsNfsDone s old true xid credential call bytes new
       ⊎ (Stays s old new × (bytes ≡ refused xid SystemError))
-  with_rules xid credential call (IsReplyWithRules.Done reply taken told) = inl (reply, taken, told)
-  with_rules xid credential call (IsReplyWithRules.NoMemory stays told) = inr (stays, told)
-  with_rules xid credential call (IsReplyWithRules.Spent stays spent told) = absurd (none.unspent spent)
-  with_rules xid credential call (IsReplyWithRules.Failed stays failed told) =
+  with_rules xid credential call (IsTransactionReply.Done reply taken told) = inl (reply, taken, told)
+  with_rules xid credential call (IsTransactionReply.NoMemory stays told) = inr (stays, told)
+  with_rules xid credential call (IsTransactionReply.Spent stays spent told) = absurd (none.unspent spent)
+  with_rules xid credential call (IsTransactionReply.Failed stays failed told) =
       absurd (not_failed s old new none failed)
-  with_rules xid credential call (IsReplyWithRules.Unsettled reply taken broken waits told) =
+  with_rules xid credential call (IsTransactionReply.Unsettled reply taken broken waits told) =
       absurd (not_broken s old new none broken)
 
   of_nfs : (rules : Bool) (xid : ℕ) (credential : Credential) (call : types.Call)
@@ -269,7 +269,7 @@ module _ (s : Serving) (old new : Standing) (bytes : List ℕ) (none : HasNoCaus
   of_message Closed told = absurd told
   of_message (Refused xid why) told = inl told
   of_message (Call xid credential (program_calls.Nfs call)) told =
-      of_nfs (has_rules call) xid credential call told
+      of_nfs (begins_transaction call) xid credential call told
   of_message (Call xid credential (program_calls.Mount call)) told =
       of_mount xid (program_calls.Mount call) told.0 told.1
 
@@ -288,10 +288,10 @@ without_cause s old new (message ∷ messages) (reply ∷ replies) all none =
 
 -- ---- there are replies
 
--- NULL has no rules
-not_null : (call : types.Call) → has_rules call ≡ true → call ≢ null
+-- NULL begins no transaction
+not_null : (call : types.Call) → begins_transaction call ≡ true → call ≢ null
 not_null call is same =
-    let no : false ≡ true = subst (λ c. has_rules c ≡ true) same is in
+    let no : false ≡ true = subst (λ c. begins_transaction c ≡ true) same is in
     cc
 
 -- some answer to a message, with which the tree stays sound
@@ -323,7 +323,7 @@ module _ (s : Serving) (old : Standing) (xid : ℕ) (credential : Credential) (g
     numbers = refl;
   }
 
-  stepped : (call : types.Call) (rules : Bool) → has_rules call ≡ rules → SoundCtx ctx → CallFits call
+  stepped : (call : types.Call) (rules : Bool) → begins_transaction call ≡ rules → SoundCtx ctx → CallFits call
       → Stepped s old rules xid credential call
   stepped call true is now fits =
       let a = some_step old.tree ctx call (not_null call is) in
@@ -347,7 +347,7 @@ module _ (s : Serving) (old : Standing) (xid : ℕ) (credential : Credential) (g
       record {
         bytes = nfs_done xid a.0;
         new = new;
-        is = IsReplyWithRules.Done a.0 made refl;
+        is = IsTransactionReply.Done a.0 made refl;
         well = (a.0, made, refl);
         sound = step_sound old.tree a.1 ctx call a.0 good now fits a.2;
         number = omega arith;
@@ -364,7 +364,7 @@ module _ (s : Serving) (old : Standing) (xid : ℕ) (credential : Credential) (g
   called : (call : ProgramCall) → SoundCtx ctx → ProgramCallFits call
       → Answered s old (Call xid credential call)
   called (program_calls.Nfs call) now fits =
-      let a = stepped call (has_rules call) refl now fits in
+      let a = stepped call (begins_transaction call) refl now fits in
       record { bytes = a.bytes; new = a.new; is = a.is; well = a.well; sound = a.sound; number = a.number }
   called (program_calls.Mount call) now fits = record {
     bytes = done xid (plain_reply (program_calls.Mount call));

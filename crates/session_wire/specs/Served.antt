@@ -13,7 +13,7 @@ use Rattle.nfs_types.specs.declared.ctx.Moment.{Moment}
 use Rattle.nfs_types.specs.declared.reply.Reply.{Reply}
 use Rattle.nfs_types.specs.declared.status.Status.TheVariants as status
 use Rattle.nfs_types.specs.Fits.{AreBytes}
-use Rattle.model.specs.Calls.{has_rules, is_answered_stable, plain_reply}
+use Rattle.model.specs.Calls.{begins_transaction, is_answered_stable, plain_reply}
 use Rattle.model.specs.Refused as model
 use Rattle.model.specs.Sound.{Sound, SoundTime}
 use Rattle.procedures.specs.Step.{step}
@@ -118,38 +118,38 @@ done xid reply = accepted xid 0 ++ result_bytes reply
 abbrev pub nfs_done : ℕ → Reply → List ℕ
 nfs_done xid reply = done xid (program_replies.Nfs reply)
 
--- What a call with rules is answered: the reply of its step. Or it made no step and is told why: memory was
--- refused, a counter is spent, or a device call failed. A write or a barrier may also fail after its step, where
--- the answer had to wait until what it changed is stable.
-pub data IsReplyWithRules (s : Serving) (old : Standing) (xid : ℕ) (credential : Credential)
+-- What a call that begins a transaction is answered: the reply of its step. Or it made no step and is told why:
+-- memory was refused, a counter is spent, or a device call failed. A write or a barrier may also fail after its
+-- step, where the answer had to wait until what it changed is stable.
+pub data IsTransactionReply (s : Serving) (old : Standing) (xid : ℕ) (credential : Credential)
     (call : types.Call) (bytes : List ℕ) (new : Standing) : Type 0 where
   Done : (reply : Reply) → Steps s old credential call reply new → bytes ≡ nfs_done xid reply
-      → IsReplyWithRules s old xid credential call bytes new
+      → IsTransactionReply s old xid credential call bytes new
   NoMemory : Stays s old new → bytes ≡ refused xid SystemError
-      → IsReplyWithRules s old xid credential call bytes new
+      → IsTransactionReply s old xid credential call bytes new
   Spent : Stays s old new → IsSpent new → bytes ≡ nfs_done xid (model.refused status.ServerFault call)
-      → IsReplyWithRules s old xid credential call bytes new
+      → IsTransactionReply s old xid credential call bytes new
   Failed : Stays s old new → HasFailed s old new → bytes ≡ nfs_done xid (model.refused status.Io call)
-      → IsReplyWithRules s old xid credential call bytes new
+      → IsTransactionReply s old xid credential call bytes new
   Unsettled : (reply : Reply) → Steps s old credential call reply new → HasBroken s old new
       → is_answered_stable call ≡ true
       → bytes ≡ nfs_done xid (model.refused status.Io call)
-      → IsReplyWithRules s old xid credential call bytes new
+      → IsTransactionReply s old xid credential call bytes new
 
--- what a call without rules is answered: a function of the message alone, or that memory was refused
+-- what a call that begins none is answered: a function of the message alone, or that memory was refused
 abbrev pub IsPlain : ℕ → ProgramCall → List ℕ → Type 0
 IsPlain xid call bytes = (bytes ≡ done xid (plain_reply call)) ⊎ (bytes ≡ refused xid SystemError)
 
--- a call of NFS without rules begins no transaction
+-- each call of NFS but NULL begins a transaction
 abbrev pub IsNfsReply : Serving → Standing → Bool → ℕ → Credential → types.Call → List ℕ → Standing → Type 0
-IsNfsReply s old true xid credential call bytes new = IsReplyWithRules s old xid credential call bytes new
+IsNfsReply s old true xid credential call bytes new = IsTransactionReply s old xid credential call bytes new
 IsNfsReply s old false xid credential call bytes new =
     Rests s old new × IsPlain xid (program_calls.Nfs call) bytes
 
 -- a call of MOUNT touches no store
 abbrev pub IsCallReply : Serving → Standing → ℕ → Credential → ProgramCall → List ℕ → Standing → Type 0
 IsCallReply s old xid credential (program_calls.Nfs call) bytes new =
-    IsNfsReply s old (has_rules call) xid credential call bytes new
+    IsNfsReply s old (begins_transaction call) xid credential call bytes new
 IsCallReply s old xid credential (program_calls.Mount call) bytes new =
     (new ≡ old) × IsPlain xid (program_calls.Mount call) bytes
 
@@ -180,8 +180,8 @@ served s old [] (reply ∷ replies) new = ⊥
 served s old (message ∷ messages) (reply ∷ replies) new =
     (middle : Standing) × IsReplyTo s old (judged message) reply middle × served s middle messages replies new
 
--- A message is answered and nothing fails: a call with rules makes its step and gets the reply of it, any
--- other call gets its plain reply, and what is refused its refusal.
+-- A message is answered and nothing fails: a call that begins a transaction makes its step and gets the reply of
+-- it, any other call gets its plain reply, and what is refused its refusal.
 abbrev pub IsNfsDone : Serving → Standing → Bool → ℕ → Credential → types.Call → List ℕ → Standing → Type 0
 IsNfsDone s old true xid credential call bytes new =
     (reply : Reply) × Steps s old credential call reply new × (bytes ≡ nfs_done xid reply)
@@ -192,7 +192,7 @@ abbrev pub IsDone : Serving → Standing → Judged → List ℕ → Standing �
 IsDone s old Closed bytes new = ⊥
 IsDone s old (Refused xid refusal) bytes new = (bytes ≡ refused xid refusal) × (new ≡ old)
 IsDone s old (Call xid credential (program_calls.Nfs call)) bytes new =
-    IsNfsDone s old (has_rules call) xid credential call bytes new
+    IsNfsDone s old (begins_transaction call) xid credential call bytes new
 IsDone s old (Call xid credential (program_calls.Mount call)) bytes new =
     (new ≡ old) × (bytes ≡ done xid (plain_reply (program_calls.Mount call)))
 

@@ -51,7 +51,7 @@ pub fn what_is_done_is_served()
 {}
 
 /// Where no device call failed in the time of the stream, the store isn't broken before it, and no counter is
-/// spent behind it, nothing fails but for want of memory: each call with rules gets the reply of its step, each
+/// spent behind it, nothing fails but for want of memory: each call but NULL gets the reply of its step, each
 /// other its plain reply, or a system error where memory was refused.
 pub fn without_a_cause_nothing_fails()
     ensures { (s : Serving) (old new : Standing) (messages replies : List (List ℕ))
@@ -60,7 +60,7 @@ pub fn without_a_cause_nothing_fails()
 {}
 
 /// Each stream of bytes can be served that comes to a sound tree, while numbers of transactions are left; and
-/// that so that nothing fails: each call with rules gets the reply of its step, and each other its plain
+/// that so that nothing fails: each call but NULL gets the reply of its step, and each other its plain
 /// reply.
 pub fn each_stream_can_be_served()
     ensures { (s : Serving) (old : Standing) (messages : List (List ℕ)) → IsServable s old messages

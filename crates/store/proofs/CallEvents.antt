@@ -14,7 +14,7 @@ use Rattle.disk.specs.Device.{Content, CountsFailure, Device, OneLater}
 use Rattle.disk.specs.declared.device.Failed.{Failed}
 use Rattle.layout.specs.Geometry.{IsLawful}
 use Rattle.model.specs.Entry.{Entry}
-use Rattle.model.specs.Calls.{has_rules}
+use Rattle.model.specs.Calls.{begins_transaction}
 use Rattle.model.specs.Tree.{Tree}
 use Rattle.txn_law.specs.Core.{CoreState, IsOut}
 use Rattle.txn_law.specs.Fetch.{Fetch}
@@ -206,7 +206,7 @@ module _ (o : Outset) (now : Opened) (device : Device) (worker : State)
 -- ---- a settling
 
 module _ (o : Outset) (now : Opened) (device : Device) (core : CoreState) (worker : State) (waits : Bool)
-    (served : waits ≡ true → has_rules o.asked.call ≡ true)
+    (served : waits ≡ true → begins_transaction o.asked.call ≡ true)
     (waited : HasWaited waits now.device now.core device core)
   where
     abbrev opens : LeavesOpen now.device now.core device core
@@ -219,7 +219,7 @@ module _ (o : Outset) (now : Opened) (device : Device) (core : CoreState) (worke
     still_after = record { past = opens.past; failures = opens.failures; further = opens.further }
 
     -- where the call isn't served, there was nothing to wait for
-    pub same_unserved : has_rules o.asked.call ≡ false → settled ≡ now
+    pub same_unserved : begins_transaction o.asked.call ≡ false → settled ≡ now
     same_unserved unserved = by waits refl
       where
         by : (is : Bool) → waits ≡ is → settled ≡ now
@@ -271,7 +271,7 @@ module _ (o : Outset) (now : Opened) (device : Device) (core : CoreState) (worke
       }
 
 answer_still : (o : Outset) (now new : Opened) (is_after : IsAfter now new) → new.core.begun ≡ now.core.begun
-    → (has_rules o.asked.call ≡ false → new ≡ now) → (entry : Option Entry) (found : Option CallAnswer)
+    → (begins_transaction o.asked.call ≡ false → new ≡ now) → (entry : Option Entry) (found : Option CallAnswer)
     → IfSome found (λ ready. Tells o entry ready.verdict now)
     → IfSome found (λ ready. Tells o entry ready.verdict new)
 answer_still o now new is_after begun same entry None is = tt
@@ -280,7 +280,7 @@ answer_still o now new is_after begun same entry (Some ready) is =
 
 pub settled_step : (o : Outset) (now : Opened) (device : Device) (core : CoreState) (worker : State)
     (waits : Bool)
-    (served : waits ≡ true → has_rules o.asked.call ≡ true)
+    (served : waits ≡ true → begins_transaction o.asked.call ≡ true)
     (waited : HasWaited waits now.device now.core device core)
     → HasStepped o now worker → GoesWith (told worker) core
     → HasStepped o (store_of device core now.boot) worker

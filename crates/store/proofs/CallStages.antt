@@ -8,7 +8,7 @@ use Rattle.std.proofs.lemmas.Bool.Decides.{nat_tests}
 use Rattle.limits.specs.declared.TheConstants.{CHANGED_BLOCKS, MOST_KEPT_COMMITS}
 use Rattle.disk.specs.declared.block.BlockNo.{BlockNo}
 use Rattle.model.specs.Entry.{Entry}
-use Rattle.model.specs.Calls.{has_rules, is_answered_stable}
+use Rattle.model.specs.Calls.{begins_transaction, is_answered_stable}
 use Rattle.model.specs.Tree.{Tree}
 use Rattle.txn.specs.declared.outcomes.BeginFault.{BeginFault}
 use Rattle.txn.specs.declared.outcomes.BeginFault.TheVariants as begin_fault
@@ -44,7 +44,7 @@ use Rattle.store_promise.specs.declared.transcript.Answer.{Answer}
 use Rattle.store_promise.specs.declared.transcript.Committed.{Committed}
 use Rattle.store_runs.specs.AtWork.{has_committed}
 use Rattle.store.specs.Calling.{ComesTo, HasCause, IsBegunFor, IsMadeFor, IsRefusal, IsSoFar, IsSpent}
-use Rattle.store.specs.Calling.{IsUnserved}
+use Rattle.store.specs.Calling.{IsOfNull}
 use Rattle.store.specs.Calling.{Outset, StandsWith, Tells}
 use Rattle.store.specs.Driving.{waits_for_log}
 use Rattle.store_images.specs.Further.{IsFurther}
@@ -125,7 +125,7 @@ module _ (o : Outset) (now new : Opened) (after : IsAfter now new) where
   -- the transaction of the call is still its own
   pub begun_then : (number : ℕ) → IsBegunFor o now number → IsBegunFor o new number
   begun_then number has = record {
-    rules = has.rules;
+    begins = has.begins;
     fresh = has.fresh;
     taken = let by_now = has.taken in let more = after.further.begun in omega (arith, by_now, more);
   }
@@ -144,7 +144,8 @@ module _ (o : Outset) (now new : Opened) (after : IsAfter now new) where
   comes_then (Some entry) last comes = made_then entry last comes
 
   -- so it is how far it is, where a call that isn't served has left the store as it was
-  pub stands_then : (has_rules o.asked.call ≡ false → new ≡ now) → (entry : Option Entry) (stage : Stage)
+  pub stands_then : (begins_transaction o.asked.call ≡ false → new ≡ now) → (entry : Option Entry)
+      (stage : Stage)
       → StandsWith o entry now stage → StandsWith o entry new stage
   stands_then same entry (Called known) has = (has.0, λ unserved. same unserved ∙ has.1 unserved)
   stands_then same entry (Planning begun) has = (has.0, begun_then begun.number has.1)
@@ -160,25 +161,26 @@ module _ (o : Outset) (now new : Opened) (after : IsAfter now new) where
   stands_then same entry (Again begun wished) has = (has.0, begun_then begun.number has.1)
   stands_then same entry (Waiting place) has = has
 
-  pub so_far_still : (has_rules o.asked.call ≡ false → new ≡ now) → (entry : Option Entry) (progress : Progress)
+  pub so_far_still : (begins_transaction o.asked.call ≡ false → new ≡ now) → (entry : Option Entry)
+      (progress : Progress)
       → IsSoFar o entry now progress → IsSoFar o entry new progress
   so_far_still same entry Idle has = tt
   so_far_still same entry (At job stage) has = (has.0, stands_then same entry stage has.1)
 
   pub tells_still : new.core.begun ≡ now.core.begun
-      → (has_rules o.asked.call ≡ false → length now.core.records ≤ MOST_KEPT_COMMITS → new ≡ now)
+      → (begins_transaction o.asked.call ≡ false → length now.core.records ≤ MOST_KEPT_COMMITS → new ≡ now)
       → (entry : Option Entry) (told : Verdict) → Tells o entry told now → Tells o entry told new
   tells_still none_begun same None told (inl unserved) = inl (record {
-    rules = unserved.rules;
+    begins = unserved.begins;
     begun = none_begun ∙ unserved.begun;
     left = λ few.
         let was = unserved.left few in
-        same unserved.rules (subst (λ (x : Opened). length x.core.records ≤ MOST_KEPT_COMMITS)
+        same unserved.begins (subst (λ (x : Opened). length x.core.records ≤ MOST_KEPT_COMMITS)
         (sym was) few) ∙ was;
     told_is = unserved.told_is;
   })
   tells_still none_begun same None told (inr refused) = inr (record {
-    rules = refused.rules;
+    begins = refused.begins;
     why = refused.why;
     told_is = refused.told_is;
     because = cause_then refused.why refused.because;
@@ -245,8 +247,8 @@ module _ (o : Outset) (now new : Opened) (s : Setting) (t : Told) (from : IsStep
       none same = cc
 
   -- a call for which a transaction was begun, or was to be, is served
-  is_served : (served : Bool) (answer : Result ℕ BeginFault) → has_rules o.asked.call ≡ served
-      → IsStepOfCalled t served (step.Begun answer) → has_rules o.asked.call ≡ true
+  is_served : (served : Bool) (answer : Result ℕ BeginFault) → begins_transaction o.asked.call ≡ served
+      → IsStepOfCalled t served (step.Begun answer) → begins_transaction o.asked.call ≡ true
   is_served true answer is may = is
   is_served false answer is may = absurd (none may)
     where
@@ -262,21 +264,21 @@ module _ (o : Outset) (now new : Opened) (s : Setting) (t : Told) (from : IsStep
       none : step.Begun (Ok number) ≡ step.Replied → ⊥
       none same = cc
 
-  number_taken : (number : ℕ) → IsStepOfCalled t (has_rules o.asked.call) (step.Begun (Ok number))
+  number_taken : (number : ℕ) → IsStepOfCalled t (begins_transaction o.asked.call) (step.Begun (Ok number))
       → new.core.begun ≡ begun_after now.core.begun (step.Begun (Ok number)) → IsBegunFor o new number
   number_taken number may then_ = record {
-    rules = is_served (has_rules o.asked.call) (Ok number) refl may;
-    fresh = (let is = next_number (has_rules o.asked.call) number may in
+    begins = is_served (begins_transaction o.asked.call) (Ok number) refl may;
+    fresh = (let is = next_number (begins_transaction o.asked.call) number may in
         let now_is = from.begun_is in
         let more = from.more_begun in
         omega (arith, is, now_is, more));
-    taken = let is = next_number (has_rules o.asked.call) number may in
+    taken = let is = next_number (begins_transaction o.asked.call) number may in
         let now_is = from.begun_is in
         omega (arith, is, now_is, then_);
   }
 
-  unserved : (served : Bool) → has_rules o.asked.call ≡ served → IsStepOfCalled t served step.Replied
-      → has_rules o.asked.call ≡ false
+  unserved : (served : Bool) → begins_transaction o.asked.call ≡ served → IsStepOfCalled t served step.Replied
+      → begins_transaction o.asked.call ≡ false
   unserved true is may = absurd may
   unserved false is may = is
 
@@ -352,7 +354,8 @@ module _ (o : Outset) (now new : Opened) (s : Setting) (t : Told) (from : IsStep
     waits_ok true place stands = tt
     waits_ok false place stands = stands
 
-    called_ok : (known : List Aim) (made : Step) → entry ≡ None → IsStepOfCalled t (has_rules o.asked.call) made
+    called_ok : (known : List Aim) (made : Step) → entry ≡ None
+        → IsStepOfCalled t (begins_transaction o.asked.call) made
         → new.core.begun ≡ begun_after now.core.begun made → StageOk (after_called known made)
     called_ok known (step.Begun (Ok number)) none may then_ = (none, number_taken number may then_)
     called_ok known (step.Begun (Err why)) none may then_ = tt
@@ -401,7 +404,7 @@ module _ (o : Outset) (now new : Opened) (s : Setting) (t : Told) (from : IsStep
     )
     next_ok (Refused begun why) made not stands may then_ = tt
     next_ok (Again begun wished) made not stands may then_ =
-        (stands.0, λ unserved. absurd (true≢false (sym stands.1.rules ∙ unserved)))
+        (stands.0, λ unserved. absurd (true≢false (sym stands.1.begins ∙ unserved)))
     next_ok (Waiting place) made not stands may then_ = waiting_ok place made stands
 
     pub so_far_then : (next : Option Stage) → StageOk next → IsSoFar o entry new (going_on o.asked next)
@@ -409,29 +412,31 @@ module _ (o : Outset) (now new : Opened) (s : Setting) (t : Told) (from : IsStep
     so_far_then (Some stage) ok = (refl, ok)
 
     -- ---- what it answers
-    none_tells : (a : Answer) → entry ≡ None → IsUnserved o a.verdict new ⊎ IsRefusal o a.verdict new
+    none_tells : (a : Answer) → entry ≡ None → IsOfNull o a.verdict new ⊎ IsRefusal o a.verdict new
         → Tells o entry a.verdict new
     none_tells a none tells = subst (λ (e : Option Entry). Tells o e a.verdict new) (sym none) tells
 
     called_tells : (known : List Aim) (made : Step) (t2 : Transcript) (a : Answer)
-        → (entry ≡ None) × (has_rules o.asked.call ≡ false → now ≡ o.store) → (made ≡ step.Replied → new ≡ now)
-        → IsStepOfCalled t (has_rules o.asked.call) made → new.core.begun ≡ begun_after now.core.begun made
+        → (entry ≡ None) × (begins_transaction o.asked.call ≡ false → now ≡ o.store)
+        → (made ≡ step.Replied → new ≡ now)
+        → IsStepOfCalled t (begins_transaction o.asked.call) made
+        → new.core.begun ≡ begun_after now.core.begun made
         → HasVerdict t2 o.asked.call (Called known) made a → Tells o entry a.verdict new
     called_tells known step.Replied t2 a stands same may then_ told =
-        let none = unserved (has_rules o.asked.call) refl may in
+        let none = unserved (begins_transaction o.asked.call) refl may in
         let was = stands.1 none in
         none_tells a stands.0 (inl (record {
-          rules = none;
+          begins = none;
           begun = then_ ∙ ap (λ (x : Opened). x.core.begun) was;
           left = λ few. same refl ∙ was;
           told_is = told.1;
         }))
     called_tells known (step.Begun (Err why)) t2 a stands same may then_ told = none_tells a stands.0
         (inr (record {
-          rules = is_served (has_rules o.asked.call) (Err why) refl may;
+          begins = is_served (begins_transaction o.asked.call) (Err why) refl may;
           why = cause_of why;
           told_is = told.1;
-          because = begin_cause (has_rules o.asked.call) why may;
+          because = begin_cause (begins_transaction o.asked.call) why may;
         }))
     called_tells known (step.Begun (Ok number)) t2 a stands same may then_ told = absurd told
     called_tells known _ t2 a stands same may then_ told = absurd told
@@ -443,7 +448,7 @@ module _ (o : Outset) (now new : Opened) (s : Setting) (t : Told) (from : IsStep
     planning_tells begun (step.Commit blocks (committing.Committed place)) t2 a not stands told =
         absurd (true≢false not)
     planning_tells begun (step.Ended ending.NoMemory) t2 a not stands told = none_tells a stands.0
-        (inr (record { rules = stands.1.rules; why = cause.NoMemory; told_is = told.1; because = tt }))
+        (inr (record { begins = stands.1.begins; why = cause.NoMemory; told_is = told.1; because = tt }))
     planning_tells begun (step.Ended ending.Refused) t2 a not stands told = absurd told
     planning_tells begun (step.Ended ending.Again) t2 a not stands told = absurd told
     planning_tells begun (step.Commit blocks committing.Full) t2 a not stands told = absurd told
@@ -458,7 +463,7 @@ module _ (o : Outset) (now new : Opened) (s : Setting) (t : Told) (from : IsStep
         → Tells o entry a.verdict new
     refused_tells begun why (step.Ended ending.Refused) t2 a stands told = none_tells a stands.0
         (inr (record {
-          rules = stands.1.rules;
+          begins = stands.1.begins;
           why = why;
           told_is = told.1;
           because = cause_then o now new after why stands.2;
@@ -533,30 +538,33 @@ module _ (o : Outset) (now new : Opened) (s : Setting) (t : Told) (from : IsStep
 
 module _ (o : Outset) (now : Opened) (s : Setting) (t : Told) (entry : Option Entry) (last : Tree)
     (comes : ComesTo o now entry last) where
-  made_served : (e : Option Entry) → ComesTo o now e last → is_some e ≡ true → has_rules o.asked.call ≡ true
+  made_served : (e : Option Entry) → ComesTo o now e last → is_some e ≡ true
+      → begins_transaction o.asked.call ≡ true
   made_served None is some = absurd (true≢false (sym some))
-  made_served (Some e) is some = is.begun_for.rules
+  made_served (Some e) is some = is.begun_for.begins
 
-  called_waits : (served : Bool) (made : Step) → has_rules o.asked.call ≡ served → IsStepOfCalled t served made
-      → waits_for_log (Some made) ≡ true → has_rules o.asked.call ≡ true
+  called_waits : (served : Bool) (made : Step) → begins_transaction o.asked.call ≡ served
+      → IsStepOfCalled t served made
+      → waits_for_log (Some made) ≡ true → begins_transaction o.asked.call ≡ true
   called_waits true made is may waits = is
   called_waits false made is may waits =
       absurd (true≢false (sym (subst (λ (m : Step). waits_for_log (Some m) ≡ true) may waits)))
 
   stage_waits : (stage : Stage) (made : Step) → StandsWith o entry now stage
       → IsStepOfWork s t 0 (At o.asked stage) (Some made) → waits_for_log (Some made) ≡ true
-      → has_rules o.asked.call ≡ true
-  stage_waits (Called known) made stands may waits = called_waits (has_rules o.asked.call) made refl may waits
-  stage_waits (Planning begun) made stands may waits = stands.1.rules
-  stage_waits (Reading begun taken) made stands may waits = stands.1.rules
-  stage_waits (Read begun taken true) made stands may waits = stands.1.rules
-  stage_waits (Read begun taken false) made stands may waits = stands.1.rules
-  stage_waits (Refused begun why) made stands may waits = stands.1.rules
-  stage_waits (Again begun wished) made stands may waits = stands.1.rules
+      → begins_transaction o.asked.call ≡ true
+  stage_waits (Called known) made stands may waits =
+      called_waits (begins_transaction o.asked.call) made refl may waits
+  stage_waits (Planning begun) made stands may waits = stands.1.begins
+  stage_waits (Reading begun taken) made stands may waits = stands.1.begins
+  stage_waits (Read begun taken true) made stands may waits = stands.1.begins
+  stage_waits (Read begun taken false) made stands may waits = stands.1.begins
+  stage_waits (Refused begun why) made stands may waits = stands.1.begins
+  stage_waits (Again begun wished) made stands may waits = stands.1.begins
   stage_waits (Waiting place) made stands may waits = made_served entry comes stands.1
 
   pub waits_served : (p : Progress) (made : Option Step) → IsSoFar o entry now p → IsStepOfWork s t 0 p made
-      → waits_for_log made ≡ true → has_rules o.asked.call ≡ true
+      → waits_for_log made ≡ true → begins_transaction o.asked.call ≡ true
   waits_served p None has may waits = absurd (true≢false (sym waits))
   waits_served Idle (Some made) has may waits = absurd (some_none made may)
     where

@@ -10,7 +10,7 @@ use Rattle.disk.specs.Device.{Content, Device}
 use Rattle.disk.specs.declared.block.BlockNo.{BlockNo}
 use Rattle.objects.specs.declared.addr.Addr.{Addr}
 use Rattle.model.specs.Entry.{Entry}
-use Rattle.model.specs.Calls.{has_rules, is_answered_stable}
+use Rattle.model.specs.Calls.{begins_transaction, is_answered_stable}
 use Rattle.procedures.specs.Step as procedures
 use Rattle.model.specs.Tree.{Tree}
 use Rattle.txn_law.specs.Fetch.{Fetch}
@@ -269,9 +269,10 @@ replied_core phase old new is goes = by old.worker.work.job
     (subst (λ (p : phases.Phase). GoesOn p old (Some step.Replied) new) is goes)
   where
     by : (found : Option WorkJob)
-        → IsSomeAnd found (λ job. BeginsBy (has_rules job.call) job old step.Replied new) → new.core ≡ old.core
+        → IsSomeAnd found (λ job. BeginsBy (begins_transaction job.call) job old step.Replied new)
+        → new.core ≡ old.core
     by None has = absurd has
-    by (Some job) has = replied_by (has_rules job.call) job old new has
+    by (Some job) has = replied_by (begins_transaction job.call) job old new has
 
 module _ (o : Outset) (now : Opened) (worker : State) (new : Side) (made : Option Step)
     (calling : IsCalling o now worker) where
@@ -357,7 +358,7 @@ module _ (o : Outset) (now : Opened) (worker : State) (new : Side) (made : Optio
       so_far_none (At job (Planning begun)) has may = absurd may
       so_far_none (At job (how.Reading begun taken)) has may = (
         has.0,
-        stands_then o now later after (λ unserved. absurd (true≢false (sym has.1.1.rules ∙ unserved)))
+        stands_then o now later after (λ unserved. absurd (true≢false (sym has.1.1.begins ∙ unserved)))
             calling.entry (how.Reading begun taken) has.1,
       )
       so_far_none (At job (how.Read begun taken ok)) has may = absurd may

@@ -5,7 +5,7 @@ use Rattle.limits.specs.declared.TheConstants.{CHANGED_BLOCKS, MOST_KEPT_COMMITS
 use Rattle.disk.specs.Crash.{Image, IsCrashImage}
 use Rattle.disk.specs.Device.{Device}
 use Rattle.model.specs.Entry.{Entry}
-use Rattle.model.specs.Calls.{has_rules, is_answered_stable, unsupported}
+use Rattle.model.specs.Calls.{begins_transaction, is_answered_stable}
 use Rattle.model.specs.Refused.{refused}
 use Rattle.procedures.specs.Step as procedures
 use Rattle.model.specs.Tree.{Tree}
@@ -13,6 +13,7 @@ use Rattle.nfs_types.specs.declared.call.Call.{Call}
 use Rattle.nfs_types.specs.declared.ctx.Credential.{Credential}
 use Rattle.nfs_types.specs.declared.ctx.Moment.{Moment}
 use Rattle.nfs_types.specs.declared.status.Status.TheVariants as status
+use Rattle.nfs_types.specs.declared.reply.Reply.TheVariants.{Null}
 use Rattle.txn_law.specs.Core.{CoreState}
 use Rattle.txn_law.specs.Fetch.{Fetch}
 use Rattle.wal_law.specs.Calls.{idle}
@@ -80,7 +81,7 @@ pub record Outset : Type 0 where
 -- A transaction was begun for the call, which is one that is served. Its number is above each that was taken
 -- before the call, and was taken by now: so no two calls, one after another, have the same.
 pub record IsBegunFor (o : Outset) (now : Opened) (number : ℕ) : Type 0 where
-  pub rules : has_rules o.asked.call ≡ true
+  pub begins : begins_transaction o.asked.call ≡ true
   pub fresh : o.store.core.begun < number
   pub taken : number ≤ now.core.begun
 
@@ -126,17 +127,17 @@ pub record IsUnsettled (o : Outset) (told : Verdict) (now : Opened) : Type 0 whe
   pub broken : now.core.log.broken ≡ true
   pub failed : HasBroken o.store.core.log o.store.device now.device
 
--- That it isn't served: no transaction was begun for it, and the store is as it was, but that it is settled
--- where it kept too many commits.
-pub record IsUnserved (o : Outset) (told : Verdict) (now : Opened) : Type 0 where
-  pub rules : has_rules o.asked.call ≡ false
+-- That it is NULL: no transaction was begun for it, and the store is as it was, but that it is settled where it
+-- kept too many commits.
+pub record IsOfNull (o : Outset) (told : Verdict) (now : Opened) : Type 0 where
+  pub begins : begins_transaction o.asked.call ≡ false
   pub begun : now.core.begun ≡ o.store.core.begun
   pub left : length o.store.core.records ≤ MOST_KEPT_COMMITS → now ≡ o.store
-  pub told_is : told ≡ verdict.Reply (unsupported o.asked.call)
+  pub told_is : told ≡ verdict.Reply Null
 
--- that it was refused, for a cause, though it is served
+-- that it was refused, for a cause, though it begins transactions
 pub record IsRefusal (o : Outset) (told : Verdict) (now : Opened) : Type 0 where
-  pub rules : has_rules o.asked.call ≡ true
+  pub begins : begins_transaction o.asked.call ≡ true
   pub why : Cause
   pub told_is : told ≡ refusal o.asked.call why
   pub because : HasCause o now why
@@ -144,7 +145,7 @@ pub record IsRefusal (o : Outset) (told : Verdict) (now : Opened) : Type 0 where
 -- by whether a procedure was committed
 abbrev pub Tells : Outset → Option Entry → Verdict → Opened → Type 0
 Tells o (Some entry) told now = IsReplyOf o entry told now ⊎ IsUnsettled o told now
-Tells o None told now = IsUnserved o told now ⊎ IsRefusal o told now
+Tells o None told now = IsOfNull o told now ⊎ IsRefusal o told now
 
 -- What each stop leaves since the call began, those within a device call included: some image, and each that
 -- is left is good, with the boot number and with the files after a beginning of these entries, in which is
@@ -187,7 +188,7 @@ Answers keeps_model old asked told new = (first last : Tree) (entries : List Ent
 -- call will be refused
 abbrev pub StandsWith : Outset → Option Entry → Opened → Stage → Type 0
 StandsWith o entry now (Called known) = (entry ≡ None)
-    × (has_rules o.asked.call ≡ false → now ≡ o.store)
+    × (begins_transaction o.asked.call ≡ false → now ≡ o.store)
 StandsWith o entry now (Planning begun) = (entry ≡ None) × IsBegunFor o now begun.number
 StandsWith o entry now (Reading begun taken) = (entry ≡ None) × IsBegunFor o now begun.number
 StandsWith o entry now (Read begun taken true) = (entry ≡ None) × IsBegunFor o now begun.number

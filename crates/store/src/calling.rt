@@ -3,7 +3,7 @@
 ghost use Rattle.std.specs.Prelude.{◌≡◌, ℕ, Bool, true, Ok, Option, List, []};
 ghost use Rattle.disk.specs.Device.{Device};
 ghost use Rattle.model.specs.Entry.{Entry};
-ghost use Rattle.model.specs.Calls.{has_rules};
+ghost use Rattle.model.specs.Calls.{begins_transaction};
 ghost use Rattle.model.specs.Tree.{Tree};
 ghost use Rattle.txn_law.specs.Core.{CoreState};
 ghost use Rattle.txn_law.specs.HomeRead.{HasContents};
@@ -59,7 +59,7 @@ pub(crate) fn a_step_keeps_a_call_going()
         → HasStepped o (record now { core = new.core }) new.worker }
     ensures served { (o : Outset) (now : Opened) (worker : State) (new : Side) (made : Option Step)
         → IsCalling o now worker → GoesOn worker.phase (side worker now.core) made new
-        → waits_for_log made ≡ true → has_rules o.asked.call ≡ true }
+        → waits_for_log made ≡ true → begins_transaction o.asked.call ≡ true }
 {
     store_promise::an_open_store_keeps_its_files();
     store_runs::a_core_at_work_stays_so();
@@ -84,7 +84,7 @@ pub(crate) fn a_read_keeps_a_call_going()
 /// So does the settling that it waits for, if it waits.
 pub(crate) fn a_settling_keeps_a_call_going()
     ensures { (o : Outset) (now : Opened) (device : Device) (core : CoreState) (worker : State) (waits : Bool)
-        → (waits ≡ true → has_rules o.asked.call ≡ true) → HasStepped o now worker
+        → (waits ≡ true → begins_transaction o.asked.call ≡ true) → HasStepped o now worker
         → HasWaited waits now.device now.core device core → GoesWith (told worker) core
         → HasStepped o (store_of device core now.boot) worker }
 {}

@@ -11,7 +11,7 @@ use Rattle.nfs_types.specs.declared.reply.Reply.{Reply}
 use Rattle.nfs_types.specs.declared.reply.Reply.TheVariants as reply
 use Rattle.nfs_types.specs.declared.status.Status.{Status}
 use Rattle.nfs_types.specs.declared.status.Status.TheVariants as status
-use Rattle.model.specs.Calls.{has_rules}
+use Rattle.model.specs.Calls.{begins_transaction}
 use Rattle.model.specs.Refused.{refused}
 use Rattle.model.specs.Tree.{Tree}
 use Rattle.procedures.specs.After.{after}
@@ -281,7 +281,7 @@ module _ (t : Transcript) (a : Answer) (told : Reply) (is : a.verdict ≡ verdic
         → (shows (At job stage) ≡ true) ⊎ (now.log.broken ≡ true)
     by_verdict (Called known) step.Replied has may ends = absurd (not_refused status.NotSupp job.call refl has.1)
     by_verdict (Called known) (step.Begun (Err why)) has may ends =
-        inr (by_begun now (has_rules job.call) job.call why may has.1)
+        inr (by_begun now (begins_transaction job.call) job.call why may has.1)
     by_verdict (Planning begun) (step.Commit blocks (committing.Committed place)) has may ends =
         absurd (none place.0 has.entry has.is_entry (tells has.entry.reply has.told))
     by_verdict (Planning begun) (step.Ended ending.NoMemory) has may ends = absurd (no_memory has.1)

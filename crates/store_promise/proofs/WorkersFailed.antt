@@ -5,7 +5,7 @@ use Rattle.std.proofs.lemmas.Bool.Decides.{nat_tests}
 use Rattle.disk.specs.declared.block.BlockNo.{BlockNo}
 use Rattle.objects.specs.declared.addr.Addr.{Addr}
 use Rattle.objects.specs.declared.mode.Mode.{Mode}
-use Rattle.model.specs.Calls.{has_rules, is_answered_stable}
+use Rattle.model.specs.Calls.{begins_transaction, is_answered_stable}
 use Rattle.store_promise.specs.declared.events.Cause.TheVariants as cause
 use Rattle.store_promise.specs.declared.events.Committing.{Committing}
 use Rattle.store_promise.specs.declared.events.Committing.TheVariants as committing
@@ -82,7 +82,7 @@ of_waiting log place _ is = absurd is
 of_work : (o : Setting) (told : Told) (worker : ℕ) (so_far : Progress) (one : Step)
     → IsStepOfWork o told worker so_far (Some one) → is_of_log one ≡ false
 of_work o told worker Idle one is = cc
-of_work o told worker (At job (Called known)) one is = of_called told (has_rules job.call) one is
+of_work o told worker (At job (Called known)) one is = of_called told (begins_transaction job.call) one is
 of_work o told worker (At job (Planning begun)) one is = of_within o told worker begun begun.left one is
 of_work o told worker (At job (Reading begun taken)) one is = cc
 of_work o told worker (At job (Read begun taken true)) one is = ap is_of_log is

@@ -10,7 +10,7 @@ use Rattle.objects.specs.declared.mode.Mode.{Mode}
 use Rattle.objects.specs.declared.mode.Mode.TheVariants as modes
 use Rattle.nfs_types.specs.declared.call.Call.{Call}
 use Rattle.layout.specs.declared.geometry.Geometry.{Geometry}
-use Rattle.model.specs.Calls.{has_rules}
+use Rattle.model.specs.Calls.{begins_transaction}
 use Rattle.procs.specs.Asks.{Asks, Claims}
 use Rattle.inode.specs.Snap.{is_claimed, same_addr}
 use Rattle.txn.specs.declared.outcomes.BeginFault.TheVariants as fault
@@ -112,7 +112,7 @@ IsBeginning told (step.Begun (Err fault.Spent)) = (told.log.broken ≡ false) ×
 IsBeginning told (step.Begun (Err fault.NoMemory)) = (told.log.broken ≡ false) × (told.begun + 1 < 2 ^ 64)
 IsBeginning told _ = ⊥
 
--- a call with rules begins a transaction, and another is answered
+-- a call begins a transaction, and NULL is answered
 abbrev pub IsStepOfCalled : Told → Bool → Step → Type 0
 IsStepOfCalled told true made = IsBeginning told made
 IsStepOfCalled told false made = made ≡ step.Replied
@@ -224,7 +224,7 @@ IsStepOfWaiting log place _ = ⊥
 
 -- a worker with a call, of which no read is due, goes on with it
 abbrev pub IsStepWith : Setting → Told → ℕ → Call → Stage → Step → Type 0
-IsStepWith o told worker call (Called known) made = IsStepOfCalled told (has_rules call) made
+IsStepWith o told worker call (Called known) made = IsStepOfCalled told (begins_transaction call) made
 IsStepWith o told worker call (Planning begun) made = IsStepWithin o told worker begun made
 IsStepWith o told worker call (Reading begun taken) made = ⊥
 IsStepWith o told worker call (Read begun taken true) made = made ≡ step.Fetched taken.addr.block

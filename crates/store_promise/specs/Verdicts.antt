@@ -3,7 +3,8 @@ use Rattle.std.specs.Prelude.{◌≡◌, ℕ, ◌+◌, ◌<◌, Bool, true, fals
 use Rattle.nfs_types.specs.declared.call.Call.{Call}
 use Rattle.nfs_types.specs.declared.call.Call.TheVariants as call
 use Rattle.nfs_types.specs.declared.status.Status.TheVariants as status
-use Rattle.model.specs.Calls.{is_answered_stable, unsupported}
+use Rattle.nfs_types.specs.declared.reply.Reply.TheVariants.{Null}
+use Rattle.model.specs.Calls.{is_answered_stable}
 use Rattle.txn.specs.declared.outcomes.BeginFault.{BeginFault}
 use Rattle.txn.specs.declared.outcomes.BeginFault.TheVariants as fault
 use Rattle.wal_law.specs.declared.outcomes.Seq.{Seq}
@@ -80,10 +81,10 @@ IsUnsettledAt asked place a = (a.place ≡ Some place) × (a.verdict ≡ verdict
 
 -- What a worker answers with a step that ends its call, by how far it was: the reply of its procedure, with the
 -- step that commits it or, where it is to be answered once it is stable, with the one that finds its place
--- settled; IO in its stead, where the store broke before; a refusal of a procedure that wasn't committed; or,
--- of a call that takes no transaction, that it isn't supported.
+-- settled; IO in its stead, where the store broke before; a refusal of a procedure that wasn't committed; or the
+-- reply of NULL, which takes no transaction.
 abbrev pub HasVerdict : Transcript → Call → Stage → Step → Answer → Type 0
-HasVerdict t asked (Called known) step.Replied a = IsOfNone (verdict.Reply (unsupported asked)) a
+HasVerdict t asked (Called known) step.Replied a = IsOfNone (verdict.Reply Null) a
 HasVerdict t asked (Called known) (step.Begun (Err why)) a = IsOfNone (refusal asked (cause_of why)) a
 HasVerdict t asked (Planning begun) (step.Commit blocks (committing.Committed place)) a = IsReplyAt t place a
 HasVerdict t asked (Planning begun) (step.Ended ending.NoMemory) a = IsOfNone verdict.NoMemory a

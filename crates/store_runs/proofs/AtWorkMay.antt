@@ -15,7 +15,7 @@ use Rattle.disk.specs.declared.block.BlockNo.{BlockNo}
 use Rattle.limits.specs.declared.TheConstants.{CHANGED_BLOCKS}
 use Rattle.layout.specs.declared.geometry.Geometry.{Geometry}
 use Rattle.model.specs.Entry.{Entry}
-use Rattle.model.specs.Calls.{has_rules}
+use Rattle.model.specs.Calls.{begins_transaction}
 use Rattle.model.specs.Tree.{Tree}
 use Rattle.objects.specs.declared.addr.Addr.{Addr}
 use Rattle.objects.specs.declared.mode.Mode.TheVariants as modes
@@ -294,7 +294,7 @@ module _ (o : Setting) (told : Told) (number : ℕ) (base : Image) (store : Stor
 
   -- a call begins
   from_called : (job : Job) (served : Bool) (made : Step) → worker.work.job ≡ Some job
-      → has_rules job.call ≡ served
+      → begins_transaction job.call ≡ served
       → IsStepOfCalled told served made → MayFrom (at_stage worker.work.job (how.Called (known_in worker.known))) (Some made)
   from_called job served made job_is is may =
       subst (λ (found : Option Job). MayFrom (at_stage found (how.Called (known_in worker.known))) (Some made)) (sym job_is)

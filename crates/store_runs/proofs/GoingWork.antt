@@ -32,7 +32,7 @@ use Rattle.store_promise.specs.OpenSince.{HasFileBlocks, file_blocks}
 use Rattle.store_promise.specs.Progress.{Again, At, Begun, Called, Idle, Job, Planning, Progress, Read, Reading}
 use Rattle.store_promise.specs.Progress.{Refused, Stage, Waiting, is_idle, progressed}
 use Rattle.store_promise.specs.Running.{IsFetchOver, IsMovedBy, IsRunningOver, IsTold, StoreSide, with_blocks}
-use Rattle.model.specs.Calls.{has_rules}
+use Rattle.model.specs.Calls.{begins_transaction}
 use Rattle.store_promise.specs.Waiting.{AreTakenBy, HasTakenWell}
 use Rattle.store_promise.specs.declared.aims.Aim.{Aim}
 use Rattle.store_promise.proofs.KnownAims.{taken_well}
@@ -83,19 +83,19 @@ module _ (o : Setting) (told : Told) (worker : ℕ) where
   by_stage : (job : Job) (stage : Stage) (made : Option Step) → IsStepOfWork o told worker (At job stage) made
       → calls_device made ≡ false
   by_stage job (Called known) None is = refl
-  by_stage job (Called known) (Some (step.Read block ok)) is = by_rules (has_rules job.call) is
+  by_stage job (Called known) (Some (step.Read block ok)) is = by_rules (begins_transaction job.call) is
     where
       by_rules : (rules : Bool) → IsStepOfCalled told rules (step.Read block ok)
           → calls_device (Some (step.Read block ok)) ≡ false
       by_rules true is = absurd is
       by_rules false is = cc
-  by_stage job (Called known) (Some (step.LogIo ok)) is = by_rules (has_rules job.call) is
+  by_stage job (Called known) (Some (step.LogIo ok)) is = by_rules (begins_transaction job.call) is
     where
       by_rules : (rules : Bool) → IsStepOfCalled told rules (step.LogIo ok)
           → calls_device (Some (step.LogIo ok)) ≡ false
       by_rules true is = absurd is
       by_rules false is = cc
-  by_stage job (Called known) (Some (step.InstIo ok)) is = by_rules (has_rules job.call) is
+  by_stage job (Called known) (Some (step.InstIo ok)) is = by_rules (begins_transaction job.call) is
     where
       by_rules : (rules : Bool) → IsStepOfCalled told rules (step.InstIo ok)
           → calls_device (Some (step.InstIo ok)) ≡ false

@@ -1,7 +1,7 @@
 -- Which steps a call's beginning and a plan's end come to.
 use Rattle.std.proofs.Common.{◌≡◌, ℕ, Bool, true, false, Option, Some, None, Ok, Err, refl}
 use Rattle.std.specs.Prelude.{IsSomeAnd}
-use Rattle.model.specs.Calls.{has_rules}
+use Rattle.model.specs.Calls.{begins_transaction}
 use Rattle.procs.specs.Outcome.{Outcome}
 use Rattle.txn.specs.declared.outcomes.BeginFault.{BeginFault}
 use Rattle.store_promise.specs.declared.answers.Verdict.{Verdict}
@@ -51,9 +51,10 @@ pub beginning : (old new : Side) (made : Step) → Begins old made new → Begin
 beginning old new made has = by old.worker.work.job refl has
   where
     by : (found : Option Job) → old.worker.work.job ≡ found
-        → IsSomeAnd found (λ job. BeginsBy (has_rules job.call) job old made new) → Beginning old made new
+        → IsSomeAnd found (λ job. BeginsBy (begins_transaction job.call) job old made new)
+        → Beginning old made new
     by None is has = absurd has
-    by (Some job) is has = by_rules old new made job (has_rules job.call) is has
+    by (Some job) is has = by_rules old new made job (begins_transaction job.call) is has
 
 -- what a plan ended in is committed, or memory was refused before
 pub data Ending (tx : ℕ) (done : Outcome) (old : Side) (made : Step) (new : Side) : Type 0 where

@@ -10,10 +10,11 @@ use Rattle.disk.specs.declared.block.BlockNo.{BlockNo}
 use Rattle.objects.specs.declared.addr.Addr.{Addr}
 use Rattle.objects.specs.declared.mode.Mode.TheVariants as modes
 use Rattle.model.specs.Entry.{Entry}
-use Rattle.model.specs.Calls.{is_answered_stable, unsupported}
+use Rattle.model.specs.Calls.{is_answered_stable}
 use Rattle.model.specs.Refused.{refused}
 use Rattle.nfs_types.specs.declared.status.Status.TheVariants as status
 use Rattle.nfs_types.specs.declared.reply.Reply.{Reply}
+use Rattle.nfs_types.specs.declared.reply.Reply.TheVariants.{Null}
 use Rattle.wal_law.specs.Log.{added_blocks}
 use Rattle.wal_law.specs.declared.outcomes.Seq.{Seq}
 use Rattle.procs.specs.Outcome.{Outcome}
@@ -609,7 +610,7 @@ module _ (boot number : ℕ) (entries : List Entry) (old new : Side) (at : IsWor
         unbegun (step.Begun (Err why)) job (refusal job.call (cause_of why)) job_is at.entry
         (λ t answer of. of) is;
     replied = λ job job_is served core is phase_is stands.
-        unbegun step.Replied job (verdict.Reply (unsupported job.call)) job_is at.entry (λ t answer of. of) is;
+        unbegun step.Replied job (verdict.Reply Null) job_is at.entry (λ t answer of. of) is;
     wanted = wants;
     claimed = claims;
     committed = λ job tx done made tx_is next none. commits job tx done made tx_is next;

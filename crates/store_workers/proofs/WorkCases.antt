@@ -5,7 +5,8 @@ use Rattle.std.specs.Prelude.{IsSomeAnd}
 use Rattle.disk.specs.declared.block.BlockNo.{BlockNo}
 use Rattle.objects.specs.declared.addr.Addr.{Addr}
 use Rattle.objects.specs.declared.mode.Mode.TheVariants as modes
-use Rattle.model.specs.Calls.{has_rules, unsupported}
+use Rattle.nfs_types.specs.declared.reply.Reply.TheVariants.{Null}
+use Rattle.model.specs.Calls.{begins_transaction}
 use Rattle.wal_law.specs.Log.{added_blocks}
 use Rattle.wal_law.specs.declared.outcomes.Seq.{Seq}
 use Rattle.procs.specs.Outcome.{Outcome}
@@ -50,14 +51,16 @@ pub record IsWished (worker : State) (one : Aim) (next : Plan) : Type 0 where
 pub record Cases (old new : Side) (P : Phase → Option Step → Type 0) : Type 0 where
   pub idle : new ≡ old → P Idle None
   pub reading : new ≡ old → P Reading None
-  pub begun : (job : Job) (number : ℕ) → old.worker.work.job ≡ Some job → has_rules job.call ≡ true
+  pub begun : (job : Job) (number : ℕ) → old.worker.work.job ≡ Some job → begins_transaction job.call ≡ true
       → HasBegun job old number new → P Called (Some (step.Begun (Ok number)))
-  pub not_begun : (job : Job) (why : BeginFault) → old.worker.work.job ≡ Some job → has_rules job.call ≡ true
+  pub not_begun : (job : Job) (why : BeginFault) → old.worker.work.job ≡ Some job
+      → begins_transaction job.call ≡ true
       → IsNoBeginning why old.core → new.core ≡ old.core
       → new.worker ≡ with_answer (refusal job.call (cause_of why)) None old.worker
       → P Called (Some (step.Begun (Err why)))
-  pub replied : (job : Job) → old.worker.work.job ≡ Some job → has_rules job.call ≡ false → new.core ≡ old.core
-      → new.worker ≡ with_answer (verdict.Reply (unsupported job.call)) None old.worker
+  pub replied : (job : Job) → old.worker.work.job ≡ Some job → begins_transaction job.call ≡ false
+      → new.core ≡ old.core
+      → new.worker ≡ with_answer (verdict.Reply Null) None old.worker
       → P Called (Some step.Replied)
   pub wanted : (tx : ℕ) (addr : Addr) (made : Step) → old.worker.begun.tx ≡ Some tx
       → IsWished old.worker (object addr) (plan.Need addr) → (has : HasWanted tx addr old made new)
@@ -89,7 +92,7 @@ module _ (old new : Side) (P : Phase → Option Step → Type 0) (cases : Cases 
   so phase one other is shown = subst (λ made. P phase (Some made)) (sym is) shown
 
   begins : (job : Job) (served : Bool) (made : Step) → old.worker.work.job ≡ Some job
-      → has_rules job.call ≡ served → BeginsBy served job old made new → P Called (Some made)
+      → begins_transaction job.call ≡ served → BeginsBy served job old made new → P Called (Some made)
   begins job false made job_is served has =
       so Called made step.Replied has.0 (cases.replied job job_is served has.1 has.2)
   begins job true (step.Begun (Ok number)) job_is served has = cases.begun job number job_is served has
@@ -113,9 +116,9 @@ module _ (old new : Side) (P : Phase → Option Step → Type 0) (cases : Cases 
   begins job true (step.InstDone a) job_is served has = absurd has
 
   called : (found : Option Job) (made : Step) → old.worker.work.job ≡ found
-      → IsSomeAnd found (λ job. BeginsBy (has_rules job.call) job old made new) → P Called (Some made)
+      → IsSomeAnd found (λ job. BeginsBy (begins_transaction job.call) job old made new) → P Called (Some made)
   called None made is has = absurd has
-  called (Some job) made is has = begins job (has_rules job.call) made is refl has
+  called (Some job) made is has = begins job (begins_transaction job.call) made is refl has
 
   module _ (tx : ℕ) (tx_is : old.worker.begun.tx ≡ Some tx) (none : old.worker.known.left ≡ []) where
     lacks : (made : Step) → HasLacked tx old made new → P Planning (Some made)
@@ -174,7 +177,7 @@ module _ (old new : Side) (P : Phase → Option Step → Type 0) (cases : Cases 
         by : (job : Option Job) → old.worker.work.job ≡ job → (snap : Option Snap) → old.worker.work.snap ≡ snap
             → (is_served job && is_some snap) ≡ true → IsWished old.worker one next
         by None job_is snap snap_is planned = absurd (true≢false (sym planned))
-        by (Some job) job_is None snap_is planned = absurd (none_planned (has_rules job.call) planned)
+        by (Some job) job_is None snap_is planned = absurd (none_planned (begins_transaction job.call) planned)
           where
             none_planned : (b : Bool) → (b && false) ≡ true → ⊥
             none_planned true is = true≢false (sym is)

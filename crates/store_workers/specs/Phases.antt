@@ -1,7 +1,7 @@
 -- What a worker has in each phase: a transaction, a fetch, and what it needs to go on.
 use Rattle.std.specs.Prelude.{Bool, true, false, ◌&&◌, Option, Some, None, is_some}
 use Rattle.disk.specs.declared.block.BlockNo.{BlockNo}
-use Rattle.model.specs.Calls.{has_rules}
+use Rattle.model.specs.Calls.{begins_transaction}
 use Rattle.txn.specs.Fetch.{Fetch}
 use Rattle.store_workers.specs.declared.workers.parts.Job.{Job}
 use Rattle.store_workers.specs.declared.workers.parts.Phase.{Phase}
@@ -32,12 +32,12 @@ has_fetch (Refused refusal) = false
 has_fetch Again = false
 has_fetch (Waiting place) = false
 
--- there is a call, and it is one that is served
+-- there is a call, and it begins a transaction
 abbrev pub is_served : Option Job → Bool
 is_served None = false
-is_served (Some job) = has_rules job.call
+is_served (Some job) = begins_transaction job.call
 
--- there is a call that is served, with what was read for it
+-- there is such a call, with what was read for it
 abbrev pub is_planned : Work → Bool
 is_planned work = is_served work.job && is_some work.snap
 

@@ -7,7 +7,8 @@ use Rattle.disk.specs.declared.block.BlockNo.{BlockNo}
 use Rattle.objects.specs.declared.addr.Addr.{Addr}
 use Rattle.objects.specs.declared.mode.Mode.TheVariants as modes
 use Rattle.layout.specs.declared.version.FormatVersion.TheVariants.{First}
-use Rattle.model.specs.Calls.{has_rules, unsupported}
+use Rattle.nfs_types.specs.declared.reply.Reply.TheVariants.{Null}
+use Rattle.model.specs.Calls.{begins_transaction}
 use Rattle.wal_law.specs.Log.{added_blocks, settled_place}
 use Rattle.wal_law.specs.declared.outcomes.Seq.{Seq}
 use Rattle.procs.specs.Outcome.{Outcome}
@@ -105,17 +106,18 @@ pub record HasBegun (job : Job) (old : Side) (number : ℕ) (new : Side) : Type 
   }
   pub seen : IsSomeAnd (seen_in new.worker.work.snap) (SawNothing old.core)
 
--- A call with rules begins a transaction, or is told why none was begun; another is answered.
+-- A call begins a transaction, or is told why none was begun; NULL is answered.
 abbrev pub BeginsBy : Bool → Job → Side → Step → Side → Type 0
 BeginsBy true job old (step.Begun (Ok number)) new = HasBegun job old number new
 BeginsBy true job old (step.Begun (Err why)) new = IsNoBeginning why old.core × (new.core ≡ old.core)
     × (new.worker ≡ with_answer (refusal job.call (cause_of why)) None old.worker)
 BeginsBy true job old _ new = ⊥
 BeginsBy false job old made new = (made ≡ step.Replied) × (new.core ≡ old.core)
-    × (new.worker ≡ with_answer (verdict.Reply (unsupported job.call)) None old.worker)
+    × (new.worker ≡ with_answer (verdict.Reply Null) None old.worker)
 
 abbrev pub Begins : Side → Step → Side → Type 0
-Begins old made new = IsSomeAnd old.worker.work.job (λ job. BeginsBy (has_rules job.call) job old made new)
+Begins old made new =
+    IsSomeAnd old.worker.work.job (λ job. BeginsBy (begins_transaction job.call) job old made new)
 
 -- ---- a plan
 

@@ -6,8 +6,8 @@ use super::parts::{Job, Phase, State};
 use crate::options::put;
 use disk::CrashDisk;
 use layout::{FormatVersion, Geometry};
-use nfs_types::{Call, Ctx, Status};
-use procs::{Done, Snap, has_rules, refused_reply};
+use nfs_types::{Call, Ctx, Reply, Status};
+use procs::{Done, Snap, begins_transaction, refused_reply};
 use std::alloc::Global;
 use store_promise::{CallAnswer, Cause, Ending, Step, Verdict};
 use txn::{BeginFault, Core, Seq, Tx};
@@ -71,7 +71,7 @@ impl State {
         Step::Read(block, ok)
     }
 
-    // Begins the transaction of a call, or answers a call that needs none.
+    // Begins the transaction of a call, or answers NULL, which needs none.
     fn begin(&mut self, alloc: Global, core: &mut Core<Done>) -> Step
         requires sound { IsSound self.old }
         requires phase { self.old.phase ≡ Called }
@@ -84,9 +84,8 @@ impl State {
         let Some(job) = self.work.job.as_mut() else {
             unreachable!();
         };
-        if !has_rules(&job.call) {
-            let reply = refused_reply(&job.call, Status::NotSupp);
-            self.give(Verdict::Reply(reply), None);
+        if !begins_transaction(&job.call) {
+            self.give(Verdict::Reply(Reply::Null), None);
             return Step::Replied;
         }
         match core.begin() {
