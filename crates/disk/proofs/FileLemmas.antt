@@ -21,7 +21,7 @@ use Rattle.disk.specs.File.{KeepsModel}
 use Rattle.disk.proofs.Failures.{told_before, told_last}
 
 -- a block is at another's offset just where it is that one
-same_block : (one other : ℕ) → is_at one (other * BLOCK_BYTES) ≡ nat_eq one other
+pub same_block : (one other : ℕ) → is_at one (other * BLOCK_BYTES) ≡ nat_eq one other
 same_block one other = elim (cases_Bool (nat_eq one other)) [
   | inl t ↦ eq-eqb (one * BLOCK_BYTES) (other * BLOCK_BYTES)
       (ap (λ n. n * BLOCK_BYTES) (eqb-true one other t)) ∙ sym t

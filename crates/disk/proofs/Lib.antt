@@ -5,3 +5,4 @@ pub mod CrashLemmas
 pub mod FileLemmas
 pub mod OverlapLemmas
 pub mod StoredLemmas
+pub mod SideLemmas

@@ -1,5 +1,5 @@
 -- The newest content of a block is what an honest file has stored.
-use Rattle.std.proofs.Common.{◌≡◌, ℕ, ◌-◌, Bool, true, false, List, [], ◌∷◌, ◌++◌, length, get_or, refl}
+use Rattle.std.proofs.Common.{◌≡◌, ℕ, ◌-◌, ◌<◌, sym, Bool, true, false, List, [], ◌∷◌, ◌++◌, length, get_or, refl}
 use Rattle.std.proofs.Common.{◌∙◌, ap, arith, Result, Ok, Err, if◌then◌else◌}
 use Rattle.std.proofs.lemmas.List.{length-append}
 use Rattle.std.proofs.Math.Seq.{get_or-append_seam}
@@ -7,7 +7,9 @@ use Rattle.disk.specs.declared.device.Failed.{Failed}
 use Rattle.disk.specs.declared.file.FileCall.{FileCall}
 use Rattle.disk.specs.declared.file.FileCall.TheVariants.{Read, Write, Sync}
 use Rattle.disk.specs.Device.{Content, newest, newest_alone, is_on}
-use Rattle.disk.specs.File.{Calls, is_at, effect, put, contents_after, stored}
+use Rattle.disk.specs.Blocks.{IsBlock}
+use Rattle.disk.specs.File.{Calls, EachFits, IsExplainedCall, IsHonest, KeepsModel, contents_after, effect, is_at}
+use Rattle.disk.specs.File.{put, stored}
 use Rattle.disk.proofs.OverlapLemmas.{newest_settled}
 
 newest_appended : (contents : List Content) (content : Content) → newest (contents ++ content ∷ []) ≡ content
@@ -43,3 +45,19 @@ after_all block contents (e ∷ calls) = after_all block (effect block e.0 e.1 c
 pub newest_is_stored : (block : ℕ) (content : Content) (calls : Calls)
     → newest (contents_after block (content ∷ []) calls) ≡ stored block content calls
 newest_is_stored block content calls = after_all block (content ∷ []) calls
+
+explained : (first : ℕ → Content) (earlier : Calls) (call : FileCall) → IsHonest first earlier call
+    → IsExplainedCall first earlier call
+explained first earlier (Read at bytes) honest =
+    λ block here clean. honest block here clean ∙ sym (newest_is_stored block (first block) earlier)
+explained first earlier (Write at bytes) honest = tt
+explained first earlier (Sync side) honest = tt
+
+-- what answers honestly keeps the model
+pub honest_keeps : (first : ℕ → Content) (size : ℕ) (calls : Calls)
+    → ((block : ℕ) → block < size → IsBlock (first block)) → EachFits (IsHonest first) calls
+    → KeepsModel first size calls
+honest_keeps first size calls blocks honest = record {
+  blocks = blocks;
+  explained = λ earlier later call h. explained first earlier call (honest earlier later call h);
+}

@@ -10,3 +10,4 @@ pub mod File
 pub mod FileBlocks
 pub mod Overlap
 pub mod Ports
+pub mod Sides

@@ -8,7 +8,7 @@ use Rattle.plain_session.specs.Records.{IsRecord, IsTooLong, NeedsMore}
 use Rattle.plain_session.specs.declared.answers.Pace.{Pace}
 use Rattle.plain_session.specs.declared.session.PlainSession.{PlainSession}
 use Rattle.plain_session.specs.declared.session.Connection.{Connection}
-use Rattle.plain_session.specs.declared.session.Connection.TheVariants as progress
+use Rattle.plain_session.specs.declared.session.Connection.TheVariants as connection
 
 -- a session: its files, the bytes that aren't answered yet, and whether it has closed
 pub record Session : Type 0 where
@@ -67,12 +67,12 @@ pub data AreAnswered (before : Files) (bytes first : List ℕ) : List ℕ → Li
 
 -- no record more is answered: none is whole, or the connection closes
 abbrev pub Stops : List ℕ → Connection → Type 0
-Stops left progress.Open = NeedsMore left
-Stops left progress.Closed = IsTooLong left ⊎ BeginsClosing left
+Stops left connection.Open = NeedsMore left
+Stops left connection.Closed = IsTooLong left ⊎ BeginsClosing left
 
 abbrev pub is_closed_by : Connection → Bool
-is_closed_by progress.Open = false
-is_closed_by progress.Closed = true
+is_closed_by connection.Open = false
+is_closed_by connection.Closed = true
 
 -- What comes of a piece where memory suffices: all records that are whole by then are answered.
 pub record IsFed (old : Session) (piece first : List ℕ) (went : Connection) (written : List ℕ) (new : Session)
@@ -101,8 +101,8 @@ IsNew blocks inodes made pace (Some session) = (data_blocks : ℕ) × HasData bl
 
 -- how a session stands at the end of the input: closed, where it has closed or the end is inside a record
 abbrev pub Ends : Session → Connection → Type 0
-Ends session progress.Open = (session.is_closed ≡ false) × (session.unread ≡ [])
-Ends session progress.Closed = (session.is_closed ≡ true) ⊎ (session.unread ≢ [])
+Ends session connection.Open = (session.is_closed ≡ false) × (session.unread ≡ [])
+Ends session connection.Closed = (session.is_closed ≡ true) ⊎ (session.unread ≢ [])
 
 -- the exit status by what is left of a whole input: 0 at its end, 1 where the connection closes before it
 abbrev pub EndsWith : List ℕ → ℕ → Type 0

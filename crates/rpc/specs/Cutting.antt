@@ -6,8 +6,8 @@ use Rattle.bytes.specs.Filled.{Filled}
 use Rattle.limits.specs.declared.TheConstants.{RECORD_BYTES}
 use Rattle.rpc.specs.declared.stage.Stage.{Stage}
 use Rattle.rpc.specs.declared.stage.Stage.TheVariants.{Fresh, Between, Inside}
-use Rattle.rpc.specs.declared.stage.Progress.{Progress}
-use Rattle.rpc.specs.declared.stage.Progress.TheVariants.{Waits, GoesOn, Whole}
+use Rattle.rpc.specs.declared.stage.Advance.{Advance}
+use Rattle.rpc.specs.declared.stage.Advance.TheVariants.{Waits, GoesOn, Whole}
 use Rattle.rpc.specs.declared.fault.RpcFault.{RpcFault}
 use Rattle.rpc.specs.declared.fault.RpcFault.TheVariants.{TooLong, NoMemory}
 use Rattle.rpc.specs.declared.cutter.Cutter.{Cutter}
@@ -75,7 +75,7 @@ abbrev pub Waiting : Cutter → Type 0
 Waiting c = (part : IsPart (text_of c)) × (held_by c ≡ held_of part)
 
 -- what a step tells
-abbrev pub Tells : Cutter → Result Progress RpcFault → Cutter → Type 0
+abbrev pub Tells : Cutter → Result Advance RpcFault → Cutter → Type 0
 Tells old (Ok Waits) new = Waiting new
 Tells old (Ok GoesOn) new = ahead new < ahead old
 Tells old (Ok Whole) new = new.stage ≡ Inside true 0
@@ -83,7 +83,7 @@ Tells old (Err NoMemory) new = Unit {0}
 Tells old (Err TooLong) new = IsTooLong (text_of new)
 
 -- what a step leaves
-pub record Advances (old : Cutter) (result : Result Progress RpcFault) (new : Cutter) : Type 0 where
+pub record Advances (old : Cutter) (result : Result Advance RpcFault) (new : Cutter) : Type 0 where
   pub cut : IsCut new
   pub text : text_of new ≡ text_of old
   pub told : Tells old result new

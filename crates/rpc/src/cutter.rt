@@ -8,7 +8,7 @@ ghost use Rattle.rpc.specs.Cutting.{Advances, IsCut, IsOutside, Looks, held_by, 
 
 use crate::LAST_FRAGMENT;
 use crate::fault::RpcFault;
-use crate::stage::{Progress, Stage};
+use crate::stage::{Advance, Stage};
 use bytes::{Bytes, BytesMut};
 use http_server::Log;
 use limits::RECORD_BYTES;
@@ -112,9 +112,9 @@ impl Cutter {
     {
         'fragments: loop {
             match self.advance()? {
-                Progress::Waits => return Ok(false),
-                Progress::Whole => return Ok(true),
-                Progress::GoesOn => {}
+                Advance::Waits => return Ok(false),
+                Advance::Whole => return Ok(true),
+                Advance::GoesOn => {}
             }
         }
     }
@@ -127,7 +127,7 @@ impl Cutter {
     }
 
     // Looks at the bytes that are there, up to the end of a fragment.
-    fn advance(&mut self) -> Result<Progress, RpcFault>
+    fn advance(&mut self) -> Result<Advance, RpcFault>
         requires { IsCut self.old }
         ensures { Advances self.old result self.new }
     {
@@ -138,14 +138,14 @@ impl Cutter {
     }
 
     // Takes the next mark, and then what is there of its fragment.
-    fn begin(&mut self) -> Result<Progress, RpcFault>
+    fn begin(&mut self) -> Result<Advance, RpcFault>
         requires cut { IsCut self.old }
         requires outside { IsOutside self.old.stage }
         ensures { Advances self.old result self.new }
     {
         let pending = self.pending.as_slice();
         if pending.len() < MARK_BYTES {
-            return Ok(Progress::Waits);
+            return Ok(Advance::Waits);
         }
         let (last, length) = announced(&pending[..MARK_BYTES]);
         if length > RECORD_BYTES - self.content.len() {
@@ -157,7 +157,7 @@ impl Cutter {
     }
 
     // Gathers what is there of a fragment of which so many bytes are still to come.
-    fn fill(&mut self, last: bool, left: usize) -> Result<Progress, RpcFault>
+    fn fill(&mut self, last: bool, left: usize) -> Result<Advance, RpcFault>
         requires cut { IsCut self.old }
         requires inside { self.old.stage ≡ Stage.Inside last left }
         ensures { Advances self.old result self.new }
@@ -169,14 +169,14 @@ impl Cutter {
                 last,
                 left: left - count,
             };
-            return Ok(Progress::Waits);
+            return Ok(Advance::Waits);
         }
         if last {
             self.stage = Stage::Inside { last, left: 0 };
-            return Ok(Progress::Whole);
+            return Ok(Advance::Whole);
         }
         self.stage = Stage::Between;
-        Ok(Progress::GoesOn)
+        Ok(Advance::GoesOn)
     }
 
     // Takes bytes off the front, as content of the record.

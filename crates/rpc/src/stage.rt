@@ -13,7 +13,7 @@ pub enum Stage {
 
 /// What came of the bytes that are there.
 #[derive(Clone, Copy)]
-pub enum Progress {
+pub enum Advance {
     /// More bytes have to come.
     Waits,
     /// A fragment is whole, and it isn't the last.

@@ -57,7 +57,7 @@ use Rattle.store_promise.specs.declared.aims.Aim.{Aim}
 use Rattle.store_workers.specs.Alone.{HasOfCall, HasTaken, LeavesNothing, PlansAlone, is_full, is_kept_off}
 use Rattle.store_workers.specs.Knowing.{nothing_known}
 use Rattle.store_images.specs.Fetches.{KeepsFetches}
-use Rattle.store.specs.Driving.{HasGoneOn, IsAnswered, IsNearer, IsUnder, IsUnderWay}
+use Rattle.store.specs.Driving.{HasGoneOn, HasAnswer, IsNearer, IsUnder, IsUnderWay}
 use Rattle.store.specs.Driving.{away, count_of, has_room, is_at_hand}
 use Rattle.store.specs.Driving.{left_in, most_taken, rounds_left, steps_left, untaken}
 use Rattle.store.specs.Driving.{waits_for_log}
@@ -159,7 +159,7 @@ pub record IsToSettle (old new : Side) (place : Seq) : Type 0 where
 pub data Came (phase : Phase) (old : Side) (made : Option Step) (new : Side) : Type 0 where
   gone : HasGoneOn (left_in phase old.worker.work old.core) new.worker new.core
       → is_full made ≡ false → waits_for_log made ≡ false → Came phase old made new
-  told : IsAnswered new.worker → is_full made ≡ false → Came phase old made new
+  told : HasAnswer new.worker → is_full made ≡ false → Came phase old made new
   reads : IsToRead old new → phase ≡ Planning → is_full made ≡ false → waits_for_log made ≡ false
       → Came phase old made new
   full : IsFull (left_in phase old.worker.work old.core) new → is_full made ≡ true → waits_for_log made ≡ true
@@ -495,7 +495,7 @@ waited old new place made within has =
     room_is settled is = ap (λ m. is_full (Some m)) is
 
     told_so : (heard : Verdict) (base : State) → new.worker ≡ with_answer heard (Some place) base
-        → IsAnswered new.worker
+        → HasAnswer new.worker
     told_so heard base is = record {
       idle = ap (λ (s : State). s.phase) is;
       there = ap (λ (s : State). is_some s.work.answer) is;
@@ -503,7 +503,7 @@ waited old new place made within has =
 
     reply : (o : Option Reply) (base : State)
         → IsSomeAnd o (λ reply. new.worker ≡ with_answer (verdict.Reply reply) (Some place) base)
-        → IsAnswered new.worker
+        → HasAnswer new.worker
     reply None base has = absurd has
     reply (Some r) base has = told_so (verdict.Reply r) base has
 

@@ -99,7 +99,7 @@ abbrev pub IsUnderWay : State → CoreState → Type 0
 IsUnderWay state core = IsUnder state.phase core
 
 -- the call is answered
-pub record IsAnswered (state : State) : Type 0 where
+pub record HasAnswer (state : State) : Type 0 where
   pub idle : state.phase ≡ Idle
   pub there : is_some state.work.answer ≡ true
 
@@ -110,7 +110,7 @@ pub record IsNearer (most : ℕ) (state : State) (core : CoreState) : Type 0 whe
 
 -- the call is answered, or less than so much is left of it
 abbrev pub HasGoneOn : ℕ → State → CoreState → Type 0
-HasGoneOn most state core = IsAnswered state ⊎ IsNearer most state core
+HasGoneOn most state core = HasAnswer state ⊎ IsNearer most state core
 
 -- ---- one step of it
 

@@ -114,10 +114,10 @@ pub record EndsWell (before later : Device) (tree : Tree) (first workers : ℕ) 
   pub all : length report.told.steps < length events → 0 < report.refused
 
 -- what comes of a run: what it hands back, or why the store wasn't opened
-abbrev pub IsAnswered : Device → Device → Tree → ℕ → ℕ → Schedule → Result Report OpenFault → Type 0
-IsAnswered before later tree first workers events (Ok report) =
+abbrev pub ComesOfRun : Device → Device → Tree → ℕ → ℕ → Schedule → Result Report OpenFault → Type 0
+ComesOfRun before later tree first workers events (Ok report) =
     EndsWell before later tree first workers events report
-IsAnswered before later tree first workers events (Err cause) = IsRefused before later tree first cause
+ComesOfRun before later tree first workers events (Err cause) = IsRefused before later tree first cause
 
 -- What is promised: a run that stands on this keeps its promise, or was refused for a cause that a good image
 -- may have.
@@ -125,4 +125,4 @@ abbrev pub IsPromised : Type 0 → Device → Device → Tree → ℕ → ℕ �
     → Type 0
 IsPromised keeps_model before later tree first workers events answer =
     MayRun keeps_model before tree first events
-    → IsAnswered before later tree first workers events answer
+    → ComesOfRun before later tree first workers events answer

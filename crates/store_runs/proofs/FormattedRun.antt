@@ -5,7 +5,7 @@ use Rattle.disk.specs.Device.{Device}
 use Rattle.model.specs.Tree.{Tree}
 use Rattle.store_promise.specs.declared.fault.OpenFault.{OpenFault}
 use Rattle.store_promise.specs.declared.transcript.Run.{Run}
-use Rattle.store_promise.specs.Headline.{IsAnswered, IsPromised, MayRun}
+use Rattle.store_promise.specs.Headline.{ComesOfRun, IsPromised, MayRun}
 use Rattle.store_promise.specs.Schedule.{Schedule}
 use Rattle.store_promise.specs.Transcript.{report_of}
 use Rattle.store_runs.specs.FormattedRun.{answer_of}
@@ -16,6 +16,6 @@ pub is_answered : (keeps_model : Type 0) (before later : Device) (tree : Tree) (
     (λ told. IsPromised keeps_model before later tree first workers events (Ok (report_of told)))
     (λ fault. IsPromised keeps_model before later tree first workers events (Err fault))
     → MayRun keeps_model before tree first events
-    → IsAnswered before later tree first workers events (answer_of answer)
+    → ComesOfRun before later tree first workers events (answer_of answer)
 is_answered keeps_model before later tree first workers events (Ok told) promised may = promised may
 is_answered keeps_model before later tree first workers events (Err fault) promised may = promised may

@@ -9,7 +9,7 @@ use Rattle.model.specs.Format.{format_tree}
 use Rattle.nfs_types.specs.declared.ctx.Moment.{Moment}
 use Rattle.store_promise.specs.declared.fault.OpenFault.{OpenFault}
 use Rattle.store_promise.specs.declared.transcript.Run.{Run}
-use Rattle.store_promise.specs.Headline.{IsAnswered, MayRun}
+use Rattle.store_promise.specs.Headline.{ComesOfRun, MayRun}
 use Rattle.store_promise.specs.Openings.{IsFormatted}
 use Rattle.store_promise.specs.Schedule.{Schedule}
 use Rattle.store_promise.specs.Transcript.{Report, report_of}
@@ -42,7 +42,7 @@ pub record HasRunOnMade (blocks inodes : ℕ) (made : Moment) (workers : ℕ) (e
   pub inodes_are : geometry.inodes ≡ inodes
   pub formatted : IsFormatted empty before geometry made
   pub may : MayRun (Unit {0}) before (format_tree (geometry_of geometry) made) 0 events
-  pub answered : IsAnswered before later (format_tree (geometry_of geometry) made) 0 workers events
+  pub answered : ComesOfRun before later (format_tree (geometry_of geometry) made) 0 workers events
       (answer_of answer)
 
 -- why no image is made on a device in memory
