@@ -147,8 +147,8 @@ module _ (first : ℕ → Content) (size : ℕ) where
       → bytes ≡ stored block (first block) (file_calls before)
   read_on side asked before after block bytes honest come on clean =
       let parted_at : file_calls (asked_for size side asked)
-          ≡ file_calls (of_side side before)
-          ++ (file_call (reads block bytes), Ok tt) ∷ file_calls (of_side side after) =
+      ≡ file_calls (of_side side before)
+      ++ (file_call (reads block bytes), Ok tt) ∷ file_calls (of_side side after) =
       ap file_calls (sym come)
       ∙ ap file_calls (filtered_at (λ (c : Answered). is_of side c.0) before (reads block bytes, Ok tt) after on)
       ∙ map-append (λ (c : Answered). (file_call c.0, c.1)) (of_side side before)
@@ -200,7 +200,7 @@ module _ (first : ℕ → Content) (size : ℕ) (calls : AnsweredCalls) where
       → Makes (file_device first size (file_calls calls)) call result (file_device first size (next call result))
   made_next (reads block bytes) result keeps = (
     has_read first size (file_calls calls) (block * BLOCK_BYTES) (record { marker = record {}; value = bytes })
-    result,
+        result,
     counts first size (file_calls calls) (file_call (reads block bytes)) result,
     explained first size (file_calls calls) block (record { marker = record {}; value = bytes }) result keeps,
   )
