@@ -1,10 +1,11 @@
 //! Driving a seat: locked steps and reads by turns.
-use crate::hall::Hall;
+use crate::batch::Batch;
+use crate::hall::{Hall, is_crowded};
 use crate::sizes::{
-    FIRST_SLEEP_MICROSECONDS, FULL_MILLISECONDS, LONGEST_SLEEP_MICROSECONDS, YIELDS,
+    CALLS_IN_A_ROW, FIRST_SLEEP_MICROSECONDS, FULL_MILLISECONDS, LONGEST_SLEEP_MICROSECONDS, YIELDS,
 };
 use disk::Source;
-use pool::{Answer, Job, NoGate, Seat, Told, Turn, Whole, worker_io};
+use pool::{Answer, Job, Look, NoGate, Seat, Told, Turn, Whole, worker_io};
 use server_parts::Parked;
 use std::sync::Wait;
 use std::sync::ledger::Ledger;
@@ -21,8 +22,17 @@ enum Driven {
     Empty,
 }
 
+/// What came of calls that were driven in a row.
+#[derive(Clone, Copy)]
+pub struct Row {
+    /// No memory was refused for an answer.
+    pub is_well: bool,
+    /// Something was committed, and so many commits are kept that it waits until some of them are home.
+    pub is_crowded: bool,
+}
+
 /// Hands a free seat a job, and drives it to its answer. None where its change waits to be settled: then it is
-/// parked, and a finisher answers it. `hand_on` is called once before that.
+/// parked, and the finisher answers it.
 pub fn answer_in<L: Ledger, G: Whole, I: Whole, P, S: Source, R: Wait + Clock>(
     rt: &R,
     hall: &Hall<L, G, I, P, S>,
@@ -45,6 +55,109 @@ fn hand<L: Ledger, G: Whole, I: Whole, P, S, R: Wait + Clock>(
         return;
     };
     let _ = seat.lock(rt).hand(job, moment);
+}
+
+/// Drives the calls of a batch in a row, one after another in a free seat, as far as none has to wait for
+/// something. The jobs that are left found no seat free.
+pub fn drive_batch<L: Ledger, G: Whole, I: Whole, P, S, R: Wait + Clock>(
+    rt: &R,
+    hall: &Hall<L, G, I, P, S>,
+    batch: &mut Batch,
+) -> Row {
+    let (is_well, look) = drive_in_a_row(rt, hall, batch);
+    let is_crowded = match look {
+        Some(look) => hall.tell_of_commit(rt, look),
+        None => false,
+    };
+    Row {
+        is_well,
+        is_crowded,
+    }
+}
+
+// The same by who has the baton: with how far the core is where something was committed.
+fn drive_in_a_row<L: Ledger, G: Whole, I: Whole, P, S, R: Wait + Clock>(
+    rt: &R,
+    hall: &Hall<L, G, I, P, S>,
+    batch: &mut Batch,
+) -> (bool, Option<Look>) {
+    let _baton = hall.signs.baton.lock(rt);
+    let mut is_well = true;
+    let mut committed = false;
+    let mut free = None;
+    for _ in 0..CALLS_IN_A_ROW {
+        if batch.jobs.is_empty() {
+            break;
+        }
+        let Some(number) = seat_for_next(rt, hall, free) else {
+            break;
+        };
+        let Some(job) = batch.jobs.pop_front() else {
+            free = Some(number);
+            break;
+        };
+        hand(rt, hall, number, job);
+        let made = first_steps(rt, hall, number);
+        committed = committed || made.committed;
+        free = None;
+        match made.answer {
+            Some(answer) => {
+                free = Some(number);
+                is_well = batch.answers.push(answer).is_ok() && is_well;
+            }
+            None => is_well = batch.held_up.push(number).is_ok() && is_well,
+        }
+    }
+    if let Some(number) = free {
+        hall.signs.free.put(rt, number);
+    }
+    let look = if committed {
+        Some(hall.shared.look(rt))
+    } else {
+        None
+    };
+    (is_well, look)
+}
+
+// The seat that has just answered, or another that is free.
+fn seat_for_next<L: Ledger, G: Whole, I: Whole, P, S, R: Wait>(
+    rt: &R,
+    hall: &Hall<L, G, I, P, S>,
+    free: Option<usize>,
+) -> Option<usize> {
+    match free {
+        Some(number) => Some(number),
+        None => hall.signs.free.try_take(rt),
+    }
+}
+
+/// Drives a seat that had to wait for something to its answer, and frees it. None where its change waits to be
+/// settled: then it is parked, and the finisher answers it.
+pub fn drive_on<L: Ledger, G: Whole, I: Whole, P, S: Source, R: Wait + Clock>(
+    rt: &R,
+    hall: &Hall<L, G, I, P, S>,
+    number: usize,
+) -> Option<Answer> {
+    if let Some(place) = place_of(rt, hall, number) {
+        let parked = Parked {
+            place,
+            seat: number,
+        };
+        if hall.signs.parking.park(rt, parked) {
+            return None;
+        }
+    }
+    see_through(rt, hall, number)
+}
+
+// The place that a seat waits for to be settled.
+fn place_of<L: Ledger, G: Whole, I: Whole, P, S, R: Wait>(
+    rt: &R,
+    hall: &Hall<L, G, I, P, S>,
+    number: usize,
+) -> Option<u64> {
+    let place = hall.seats.get(number)?.lock(rt).waits()?;
+    Some(place.0)
 }
 
 /// Drives a seat to its answer, and frees it. None where its change waits to be settled: then it is parked.
@@ -90,10 +203,11 @@ fn go_on<L: Ledger, G: Whole, I: Whole, P, S: Source, R: Wait + Clock>(
     let mut kept_off = 0;
     for _ in rt.forever() {
         let rounds = hall.signs.rounds.count();
-        let made = steps(rt, hall, &mut *seat);
-        if made.committed {
-            hall.tell_of_commit(rt);
-            wait_while_crowded(rt, hall);
+        let (made, look) = steps(rt, hall, &mut *seat);
+        if let Some(look) = look {
+            if hall.tell_of_commit(rt, look) {
+                wait_while_crowded(rt, hall);
+            }
         }
         if let Some(answer) = seat.take_answer() {
             return Driven::Answered(answer);
@@ -121,14 +235,57 @@ struct Made {
     committed: bool,
 }
 
-// Steps of a seat in a row, as far as none has to wait for something. Of those who drive seats one at a time makes
-// them, so that the lock round the core, which each step takes, is seldom taken by another.
+// What the first steps of a call came to.
+#[derive(Drop)]
+struct Begun {
+    answer: Option<Answer>,
+    committed: bool,
+}
+
+// The steps in a row of a seat that was just handed a job, by who has the baton.
+fn first_steps<L: Ledger, G: Whole, I: Whole, P, S, R: Wait>(
+    rt: &R,
+    hall: &Hall<L, G, I, P, S>,
+    number: usize,
+) -> Begun {
+    let Some(seat) = hall.seats.get(number) else {
+        return Begun {
+            answer: None,
+            committed: false,
+        };
+    };
+    let mut seat = seat.lock(rt);
+    let made = steps_in_a_row(rt, hall, &mut *seat);
+    Begun {
+        answer: seat.take_answer(),
+        committed: made.committed,
+    }
+}
+
+// Steps of a seat in a row, as far as none has to wait for something, and how far the core is where one of them was
+// a commit. Of those who drive seats one at a time makes them, so that the lock round the core, which each step
+// takes, is seldom taken by another.
 fn steps<L: Ledger, G: Whole, I: Whole, P, S, R: Wait>(
     rt: &R,
     hall: &Hall<L, G, I, P, S>,
     seat: &mut Seat<L>,
+) -> (Made, Option<Look>) {
+    let _baton = hall.signs.baton.lock(rt);
+    let made = steps_in_a_row(rt, hall, seat);
+    let look = if made.committed {
+        Some(hall.shared.look(rt))
+    } else {
+        None
+    };
+    (made, look)
+}
+
+// The steps, by who has the baton.
+fn steps_in_a_row<L: Ledger, G: Whole, I: Whole, P, S, R: Wait>(
+    rt: &R,
+    hall: &Hall<L, G, I, P, S>,
+    seat: &mut Seat<L>,
 ) -> Made {
-    let _turn = hall.signs.turn.lock(rt);
     let mut committed = false;
     let mut looked = false;
     for _ in rt.forever() {
@@ -160,14 +317,14 @@ fn wait_for_room<L: Ledger, G: Whole, I: Whole, P, S, R: Wait + Clock>(
     hall.signs.rounds.wait_for_next(rt, rounds, patience);
 }
 
-// Waits while too many commits are kept, as bringing them home is slow.
-fn wait_while_crowded<L: Ledger, G: Whole, I: Whole, P, S, R: Wait + Clock>(
+/// Waits while too many commits are kept, as bringing them home is slow.
+pub fn wait_while_crowded<L: Ledger, G: Whole, I: Whole, P, S, R: Wait + Clock>(
     rt: &R,
     hall: &Hall<L, G, I, P, S>,
 ) {
     for _ in rt.forever() {
         let rounds = hall.signs.rounds.count();
-        if !hall.is_crowded(rt) {
+        if !is_crowded(hall.shared.look(rt)) {
             return;
         }
         let patience = Duration::from_millis(FULL_MILLISECONDS);

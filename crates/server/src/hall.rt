@@ -3,7 +3,7 @@ use crate::connection::Connection;
 use crate::jobs::Jobs;
 use crate::sizes::{MOST_KEPT_COMMITS, URGENT_COMMITS};
 use nfs_types::Moment;
-use pool::{Answer, Connections, IoSeat, Pool, Seat, Shared, Whole};
+use pool::{Answer, Connections, IoSeat, Look, Pool, Seat, Shared, Whole};
 use server_parts::{Bell, FreeSeats, Moments, Parking, Rounds, moment_of};
 use std::alloc::{AllocError, Global};
 use std::sync::ledger::Ledger;
@@ -48,8 +48,8 @@ pub struct Signs {
     pub rounds: Rounds,
     pub open: Mutex<Connections<Arc<Connection, Global>>>,
     pub moments: Mutex<Moments>,
-    // Who drives a seat has it for the steps that it makes in a row.
-    pub turn: Mutex<()>,
+    // Who drives seats has it for the steps that it makes in a row.
+    pub baton: Mutex<()>,
 }
 
 impl<P, S> Devices<P, S> {
@@ -84,7 +84,7 @@ impl Signs {
             rounds: Rounds::new(),
             open: Mutex::new(Connections::new(alloc)),
             moments: Mutex::new(Moments::new()),
-            turn: Mutex::new(()),
+            baton: Mutex::new(()),
         })
     }
 
@@ -168,20 +168,20 @@ impl<L: Ledger, G: Whole, I: Whole, P, S> Hall<L, G, I, P, S> {
         }
     }
 
-    /// Wakes the logger, where a commit waits for it, and the installer, where many are kept.
-    pub fn tell_of_commit<R: Wait>(&self, rt: &R) {
-        let look = self.shared.look(rt);
+    /// Wakes the logger, where a commit waits for it, and the installer, where many are kept. True where so many
+    /// are that who has committed waits until some of them are home.
+    pub fn tell_of_commit<R: Wait>(&self, rt: &R, look: Look) -> bool {
         if !look.is_settled {
             self.signs.to_log.ring(rt);
         }
         if look.kept > URGENT_COMMITS {
             self.signs.to_install.ring_now(rt);
         }
+        is_crowded(look)
     }
+}
 
-    /// Whether so many commits are kept that who has committed waits until some of them are home.
-    pub fn is_crowded<R: Wait>(&self, rt: &R) -> bool {
-        let look = self.shared.look(rt);
-        look.kept > MOST_KEPT_COMMITS && !look.broken
-    }
+/// Whether so many commits are kept that who has committed waits until some of them are home.
+pub fn is_crowded(look: Look) -> bool {
+    look.kept > MOST_KEPT_COMMITS && !look.broken
 }

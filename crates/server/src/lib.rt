@@ -2,6 +2,7 @@
 #![tactic(auto)]
 
 mod accepting;
+mod batch;
 mod beginning;
 mod connection;
 mod driving;

@@ -1,8 +1,9 @@
 //! The thread that reads a connection.
 ghost use Rattle.std.specs.Prelude.{◌≤◌, IfOk, length};
 
+use crate::batch::Batch;
 use crate::connection::Connection;
-use crate::driving::answer_in;
+use crate::driving::{drive_batch, drive_on, wait_while_crowded};
 use crate::hall::Hall;
 use crate::sizes::{MOST_WAITING_BYTES, REPLY_BATCH_BYTES, STREAM_PIECE_BYTES};
 use bytes::Bytes;
@@ -61,6 +62,9 @@ fn read_pieces<L: Ledger, G: Whole, I: Whole, P, S: Source, R: Wait + Clock>(
     let Ok(mut piece) = vec![in hall.alloc; 0u8; STREAM_PIECE_BYTES] else {
         return true;
     };
+    let Ok(mut batch) = Batch::new(hall.alloc) else {
+        return true;
+    };
     let mut records = Records::new(hall.alloc);
     for _ in rt.forever() {
         if !desk
@@ -79,7 +83,7 @@ fn read_pieces<L: Ledger, G: Whole, I: Whole, P, S: Source, R: Wait + Clock>(
         if records.feed(&piece.as_slice()[..count]).is_err() {
             return true;
         }
-        if !serve_records(rt, hall, desk, &mut records) {
+        if !serve_records(rt, hall, desk, &mut records, &mut batch) {
             return true;
         }
     }
@@ -109,68 +113,163 @@ fn serve_records<L: Ledger, G: Whole, I: Whole, P, S: Source, R: Wait + Clock>(
     hall: &Hall<L, G, I, P, S>,
     desk: &Desk<'_>,
     records: &mut Records,
+    batch: &mut Batch,
 ) -> bool {
     let mut replies = Vec::new(hall.alloc);
-    let mut goes_on = true;
     for _ in rt.forever() {
-        let Ok(next) = records.next() else {
-            goes_on = false;
-            break;
-        };
-        let Some(record) = next else {
-            break;
-        };
-        if !desk
-            .connection
-            .outgoing
-            .wait_for_room(rt, MOST_WAITING_BYTES)
-        {
-            goes_on = false;
-            break;
-        }
-        if !serve_record(rt, hall, desk, &record, &mut replies) {
-            goes_on = false;
-            break;
-        }
-        if replies.len() >= REPLY_BATCH_BYTES {
-            goes_on = desk.connection.write(rt, hall.alloc, replies.as_slice());
-            replies.clear();
-            if !goes_on {
-                break;
+        let gathered = gather(rt, hall, desk, records, batch, &mut replies);
+        let is_well = answer_batch(rt, hall, desk, batch, &mut replies);
+        let goes_on = is_well && gathered != Gathered::Closes;
+        let is_over = !goes_on || gathered == Gathered::All;
+        if is_over || replies.len() >= REPLY_BATCH_BYTES {
+            if !write(rt, hall.alloc, desk, &mut replies) {
+                return false;
             }
         }
+        if is_over {
+            return goes_on;
+        }
     }
-    if replies.is_empty() {
-        return goes_on;
-    }
-    desk.connection.write(rt, hall.alloc, replies.as_slice()) && goes_on
+    true
 }
 
-// Answers a record, or hands it on. False where the connection is to end.
-fn serve_record<L: Ledger, G: Whole, I: Whole, P, S: Source, R: Wait + Clock>(
+// How far the records that have come whole were gathered.
+#[derive(Clone, Copy, PartialEq, Eq)]
+enum Gathered {
+    // As many as are driven in a row.
+    Batch,
+    // All of them.
+    All,
+    // The connection is to end.
+    Closes,
+}
+
+// Gathers calls, once there is room for their replies, and puts the replies of other records.
+fn gather<L: Ledger, G: Whole, I: Whole, P, S, R: Wait>(
     rt: &R,
     hall: &Hall<L, G, I, P, S>,
     desk: &Desk<'_>,
-    record: &Bytes,
+    records: &mut Records,
+    batch: &mut Batch,
     replies: &mut Vec<u8>,
-) -> bool {
-    match receive(hall.alloc, desk.key, desk.number, record) {
-        Received::Closed => false,
-        Received::Answered(answer) => put(hall.alloc, &answer, replies),
-        Received::Job(job) => {
-            desk.connection.outgoing.hand_on(rt);
-            match hall.signs.free.try_take(rt) {
-                None => hall.signs.jobs.put(rt, job),
-                Some(seat) => match answer_in(rt, hall, seat, job) {
-                    None => true,
-                    Some(answer) => {
-                        desk.connection.outgoing.take_back(rt);
-                        put(hall.alloc, &answer, replies)
-                    }
-                },
-            }
+) -> Gathered {
+    if !desk
+        .connection
+        .outgoing
+        .wait_for_room(rt, MOST_WAITING_BYTES)
+    {
+        return Gathered::Closes;
+    }
+    for _ in rt.forever() {
+        if batch.is_full() || replies.len() >= REPLY_BATCH_BYTES {
+            return Gathered::Batch;
+        }
+        let Ok(next) = records.next() else {
+            return Gathered::Closes;
+        };
+        let Some(record) = next else {
+            return Gathered::All;
+        };
+        if !take_record(hall.alloc, desk, &record, batch, replies) {
+            return Gathered::Closes;
         }
     }
+    Gathered::All
+}
+
+// Puts a call behind the batch, and the reply of another record behind the replies. False where the connection is
+// to end.
+fn take_record(
+    alloc: Global,
+    desk: &Desk<'_>,
+    record: &Bytes,
+    batch: &mut Batch,
+    replies: &mut Vec<u8>,
+) -> bool {
+    match receive(alloc, desk.key, desk.number, record) {
+        Received::Closed => false,
+        Received::Answered(answer) => put(alloc, &answer, replies),
+        Received::Job(job) => batch.jobs.push_back(job).is_ok(),
+    }
+}
+
+// Drives the calls of a batch, and puts their replies. Those that were answered so are written before
+// anything is waited for. False where the connection is to end.
+fn answer_batch<L: Ledger, G: Whole, I: Whole, P, S: Source, R: Wait + Clock>(
+    rt: &R,
+    hall: &Hall<L, G, I, P, S>,
+    desk: &Desk<'_>,
+    batch: &mut Batch,
+    replies: &mut Vec<u8>,
+) -> bool {
+    if batch.jobs.is_empty() {
+        return true;
+    }
+    let row = drive_batch(rt, hall, batch);
+    let mut is_well = row.is_well;
+    for answer in batch.answers.as_slice() {
+        is_well = put(hall.alloc, answer, replies) && is_well;
+    }
+    batch.answers.clear();
+    if batch.held_up.is_empty() && batch.jobs.is_empty() && !row.is_crowded {
+        return is_well;
+    }
+    is_well = write(rt, hall.alloc, desk, replies) && is_well;
+    if row.is_crowded {
+        wait_while_crowded(rt, hall);
+    }
+    is_well = finish(rt, hall, desk, batch, replies) && is_well;
+    hand_on(rt, hall, desk, batch) && is_well
+}
+
+// Drives the seats that had to wait for something to their answers, or parks them. False where memory is refused
+// for a reply.
+fn finish<L: Ledger, G: Whole, I: Whole, P, S: Source, R: Wait + Clock>(
+    rt: &R,
+    hall: &Hall<L, G, I, P, S>,
+    desk: &Desk<'_>,
+    batch: &mut Batch,
+    replies: &mut Vec<u8>,
+) -> bool {
+    let mut is_well = true;
+    for number in batch.held_up.as_slice() {
+        desk.connection.outgoing.hand_on(rt);
+        if let Some(answer) = drive_on(rt, hall, *number) {
+            desk.connection.outgoing.take_back(rt);
+            is_well = put(hall.alloc, &answer, replies) && is_well;
+        }
+    }
+    batch.held_up.clear();
+    is_well
+}
+
+// Hands on the calls that found no seat free. False where nobody will take them.
+fn hand_on<L: Ledger, G: Whole, I: Whole, P, S, R: Wait>(
+    rt: &R,
+    hall: &Hall<L, G, I, P, S>,
+    desk: &Desk<'_>,
+    batch: &mut Batch,
+) -> bool {
+    for _ in 0..batch.jobs.len() {
+        let Some(job) = batch.jobs.pop_front() else {
+            return true;
+        };
+        desk.connection.outgoing.hand_on(rt);
+        if !hall.signs.jobs.put(rt, job) {
+            return false;
+        }
+    }
+    true
+}
+
+// Writes the replies, if there are any. False where no more can be written.
+fn write<R: Wait>(rt: &R, alloc: Global, desk: &Desk<'_>, replies: &mut Vec<u8>) -> bool {
+    if replies.is_empty() {
+        return true;
+    }
+    let is_written = desk.connection.write(rt, alloc, replies.as_slice());
+    replies.clear();
+    is_written
 }
 
 // Puts the bytes of an answer behind others. False where memory is refused.
