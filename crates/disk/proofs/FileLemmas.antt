@@ -85,13 +85,12 @@ module _ (first : ℕ → Content) (size : ℕ) (calls : Calls) where
       ∙ omega arith
   counts call (Err u) = sum_by-append (λ e. cond (is_err e.1) 1 0) calls ((call, Err u) ∷ [])
 
-  -- what kept the model with one more call kept it before
-  pub kept : (e : FileCall × Result Unit Failed) → KeepsModel first size (calls ++ e ∷ [])
-      → KeepsModel first size calls
-  kept e keeps = record {
+  -- what kept the model with more calls kept it before
+  pub keeps_before : (more : Calls) → KeepsModel first size (calls ++ more) → KeepsModel first size calls
+  keeps_before more keeps = record {
     blocks = keeps.blocks;
-    explained = λ earlier later call h. keeps.explained earlier (later ++ e ∷ []) call
-        (ap (λ (es : Calls). es ++ e ∷ []) h ∙ append_assoc earlier ((call, Ok tt) ∷ later) (e ∷ []));
+    explained = λ earlier later call h. keeps.explained earlier (later ++ more) call
+        (ap (λ (es : Calls). es ++ more) h ∙ append_assoc earlier ((call, Ok tt) ∷ later) more);
   }
 
   pub has_read : (at : ℕ) (bytes : Snapshot Content) (r : Result Unit Failed)

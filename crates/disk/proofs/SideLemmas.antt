@@ -1,7 +1,7 @@
 -- A block's calls are those of its side: what a file answers to a side doesn't depend on the other.
 use Rattle.std.proofs.Common.{◌≡◌, ℕ, ◌*◌, Bool, true, false, ◌||◌, List, [], ◌∷◌, ◌++◌, refl, sym}
 use Rattle.std.proofs.Common.{subst, ◌∙◌, ap, rules, inl, inr, Result, Ok, Err, if◌then◌else◌, nat_eq}
-use Rattle.std.proofs.lemmas.List.{map-append}
+use Rattle.std.proofs.lemmas.List.{append_assoc, map-append}
 use Rattle.std.proofs.lemmas.Bool.{cases_Bool, eq-eqb, eqb-true}
 use Rattle.std.specs.Prelude.{filter}
 use Rattle.limits.specs.declared.TheConstants.{BLOCK_BYTES}
@@ -16,7 +16,7 @@ use Rattle.disk.specs.File.{spoils_block, stored}
 use Rattle.disk.specs.Overlap.{DeviceCall, Makes, reads, writes, settles}
 use Rattle.disk.specs.Ports.{AnsweredCalls}
 use Rattle.disk.specs.Sides.{ComeInOrder, IsHonestTo, asked_for, file_call, file_calls, is_of, of_side}
-use Rattle.disk.proofs.FileLemmas.{counts, explained, has_read, has_settled, has_written, same_block}
+use Rattle.disk.proofs.FileLemmas.{counts, explained, has_read, has_settled, has_written, keeps_before, same_block}
 
 abbrev Answered : Type 0
 Answered = DeviceCall × Result Unit Failed
@@ -213,13 +213,17 @@ module _ (first : ℕ → Content) (size : ℕ) (calls : AnsweredCalls) where
     counts first size (file_calls calls) (file_call (settles side)) result,
   )
 
-  pub made : (call : DeviceCall) (result : Result Unit Failed)
-      → KeepsModel first size (file_calls (calls ++ (call, result) ∷ []))
+  pub made : (later : AnsweredCalls) (call : DeviceCall) (result : Result Unit Failed)
+      → KeepsModel first size (file_calls (calls ++ (call, result) ∷ later))
       → Makes (file_device first size (file_calls calls)) call result
       (file_device first size (file_calls (calls ++ (call, result) ∷ [])))
-  made call result keeps =
+  made later call result keeps =
       let last : file_calls (calls ++ (call, result) ∷ []) ≡ next call result =
       map-append (λ (c : Answered). (file_call c.0, c.1)) calls ((call, result) ∷ []) in
+      let all : file_calls (calls ++ (call, result) ∷ later) ≡ next call result ++ file_calls later =
+      map-append (λ (c : Answered). (file_call c.0, c.1)) calls ((call, result) ∷ later)
+      ∙ sym (append_assoc (file_calls calls) ((file_call call, result) ∷ []) (file_calls later)) in
       subst (λ (cs : Calls). Makes (file_device first size (file_calls calls)) call result
       (file_device first size cs)) (sym last)
-      (made_next call result (subst (λ (cs : Calls). KeepsModel first size cs) last keeps))
+      (made_next call result (keeps_before first size (next call result) (file_calls later)
+      (subst (λ (cs : Calls). KeepsModel first size cs) all keeps)))

@@ -26,7 +26,7 @@ is_of side (settles other) = is_same side other
 abbrev pub of_side : Side → AnsweredCalls → AnsweredCalls
 of_side side calls = filter (λ one. is_of side one.0) calls
 
--- whether a call of one of so many blocks: a barrier is of none
+-- whether a call is of one of so many blocks: a barrier always is within
 abbrev pub is_within : ℕ → DeviceCall → Bool
 is_within size (reads block bytes) = nat_lt block size
 is_within size (writes block bytes) = nat_lt block size
@@ -46,7 +46,9 @@ file_call (settles side) = Sync side
 abbrev pub file_calls : AnsweredCalls → Calls
 file_calls calls = map (λ one. (file_call one.0, one.1)) calls
 
--- What a file answers to one side alone: a read brings what this side wrote last, or else what was held at first.
+-- What a file answers to one side alone: a read that was made brings what this side wrote last, or else what was held
+-- at first, or where a write of the block has failed anything. Who only writes and settles, as a log port does, is
+-- answered nothing that could be false.
 abbrev pub IsHonestTo : (ℕ → Content) → ℕ → Side → AnsweredCalls → Type 0
 IsHonestTo first size side calls = EachFits (IsHonest first) (file_calls (asked_for size side calls))
 

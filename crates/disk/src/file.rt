@@ -11,7 +11,7 @@ use crate::{Block, BlockNo, Failed, Side};
 use http_server::Log;
 use std::fs::{File, OpenFile};
 use std::io;
-use std::os::unix::fs::FileExt;
+use std::os::unix::fs::{FileExt, MetadataExt};
 use std::snapshot::Snapshot;
 
 /// An open file of the kit, or what stands in for one, that a program can have for itself.
@@ -88,6 +88,12 @@ impl<F: BlockFile> NotedFile<F> {
         let result = self.file.sync_data().or(Err(Failed));
         self.note(&FileCall::Sync(side), &result);
         result
+    }
+
+    /// Whether another opening is of the same file.
+    pub fn is_same(&self, other: &F) -> io::Result<bool> {
+        let (one, two) = (self.file.metadata()?, other.metadata()?);
+        Ok(one.dev() == two.dev() && one.ino() == two.ino())
     }
 
     fn note(&mut self, call: &FileCall, outcome: &Result<(), Failed>)

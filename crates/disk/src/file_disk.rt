@@ -22,6 +22,8 @@ const OWNER_ALONE: u32 = 0o600;
 #[derive(Drop)]
 pub struct FileDisk<F: BlockFile> {
     file: NotedFile<F>,
+    // Another opening of the file, for the home side once the device is split.
+    home: Option<F>,
     blocks: u32,
     first: FirstContents,
 }
@@ -66,6 +68,7 @@ impl<F: BlockFile> FileDisk<F> {
     {
         FileDisk {
             file: NotedFile::new(file),
+            home: None,
             blocks,
             first: FirstContents::whatever(),
         }
@@ -83,9 +86,29 @@ impl<F: BlockFile> FileDisk<F> {
     {
         FileDisk {
             file: self.file,
+            home: self.home,
             blocks: self.blocks,
             first,
         }
+    }
+
+    /// The same device, whose home side asks another opening of the same file once it is split. The system tells each
+    /// opening once of a write that failed behind its answer: so both sides hear of it. It fails where the other
+    /// opening is of another file, or the files can't be asked.
+    pub fn beside(self, home: F) -> io::Result<FileDisk<F>>
+        ensures first { IfOk result (λ d. d.first ≡ self.first) }
+        ensures size { IfOk result (λ d. d.blocks ≡ self.blocks) }
+        ensures calls { IfOk result (λ d. d.file.calls.items ≡ self.file.calls.items) }
+    {
+        if !self.file.is_same(&home)? {
+            return Err(io::Error::from(ErrorKind::InvalidInput));
+        }
+        Ok(FileDisk {
+            file: self.file,
+            home: Some(home),
+            blocks: self.blocks,
+            first: self.first,
+        })
     }
 
     /// Opens a file of blocks, locks it, and then settles it. Its blocks are the whole ones of its length, up

@@ -7,7 +7,7 @@ ghost use Rattle.disk.specs.Device.{Device, Content, current, newest};
 ghost use Rattle.disk.specs.Blocks.{IsBlock, AreBlocks};
 ghost use Rattle.disk.specs.Crash.{Image, IsCrashImage, IsAtRest};
 ghost use Rattle.disk.specs.Overlap.{DeviceCall, Makes, MayOverlap, Swapped};
-ghost use Rattle.disk.specs.File.{Calls, EachFits, IsHonest, KeepsModel, file_device, first_in};
+ghost use Rattle.disk.specs.File.{AreOfBlocks, Calls, EachFits, IsHonest, KeepsModel, file_device, first_in};
 ghost use Rattle.disk.specs.Ports.{AnsweredCalls};
 ghost use Rattle.disk.specs.Sides.{ComeInOrder, IsHonestTo, file_calls};
 
@@ -53,12 +53,16 @@ pub fn a_file_honest_to_each_side_keeps_the_model()
         → ComeInOrder size log home calls → KeepsModel first size (file_calls calls) }
 {}
 
-/// Each call of a file that keeps the model is that call of the device over it.
+/// Each call of a file that keeps the model is that call of the device over it, which tells of blocks where the calls
+/// brought and wrote blocks.
 pub fn calls_of_a_file_are_the_devices()
-    ensures { (first : ℕ → Content) (size : ℕ) (calls : AnsweredCalls) (call : DeviceCall)
-        (result : Result Unit Failed) → KeepsModel first size (file_calls (calls ++ (call, result) ∷ []))
+    ensures call { (first : ℕ → Content) (size : ℕ) (calls later : AnsweredCalls) (call : DeviceCall)
+        (result : Result Unit Failed) → KeepsModel first size (file_calls (calls ++ (call, result) ∷ later))
         → Makes (file_device first size (file_calls calls)) call result
         (file_device first size (file_calls (calls ++ (call, result) ∷ []))) }
+    ensures blocks { (first : ℕ → Content) (size : ℕ) (calls : AnsweredCalls)
+        → KeepsModel first size (file_calls calls) → AreOfBlocks (file_calls calls)
+        → AreBlocks (file_device first size (file_calls calls)) }
 {}
 
 /// Each image may be what a file held.

@@ -20,8 +20,9 @@ pub use file::ports::{FilePort, FileSource};
 pub use file::{BlockFile, FileCall, FirstContents};
 pub use file_disk::FileDisk;
 pub use laws::{
-    a_crash_leaves_blocks, a_device_tells_of_blocks, a_file_may_begin_with_each_image,
-    honest_file_keeps_model, one_image_at_rest, overlapping_calls_commute,
+    a_crash_leaves_blocks, a_device_tells_of_blocks, a_file_honest_to_each_side_keeps_the_model,
+    a_file_may_begin_with_each_image, calls_of_a_file_are_the_devices, honest_file_keeps_model,
+    one_image_at_rest, overlapping_calls_commute,
 };
 pub use mem_disk::MemDisk;
 pub use mem_ports::{MemPort, MemSource};

@@ -4,6 +4,7 @@ mod asked;
 mod fake;
 mod files;
 mod order;
+mod ports;
 mod room;
 
 ghost use Rattle.std.specs.Prelude.{IfOk};

@@ -9,7 +9,7 @@ ghost use Rattle.nfsd.specs.Faults.{status_of_outcome};
 use crate::device::{format_device, serve_device};
 use crate::fault::Fault;
 use crate::fault_stream::FaultStream;
-use crate::image_files::{make_image, open_image};
+use crate::image_files::{make_image, open_for_threads, open_image};
 use crate::streams::{Streams, fill};
 use crate::tcp::{listen_at, serve_clients};
 use disk::{BlockFile, FileDisk, FirstContents};
@@ -168,7 +168,7 @@ where
                 Ok(listening) => listening,
                 Err(fault) => return (None, Err(fault)),
             };
-            let opened = match open_image(rt, image) {
+            let opened = match open_for_threads(rt, image) {
                 Ok(opened) => opened,
                 Err(_) => return (None, Err(Fault::File)),
             };

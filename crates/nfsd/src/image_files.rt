@@ -61,6 +61,19 @@ where
     Ok(FileDisk::over(file, blocks))
 }
 
+/// The same for threads: opened twice, so that each side hears of a write that failed behind its answer.
+pub fn open_for_threads<R: Files>(rt: &R, path: &str) -> io::Result<FileDisk<R::File>>
+where
+    R::File: BlockFile,
+    ensures rest { IfOk result (λ d. IsAtRest (file_device (first_in d.first.blocks.items) d.blocks
+        d.file.calls.items)) }
+    ensures fresh { IfOk result (λ d. d.file.calls.items ≡ []) }
+{
+    let disk = open_image(rt, path)?;
+    let home = OpenOptions::new().read(true).write(true).open(rt, path)?;
+    disk.beside(home)
+}
+
 // Whether a block device has this name.
 fn is_block_device<R: Files>(rt: &R, path: &str) -> bool {
     match rt.metadata(path) {

@@ -12,7 +12,8 @@ use std::alloc::{AllocError, Global};
 use std::snapshot::Snapshot;
 use std::sync::Arc;
 
-/// One side of a file. Each call of it is one call of the file, and is noted for proofs alone.
+/// One side of a file. Each call of it that is within the device and of its side is one call of the file, and no other
+/// asks anything. Each is noted for proofs alone.
 #[derive(Drop)]
 pub struct FilePort<F: BlockFile> {
     file: Arc<F, Global>,
@@ -21,7 +22,8 @@ pub struct FilePort<F: BlockFile> {
     noted: Log<PortCall, Result<(), Failed>>,
 }
 
-/// The home blocks of a file. Each read of it is one read of the file, and is noted for proofs alone.
+/// The home blocks of a file. Each read of one that is there is one read of the file, and no other asks anything. Each
+/// is noted for proofs alone.
 #[derive(Drop)]
 pub struct FileSource<F: BlockFile> {
     file: Arc<F, Global>,

@@ -9,8 +9,8 @@ use std::alloc::{AllocError, Global};
 use std::sync::Arc;
 
 impl<F: BlockFile> FileDisk<F> {
-    /// The log side, the home side, and so many sources, all of one open file: it stays open, and locked,
-    /// until the last of them is dropped. No call was made of any.
+    /// The log side, the home side, and so many sources, all of one file: it stays open, and locked, until the last
+    /// of them is dropped. The home side has an opening of its own where the device has one. No call was made of any.
     pub fn split(
         self,
         alloc: Global,
@@ -26,12 +26,17 @@ impl<F: BlockFile> FileDisk<F> {
     {
         let FileDisk {
             file,
+            home,
             blocks,
             first: _,
         } = self;
         let file = file.shared(alloc)?;
+        let of_home = match home {
+            Some(home) => Arc::new(alloc, home)?,
+            None => Arc::try_clone(&file)?,
+        };
         let log = FilePort::new(Arc::try_clone(&file)?, blocks, Side::Log);
-        let home = FilePort::new(Arc::try_clone(&file)?, blocks, Side::Home);
+        let home = FilePort::new(of_home, blocks, Side::Home);
         let sources = sources_of(alloc, &file, blocks, workers)?;
         Ok((log, home, sources))
     }
