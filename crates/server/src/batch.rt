@@ -1,16 +1,19 @@
 //! Calls of one connection that are driven in a row.
 use crate::sizes::CALLS_IN_A_ROW;
 use pool::{Answer, Job};
+use server_parts::Parked;
 use std::alloc::{AllocError, Global};
 use std::collections::VecDeque;
 
-/// Calls of one connection, in their order; the answers of those that were driven; and the seats of those that have
-/// to wait for something.
+/// Calls of one connection, in their order; and of those that were driven the answers, the seats whose changes wait to
+/// be settled, and the seat that has to wait for something else. It is the last that was driven, since it may have
+/// taken what a later one would wait for.
 #[derive(Drop)]
 pub struct Batch {
     pub jobs: VecDeque<Job>,
     pub answers: Vec<Answer>,
-    pub held_up: Vec<usize>,
+    pub waiting: Vec<Parked>,
+    pub held_up: Option<usize>,
 }
 
 impl Batch {
@@ -19,7 +22,8 @@ impl Batch {
         Ok(Batch {
             jobs: VecDeque::with_capacity(alloc, CALLS_IN_A_ROW)?,
             answers: Vec::with_capacity(alloc, CALLS_IN_A_ROW)?,
-            held_up: Vec::with_capacity(alloc, CALLS_IN_A_ROW)?,
+            waiting: Vec::with_capacity(alloc, CALLS_IN_A_ROW)?,
+            held_up: None,
         })
     }
 

@@ -27,6 +27,8 @@ enum Driven {
 pub struct Row {
     /// No memory was refused for an answer.
     pub is_well: bool,
+    /// A seat was free for the first of them.
+    pub is_begun: bool,
     /// Something was committed, and so many commits are kept that it waits until some of them are home.
     pub is_crowded: bool,
 }
@@ -57,13 +59,14 @@ fn hand<L: Ledger, G: Whole, I: Whole, P, S, R: Wait + Clock>(
     let _ = seat.lock(rt).hand(job, moment);
 }
 
-/// Drives the calls of a batch in a row, one after another in a free seat, as far as none has to wait for
-/// something. The jobs that are left found no seat free.
+/// Drives the calls of a batch in a row, one after another in a free seat, up to the first that has to wait for
+/// something but to be settled. The jobs that are left come behind it, or found no seat free.
 pub fn drive_batch<L: Ledger, G: Whole, I: Whole, P, S, R: Wait + Clock>(
     rt: &R,
     hall: &Hall<L, G, I, P, S>,
     batch: &mut Batch,
 ) -> Row {
+    let jobs = batch.jobs.len();
     let (is_well, look) = drive_in_a_row(rt, hall, batch);
     let is_crowded = match look {
         Some(look) => hall.tell_of_commit(rt, look),
@@ -71,6 +74,7 @@ pub fn drive_batch<L: Ledger, G: Whole, I: Whole, P, S, R: Wait + Clock>(
     };
     Row {
         is_well,
+        is_begun: batch.jobs.len() < jobs,
         is_crowded,
     }
 }
@@ -96,16 +100,26 @@ fn drive_in_a_row<L: Ledger, G: Whole, I: Whole, P, S, R: Wait + Clock>(
             free = Some(number);
             break;
         };
-        hand(rt, hall, number, job);
-        let made = first_steps(rt, hall, number);
-        committed = committed || made.committed;
         free = None;
-        match made.answer {
-            Some(answer) => {
+        hand(rt, hall, number, job);
+        let (first, made) = first_steps(rt, hall, number);
+        committed = committed || made;
+        match first {
+            First::Answered(answer) => {
                 free = Some(number);
                 is_well = batch.answers.push(answer).is_ok() && is_well;
             }
-            None => is_well = batch.held_up.push(number).is_ok() && is_well,
+            First::Waits(place) => {
+                let parked = Parked {
+                    place,
+                    seat: number,
+                };
+                is_well = batch.waiting.push(parked).is_ok() && is_well;
+            }
+            First::HeldUp => {
+                batch.held_up = Some(number);
+                break;
+            }
         }
     }
     if let Some(number) = free {
@@ -129,35 +143,6 @@ fn seat_for_next<L: Ledger, G: Whole, I: Whole, P, S, R: Wait>(
         Some(number) => Some(number),
         None => hall.signs.free.try_take(rt),
     }
-}
-
-/// Drives a seat that had to wait for something to its answer, and frees it. None where its change waits to be
-/// settled: then it is parked, and the finisher answers it.
-pub fn drive_on<L: Ledger, G: Whole, I: Whole, P, S: Source, R: Wait + Clock>(
-    rt: &R,
-    hall: &Hall<L, G, I, P, S>,
-    number: usize,
-) -> Option<Answer> {
-    if let Some(place) = place_of(rt, hall, number) {
-        let parked = Parked {
-            place,
-            seat: number,
-        };
-        if hall.signs.parking.park(rt, parked) {
-            return None;
-        }
-    }
-    see_through(rt, hall, number)
-}
-
-// The place that a seat waits for to be settled.
-fn place_of<L: Ledger, G: Whole, I: Whole, P, S, R: Wait>(
-    rt: &R,
-    hall: &Hall<L, G, I, P, S>,
-    number: usize,
-) -> Option<u64> {
-    let place = hall.seats.get(number)?.lock(rt).waits()?;
-    Some(place.0)
 }
 
 /// Drives a seat to its answer, and frees it. None where its change waits to be settled: then it is parked.
@@ -237,29 +222,31 @@ struct Made {
 
 // What the first steps of a call came to.
 #[derive(Drop)]
-struct Begun {
-    answer: Option<Answer>,
-    committed: bool,
+enum First {
+    Answered(Answer),
+    // Its change waits for this place to be settled.
+    Waits(u64),
+    // It has to wait for something else.
+    HeldUp,
 }
 
-// The steps in a row of a seat that was just handed a job, by who has the baton.
+// The steps in a row of a seat that was just handed a job, by who has the baton, and whether one was a commit.
 fn first_steps<L: Ledger, G: Whole, I: Whole, P, S, R: Wait>(
     rt: &R,
     hall: &Hall<L, G, I, P, S>,
     number: usize,
-) -> Begun {
+) -> (First, bool) {
     let Some(seat) = hall.seats.get(number) else {
-        return Begun {
-            answer: None,
-            committed: false,
-        };
+        return (First::HeldUp, false);
     };
     let mut seat = seat.lock(rt);
     let made = steps_in_a_row(rt, hall, &mut *seat);
-    Begun {
-        answer: seat.take_answer(),
-        committed: made.committed,
-    }
+    let first = match (seat.take_answer(), seat.waits()) {
+        (Some(answer), _) => First::Answered(answer),
+        (None, Some(place)) => First::Waits(place.0),
+        (None, None) => First::HeldUp,
+    };
+    (first, made.committed)
 }
 
 // Steps of a seat in a row, as far as none has to wait for something, and how far the core is where one of them was

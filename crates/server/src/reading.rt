@@ -3,7 +3,7 @@ ghost use Rattle.std.specs.Prelude.{◌≤◌, IfOk, length};
 
 use crate::batch::Batch;
 use crate::connection::Connection;
-use crate::driving::{drive_batch, drive_on, wait_while_crowded};
+use crate::driving::{drive_batch, see_through, wait_while_crowded};
 use crate::hall::Hall;
 use crate::sizes::{MOST_WAITING_BYTES, REPLY_BATCH_BYTES, STREAM_PIECE_BYTES};
 use bytes::Bytes;
@@ -193,8 +193,7 @@ fn take_record(
     }
 }
 
-// Drives the calls of a batch, and puts their replies. Those that were answered so are written before
-// anything is waited for. False where the connection is to end.
+// Answers the calls of a batch, row by row, or hands them on. False where the connection is to end.
 fn answer_batch<L: Ledger, G: Whole, I: Whole, P, S: Source, R: Wait + Clock>(
     rt: &R,
     hall: &Hall<L, G, I, P, S>,
@@ -202,64 +201,75 @@ fn answer_batch<L: Ledger, G: Whole, I: Whole, P, S: Source, R: Wait + Clock>(
     batch: &mut Batch,
     replies: &mut Vec<u8>,
 ) -> bool {
-    if batch.jobs.is_empty() {
-        return true;
+    let mut is_well = true;
+    for _ in 0..batch.jobs.len() {
+        if batch.jobs.is_empty() {
+            break;
+        }
+        is_well = answer_row(rt, hall, desk, batch, replies) && is_well;
     }
-    let row = drive_batch(rt, hall, batch);
-    let mut is_well = row.is_well;
-    for answer in batch.answers.as_slice() {
-        is_well = put(hall.alloc, answer, replies) && is_well;
-    }
-    batch.answers.clear();
-    if batch.held_up.is_empty() && batch.jobs.is_empty() && !row.is_crowded {
-        return is_well;
-    }
-    is_well = write(rt, hall.alloc, desk, replies) && is_well;
-    if row.is_crowded {
-        wait_while_crowded(rt, hall);
-    }
-    is_well = finish(rt, hall, desk, batch, replies) && is_well;
-    hand_on(rt, hall, desk, batch) && is_well
+    is_well
 }
 
-// Drives the seats that had to wait for something to their answers, or parks them. False where memory is refused
-// for a reply.
-fn finish<L: Ledger, G: Whole, I: Whole, P, S: Source, R: Wait + Clock>(
+// Drives a row of calls, parks those that wait to be settled, puts the replies of the others, and drives the one
+// that was held up to its answer; where no seat is free, hands the first on. So what a seat has taken is waited for
+// by no other of this connection, and nothing is written while a seat is in hand. False where the connection is to
+// end.
+fn answer_row<L: Ledger, G: Whole, I: Whole, P, S: Source, R: Wait + Clock>(
     rt: &R,
     hall: &Hall<L, G, I, P, S>,
     desk: &Desk<'_>,
     batch: &mut Batch,
     replies: &mut Vec<u8>,
 ) -> bool {
-    let mut is_well = true;
-    for number in batch.held_up.as_slice() {
+    let row = drive_batch(rt, hall, batch);
+    let mut is_well = row.is_well;
+    for parked in batch.waiting.as_slice() {
         desk.connection.outgoing.hand_on(rt);
-        if let Some(answer) = drive_on(rt, hall, *number) {
-            desk.connection.outgoing.take_back(rt);
-            is_well = put(hall.alloc, &answer, replies) && is_well;
+        if !hall.signs.parking.park(rt, *parked) {
+            is_well = drive_on(rt, hall, desk, parked.seat, replies) && is_well;
         }
     }
-    batch.held_up.clear();
-    is_well
+    batch.waiting.clear();
+    for answer in batch.answers.as_slice() {
+        is_well = put(hall.alloc, answer, replies) && is_well;
+    }
+    batch.answers.clear();
+    if let Some(seat) = batch.held_up.take() {
+        desk.connection.outgoing.hand_on(rt);
+        is_well = drive_on(rt, hall, desk, seat, replies) && is_well;
+    }
+    if row.is_crowded {
+        wait_while_crowded(rt, hall);
+    }
+    if row.is_begun {
+        return is_well;
+    }
+    match batch.jobs.pop_front() {
+        None => is_well,
+        Some(job) => {
+            desk.connection.outgoing.hand_on(rt);
+            hall.signs.jobs.put(rt, job) && is_well
+        }
+    }
 }
 
-// Hands on the calls that found no seat free. False where nobody will take them.
-fn hand_on<L: Ledger, G: Whole, I: Whole, P, S, R: Wait>(
+// Drives a seat, whose call counts as handed on, to its answer, and puts the reply. Where its change waits to be
+// settled it is parked. False where memory is refused for the reply.
+fn drive_on<L: Ledger, G: Whole, I: Whole, P, S: Source, R: Wait + Clock>(
     rt: &R,
     hall: &Hall<L, G, I, P, S>,
     desk: &Desk<'_>,
-    batch: &mut Batch,
+    seat: usize,
+    replies: &mut Vec<u8>,
 ) -> bool {
-    for _ in 0..batch.jobs.len() {
-        let Some(job) = batch.jobs.pop_front() else {
-            return true;
-        };
-        desk.connection.outgoing.hand_on(rt);
-        if !hall.signs.jobs.put(rt, job) {
-            return false;
+    match see_through(rt, hall, seat) {
+        None => true,
+        Some(answer) => {
+            desk.connection.outgoing.take_back(rt);
+            put(hall.alloc, &answer, replies)
         }
     }
-    true
 }
 
 // Writes the replies, if there are any. False where no more can be written.
