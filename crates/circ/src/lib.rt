@@ -1,4 +1,5 @@
 //! The circular log on the disk: its headers, and what an opening finds in it.
+#![tactic(auto)]
 
 mod header;
 mod recovery;

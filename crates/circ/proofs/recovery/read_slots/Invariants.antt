@@ -3,7 +3,7 @@ use Rattle.std.specs.Vec.{vec_capacity}
 use Rattle.wal_law.specs.Log.{IsHomeOn, blocks_of}
 use Rattle.wal_law.specs.Overlay.{positions}
 use Rattle.wal_law.specs.Recovery.{HasOnlyRead, IsUnspoiled, image_of}
-use Rattle.wal.proofs.circ.recovery.read_slots.Given as goal
+use Rattle.circ.proofs.recovery.read_slots.Given as goal
 
 abbrev pub invariant-loop-i : goal.invariant-loop-i
 invariant-loop-i g l = record {

@@ -5,7 +5,7 @@ use Rattle.wal_law.specs.Recovery.{image_of}
 use Rattle.wal_law.proofs.Lawful.{home_more}
 use Rattle.wal_law.proofs.OnlyRead.{reads_then, image_then, unspoiled_then, positions_more}
 use Rattle.disk.specs.declared.block.BlockNo.{BlockNo}
-use Rattle.wal.proofs.circ.recovery.read_slots.Goals as goal
+use Rattle.circ.proofs.recovery.read_slots.Goals as goal
 
 pub loop-i-preserved : goal.loop-i-preserved
 loop-i-preserved g c =

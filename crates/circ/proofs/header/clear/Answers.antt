@@ -2,7 +2,7 @@ use Rattle.std.proofs.Common.{◌≡◌, ℕ, ◌+◌, ◌≤◌, ◌-◌, List,
 use Rattle.std.proofs.Common.{arith, append-nil, length-append, length-drop}
 use Rattle.std.proofs.lemmas.List.{drop_all, length-replicate}
 use Rattle.limits.specs.declared.TheConstants.{BLOCK_BYTES}
-use Rattle.wal.proofs.circ.header.clear.Goals as goal
+use Rattle.circ.proofs.header.clear.Goals as goal
 
 -- bytes that are put over a whole block are the block
 put_over : (old bytes new : List ℕ) (n : ℕ) → length bytes ≡ n → new ≡ take 0 old ++ bytes ++ drop (0 + n) old

@@ -7,7 +7,7 @@ ghost use Rattle.wal_law.specs.Log.{IsHomeOn, blocks_of};
 ghost use Rattle.wal_law.specs.Overlay.{start_in, home_at, positions};
 ghost use Rattle.wal_law.specs.Recovery.{HasOnlyRead, CountsFault, IsUnspoiled, image_of, IsRecovered, IsLog};
 
-use super::header::{address_at, end_of, start_of};
+use crate::header::{address_at, end_of, start_of};
 use disk::{Block, BlockNo, CrashDisk};
 use limits::{FIRST_HOME_BLOCK, FIRST_SLOT_BLOCK, LOG_HEADER_BLOCK, LOG_SLOTS, START_BLOCK};
 use std::alloc::Global;
