@@ -2,7 +2,7 @@ use Rattle.std.proofs.Common.{rules}
 use Rattle.std.proofs.lemmas.Iterator.{YieldsList-from_slice}
 use Rattle.std.proofs.lemmas.Iterator.Search.{find_from_yields_List}
 use Rattle.txn_law.specs.Holds.{is_hold_of}
-use Rattle.holds.proofs.taken.hold_of.Goals as goal
+use Rattle.locks.proofs.looks.hold_of.Goals as goal
 
 pub returns : goal.returns
 returns c =

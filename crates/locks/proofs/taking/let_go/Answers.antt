@@ -2,7 +2,7 @@ use Rattle.std.proofs.Common.{rules, not}
 use Rattle.std.proofs.lemmas.Fn.{filter_same}
 use Rattle.txn_law.specs.Holds.{is_hold_of}
 use Rattle.txn_law.specs.declared.hold.Hold.{Hold}
-use Rattle.holds.proofs.taken.let_go.Goals as goal
+use Rattle.locks.proofs.taking.let_go.Goals as goal
 
 pub returns-clause-items : goal.returns-clause-items
 returns-clause-items c =

@@ -1,7 +1,7 @@
 use Rattle.std.proofs.Common.{rules, not, nat_eq}
 use Rattle.std.proofs.lemmas.Fn.{filter_same}
 use Rattle.txn_law.specs.declared.hold.Hold.{Hold}
-use Rattle.holds.proofs.taken.release.Goals as goal
+use Rattle.locks.proofs.taking.release.Goals as goal
 
 pub returns : goal.returns
 returns c = filter_same _ (λ (hold : Hold). not (nat_eq hold.transaction c.args.transaction)) _

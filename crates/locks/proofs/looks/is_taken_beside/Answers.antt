@@ -1,7 +1,7 @@
 use Rattle.std.proofs.Common.{◌∙◌, not, nat_eq}
-use Rattle.txn.proofs.Ending.{any_filter}
+use Rattle.locks.proofs.Others.{any_filter}
 use Rattle.txn_law.specs.declared.hold.Hold.{Hold}
-use Rattle.txn.proofs.records.is_taken_beside.Goals as goal
+use Rattle.locks.proofs.looks.is_taken_beside.Goals as goal
 
 pub returns : goal.returns
 returns c =
