@@ -5,6 +5,5 @@
 pub mod group;
 mod object;
 pub mod present;
-pub mod taken;
 
 pub use object::Object;

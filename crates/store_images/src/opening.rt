@@ -18,6 +18,7 @@ ghost use Rattle.store_images.specs.Opening.{HasOpened, HoldsTree, Opens, store_
 ghost use Rattle.store_images.specs.Settling.{HasCalled, HaveSetOut, IsIdle, IsQuiet};
 
 use crate::opened::Store;
+use circ::{LogFault, recover};
 use disk::{Block, BlockNo, CrashDisk, Failed, Side};
 use layout::{LayoutFault, Super};
 use limits::SUPER_BLOCK;
@@ -26,7 +27,6 @@ use std::alloc::{AllocError, Global};
 use store_promise::OpenFault;
 use txn::Core;
 use wal::Wal;
-use wal::circ::{self, LogFault};
 
 /// Opens a store: brings home what the log holds, and counts the opening. An image is refused by the first of
 /// these that holds: an allocation failed (NoMemory), its device has no blocks (Magic), the super block can't
@@ -150,7 +150,7 @@ fn find_log<D: CrashDisk>(alloc: Global, disk: &mut D, blocks: u32) -> Result<Wa
         cause blocks (image_of (D.device disk.old))) }
     ensures model { D.keeps_model disk.new → D.keeps_model disk.old }
 {
-    match circ::recover(alloc, disk) {
+    match recover(alloc, disk) {
         Ok(log) => match Wal::new(alloc, blocks, log) {
             Ok(wal) => Ok(wal),
             Err(AllocError) => Err(OpenFault::NoMemory),

@@ -69,17 +69,6 @@ ahead_less true m r h mine = refl
 ahead_less false true r h mine = absurd (let no : false ≡ true = mine refl in cc)
 ahead_less false false r h mine = h
 
--- who passes two tests is among those that pass the first
-pub any_filter : {X : Type 0} (p q : X → Bool) (xs : List X)
-    → list_any (λ x. q x && p x) xs ≡ list_any p (filter q xs)
-any_filter p q [] = refl
-any_filter p q (x ∷ xs) = go (any_filter p q xs) (q x)
-  where
-    go : list_any (λ x. q x && p x) xs ≡ list_any p (filter q xs) → (t : Bool) → ((t && p x) || list_any (λ x. q x && p x) xs)
-        ≡ list_any p (cond t (x ∷ filter q xs) (filter q xs))
-    go behind true = ap (λ b. p x || b) behind
-    go behind false = behind
-
 -- whether the transaction has taken a part of the block by one of these holds
 abbrev pub is_mine : ℕ → List Hold → BlockNo → Bool
 is_mine tx holds block =

@@ -8,7 +8,7 @@ use Rattle.std.proofs.lemmas.List.Elements.{All-nil, All-cons, All-head, All-tai
 use Rattle.std.proofs.lemmas.List.Elements.{All-append, All-map, filter_passes}
 use Rattle.std.proofs.lemmas.List.Folds.{list_any-append}
 use Rattle.std.proofs.lemmas.Map.Views.{any-filter_same}
-use Rattle.std.specs.Prelude.{is_some}
+use Rattle.std.specs.Prelude.{is_some, Result, Ok, Err, OnOk, OnErr}
 use Rattle.std.specs.List.{list_any, filter}
 use Rattle.objects.specs.declared.addr.Addr.{Addr}
 use Rattle.disk.specs.Device.{Content}
@@ -25,6 +25,9 @@ use Rattle.txn_law.specs.Records.{lies_in, is_kept, swept}
 use Rattle.txn_law.specs.Window.{Footprint}
 use Rattle.txn_law.specs.declared.hold.Hold.{Hold}
 use Rattle.txn_law.specs.declared.present.Present.{Present}
+use Rattle.locks.specs.Taking.{IsTaking}
+use Rattle.locks.specs.declared.table.Take.{Take}
+use Rattle.locks.specs.declared.table.Take.TheVariants as take
 use Rattle.txn.proofs.Mapped.{any_of_map}
 use Rattle.txn.specs.Neat.{is_needed, IsToInstall, IsNeat}
 
@@ -154,6 +157,29 @@ neat_taken log holds hold records present neat = record {
   kept = neat.kept;
 }
 
+-- where a wish is answered
+pub neat_taking : (log : Log) (holds : List Hold) (hold : Hold) (records : List Footprint)
+    (present : List Present) (answer : Take) (left : List Hold) → IsTaking holds hold answer left
+    → IsNeat log holds records present → IsNeat log left records present
+neat_taking log holds hold records present take.Held left held neat =
+    subst (λ (hs : List Hold). IsNeat log hs records present) (sym held.1)
+    (neat_taken log holds hold records present neat)
+neat_taking log holds hold records present take.Busy left busy neat =
+    subst (λ (hs : List Hold). IsNeat log hs records present) (sym busy.1) neat
+neat_taking log holds hold records present take.NoMemory left none neat =
+    subst (λ (hs : List Hold). IsNeat log hs records present) (sym none.1) neat
+
+-- where it is taken, or there was no room
+pub neat_took : {T E : Type 0} (log : Log) (holds : List Hold) (hold : Hold) (records : List Footprint)
+    (present : List Present) (answer : Result T E) (left : List Hold)
+    → OnOk answer (left ≡ with_hold holds hold) → OnErr answer (left ≡ holds)
+    → IsNeat log holds records present → IsNeat log left records present
+neat_took log holds hold records present (Ok done) left taken refused neat =
+    subst (λ (hs : List Hold). IsNeat log hs records present) (sym taken)
+    (neat_taken log holds hold records present neat)
+neat_took log holds hold records present (Err none) left taken refused neat =
+    subst (λ (hs : List Hold). IsNeat log hs records present) (sym refused) neat
+
 -- where its block comes into memory with it
 pub neat_added : (log : Log) (holds : List Hold) (hold : Hold) (records : List Footprint)
     (present : List Present) (content : Option Content) → IsNeat log holds records present
@@ -215,18 +241,15 @@ needed_filled holds records (entry ∷ later) block content need h =
         (All-head (λ entry. is_needed holds records entry ≡ true) entry later h) behind
 
 -- what is needed, told by the commits' records and by what is made of them
-pub needed_of_map : {X : Type 0} (f : X → Footprint) (holds same : List Hold) (xs : List X)
-    (present : List Present) → same ≡ holds
-    → All (λ entry. is_needed holds (map f xs) entry ≡ true) present
-    → All (λ entry. (is_none entry.content || is_taken same entry.block
+pub needed_of_map : {X : Type 0} (f : X → Footprint) (holds : List Hold) (xs : List X)
+    (present : List Present) → All (λ entry. is_needed holds (map f xs) entry ≡ true) present
+    → All (λ entry. (is_none entry.content || is_taken holds entry.block
     || list_any (λ x. lies_in (f x).read entry.block) xs) ≡ true) present
-needed_of_map f holds same xs present is needed =
+needed_of_map f holds xs present needed =
     All-weaker (λ entry. is_needed holds (map f xs) entry ≡ true)
-    (λ entry. (is_none entry.content || is_taken same entry.block
+    (λ entry. (is_none entry.content || is_taken holds entry.block
     || list_any (λ x. lies_in (f x).read entry.block) xs) ≡ true)
-    (λ entry need. ap (λ (hs : List Hold). is_none entry.content || is_taken hs entry.block
-    || list_any (λ x. lies_in (f x).read entry.block) xs) is
-    ∙ ap (λ t. is_none entry.content || is_taken holds entry.block || t)
+    (λ entry need. ap (λ t. is_none entry.content || is_taken holds entry.block || t)
     (sym (any_of_map f (λ (commit : Footprint). lies_in commit.read entry.block) xs)) ∙ need) present needed
 
 none_home : (changes : List LogChange) (places : ℕ) → nat_eq (length changes) 0 ≡ true

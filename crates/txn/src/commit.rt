@@ -14,7 +14,6 @@ use crate::{Change, Object, Tx};
 use disk::BlockNo;
 use holds::group::{are_sized, blocks_of_objects, group_of};
 use holds::present::{content_of, is_pending, refresh};
-use holds::taken::{is_read_by, is_written_by};
 use std::alloc::Global;
 use wal::{Append, Room};
 
@@ -86,7 +85,7 @@ impl<C: Change> State<C> {
     fn has_read(&self, transaction: u64, objects: &[Object]) -> bool
         ensures { IsTrue result ↔ All (IsReadBy self.now transaction) objects.now }
     {
-        objects.iter().all(|object| is_read_by(&self.holds, transaction, object.addr())
+        objects.iter().all(|object| self.holds.is_read_by(transaction, object.addr())
             && self.has_bytes(object))
     }
 
@@ -118,7 +117,7 @@ impl<C: Change> State<C> {
         ensures { IsTrue result ↔ IsWrittenBy self.now transaction object.now.addr }
     {
         let addr = object.addr();
-        is_written_by(&self.holds, transaction, addr) && !is_pending(&self.present, addr.block)
+        self.holds.is_written_by(transaction, addr) && !is_pending(&self.present, addr.block)
     }
 
     // Whether a change may write these blocks.

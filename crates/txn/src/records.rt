@@ -1,5 +1,5 @@
 //! The commits that aren't installed.
-ghost use Rattle.std.specs.Prelude.{◌≡◌, ◌<◌, ◌++◌, ◌∷◌, [], ◌||◌, ◌&&◌, if◌then◌else◌, is_none, nat_lt};
+ghost use Rattle.std.specs.Prelude.{◌≡◌, ◌<◌, ◌++◌, ◌∷◌, [], ◌||◌, if◌then◌else◌, is_none, nat_lt};
 ghost use Rattle.std.specs.Prelude.{All, not, nat_eq, true};
 ghost use Rattle.std.specs.List.{filter, list_any};
 ghost use Rattle.txn_law.specs.Holds.{is_taken, released};
@@ -8,9 +8,9 @@ ghost use Rattle.std.specs.VecDeque.{deque_len, deque_capacity};
 
 use crate::{Change, Object};
 use disk::BlockNo;
-use holds::taken::is_taken;
+use locks::{Hold, Table};
 use std::collections::VecDeque;
-use txn_law::{Hold, Present};
+use txn_law::Present;
 use wal::Seq;
 
 /// A commit with its place.
@@ -45,14 +45,14 @@ pub(crate) fn is_kept<C: Change>(records: &VecDeque<Record<C>>, block: BlockNo) 
 
 /// Whether anyone has taken a part of the block, or a kept record read one.
 pub(crate) fn is_used<C: Change>(
-    holds: &[Hold],
+    holds: &Table,
     records: &VecDeque<Record<C>>,
     block: BlockNo,
 ) -> bool
     ensures { result ≡ (is_taken holds.now block
         || list_any (λ kept. lies_in (C.planned kept.change).read block) records.now.items) }
 {
-    is_taken(holds, block) || is_kept(records, block)
+    holds.is_taken(block) || is_kept(records, block)
 }
 
 /// Keeps the record of a commit, for which there is room, until it is installed.
@@ -81,7 +81,7 @@ pub(crate) fn forget<C: Change>(records: &mut VecDeque<Record<C>>, installed: Se
 /// Lets go of the blocks that nobody has taken, no kept record read and no fetch is pending of.
 pub(crate) fn sweep<C: Change>(
     present: &mut Vec<Present>,
-    holds: &[Hold],
+    holds: &Table,
     records: &VecDeque<Record<C>>,
 )
     ensures { present.new.items ≡ filter (λ entry. is_none entry.content || is_taken holds.now entry.block
@@ -89,30 +89,15 @@ pub(crate) fn sweep<C: Change>(
         present.old.items }
 {
     present.retain(|entry| {
-        entry.content.is_none() || is_taken(holds, entry.block) || is_kept(records, entry.block)
+        entry.content.is_none() || holds.is_taken(entry.block) || is_kept(records, entry.block)
     });
-}
-
-// Whether a hold of anyone but the transaction is of a part of the block.
-fn any_beside(holds: &[Hold], transaction: u64, block: BlockNo) -> bool
-    ensures { result ≡ list_any (λ hold. not (nat_eq hold.transaction transaction)
-        && nat_eq hold.addr.block.0 block.0) holds.now }
-{
-    holds.iter().any(|hold| hold.transaction != transaction && hold.addr.block == block)
-}
-
-// Whether anyone but the transaction has taken a part of the block.
-fn is_taken_beside(holds: &[Hold], transaction: u64, block: BlockNo) -> bool
-    ensures { result ≡ is_taken (released holds.now transaction) block }
-{
-    any_beside(holds, transaction, block)
 }
 
 // Whether a fetch of the block is pending, anyone but the transaction has taken a part of it, or a kept record
 // read one.
 fn is_needed_beside<C: Change>(
     entry: &Present,
-    holds: &[Hold],
+    holds: &Table,
     records: &VecDeque<Record<C>>,
     transaction: u64,
 ) -> bool
@@ -121,7 +106,7 @@ fn is_needed_beside<C: Change>(
         || list_any (λ kept. lies_in (C.planned kept.change).read entry.now.block) records.now.items) }
 {
     entry.content.is_none()
-        || is_taken_beside(holds, transaction, entry.block)
+        || holds.is_taken_beside(transaction, entry.block)
         || is_kept(records, entry.block)
 }
 
@@ -129,7 +114,7 @@ fn is_needed_beside<C: Change>(
 // a part of it, no kept record read one and no fetch is pending of it.
 fn sweep_hold<C: Change>(
     present: &mut Vec<Present>,
-    holds: &[Hold],
+    holds: &Table,
     records: &VecDeque<Record<C>>,
     transaction: u64,
     hold: &Hold,
@@ -154,7 +139,7 @@ fn sweep_hold<C: Change>(
 /// of, where somebody needs each: so only those are looked at that the transaction has taken.
 pub(crate) fn sweep_end<C: Change>(
     present: &mut Vec<Present>,
-    holds: &[Hold],
+    holds: &Table,
     records: &VecDeque<Record<C>>,
     transaction: u64,
 )
@@ -166,7 +151,7 @@ pub(crate) fn sweep_end<C: Change>(
         || list_any (λ kept. lies_in (C.planned kept.change).read entry.block) records.now.items)
         present.old.items }
 {
-    for hold in holds {
+    for hold in holds.holds() {
         sweep_hold(present, holds, records, transaction, hold);
     }
 }

@@ -21,13 +21,13 @@ use crate::records::{Record, forget, sweep, sweep_end};
 use crate::{Change, Object, Stable, Tx};
 use disk::BlockNo;
 use holds::group::blocks_of_objects;
-use holds::taken::release;
 use limits::FIRST_HOME_BLOCK;
+use locks::Table;
 use objects::Addr;
 use std::alloc::Global;
 use std::collections::VecDeque;
 use std::marker::Model;
-use txn_law::{Hold, Present};
+use txn_law::Present;
 use wal::{InstIo, LogIo, Seq, Wal};
 
 /// What a core has. Its type keeps that nothing is in memory that nobody needs, and that no commit is kept that
@@ -40,7 +40,7 @@ pub(crate) struct State<C: Change> {
     pub(crate) begun: u64,
     // The transactions that are out.
     pub(crate) out: Vec<u64>,
-    pub(crate) holds: Vec<Hold>,
+    pub(crate) holds: Table,
     // Each block that is held or that a kept record read, with its current content, and those that are being
     // fetched.
     pub(crate) present: Vec<Present>,
@@ -60,14 +60,14 @@ impl<C: Change> Model for State<C> {
       inodes = c.inodes;
       begun = c.begun;
       out = c.out.items;
-      holds = c.holds.items;
+      holds = c.holds;
       present = c.present.items;
       records = map (λ r. footprint r.place.0 (C.planned r.change)) c.records.items;
     } };
 
     ghost use Rattle.txn.specs.Neat.{IsNeat};
 
-    ghost invariant = { λ c. IsNeat c.log c.holds.items
+    ghost invariant = { λ c. IsNeat c.log c.holds
         (map (λ r. footprint r.place.0 (C.planned r.change)) c.records.items) c.present.items };
 }
 
@@ -89,7 +89,7 @@ impl<C: Change> State<C> {
             inodes,
             begun: 0,
             out: Vec::new(alloc),
-            holds: Vec::new(alloc),
+            holds: Table::new(alloc),
             present: Vec::new(alloc),
             records: VecDeque::new(alloc),
         }
@@ -163,7 +163,7 @@ impl<C: Change> State<C> {
     {
         leave(&mut self.out, transaction);
         sweep_end(&mut self.present, &self.holds, &self.records, transaction);
-        release(&mut self.holds, transaction);
+        self.holds.release_all(transaction);
     }
 
     // Whether the transaction is out, and a change may write the address's block.

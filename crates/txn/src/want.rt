@@ -1,8 +1,9 @@
 //! Reading and claiming what a transaction works on.
-ghost use Rattle.std.specs.Prelude.{◌≡◌, IfOk, OnErr, true, false, length};
+ghost use Rattle.std.specs.Prelude.{◌≡◌, IfOk, OnOk, OnErr, true, false, length};
 ghost use Rattle.objects.specs.declared.addr.Addr.{Addr};
 ghost use Rattle.txn.specs.Outcomes.{IsWithin};
 ghost use Rattle.txn.specs.Exactly.{IsWantedExactly, IsClaimedExactly};
+ghost use Rattle.txn_law.specs.Holds.{IsFree, with_hold};
 ghost use Rattle.txn_law.specs.Present.{present_of, is_pending};
 ghost use Rattle.txn_law.specs.Window.{part};
 ghost use Rattle.txn_law.specs.Wishes.{IsWhole};
@@ -15,7 +16,7 @@ use crate::state::State;
 use crate::{Change, FetchIo, Tx};
 use disk::{Block, BlockNo};
 use holds::present::{add, content_of, fill, is_pending, let_go};
-use holds::taken::{for_fetching, for_reading, for_writing, is_free, take};
+use locks::{Hold, Table, Take, for_fetching, for_reading, for_writing};
 use objects::{Addr, Mode};
 use std::alloc::{AllocError, Global};
 use txn_law::Present;
@@ -35,7 +36,7 @@ impl<C: Change> State<C> {
         if !self.may_wish(tx.number, addr) {
             return Want::Outside(tx);
         }
-        if !is_free(&self.holds, tx.number, addr, mode) {
+        if !self.holds.is_free(tx.number, addr, mode) {
             return Want::Busy(tx);
         }
         if is_pending(&self.present, addr.block) {
@@ -62,21 +63,21 @@ impl<C: Change> State<C> {
         if !self.may_wish(tx.number, addr) {
             return Claim::Outside(tx);
         }
-        if !is_free(&self.holds, tx.number, addr, Mode::Exclusive) {
+        if !self.holds.is_free(tx.number, addr, Mode::Exclusive) {
             return Claim::Busy(tx);
         }
         if is_pending(&self.present, addr.block) {
             return Claim::Loading(tx);
         }
-        if self.holds.reserve(1).is_err() {
-            return Claim::NoMemory(tx);
+        match self.holds.take(for_writing(tx.number, addr)) {
+            Take::Held => Claim::Held(tx),
+            Take::Busy => Claim::Busy(tx),
+            Take::NoMemory => Claim::NoMemory(tx),
         }
-        take(&mut self.holds, for_writing(tx.number, addr));
-        Claim::Held(tx)
     }
 
-    // Takes the object, and its block's place in memory where it has none. All room is made before anything
-    // changes.
+    // Takes the object, which is free, and its block's place in memory where it has none. All room is made
+    // before anything changes.
     fn take_for_reading(
         &mut self,
         alloc: Global,
@@ -84,15 +85,15 @@ impl<C: Change> State<C> {
         addr: Addr,
         mode: Mode,
     ) -> Result<Source, AllocError>
-        requires { is_pending (present_of self.old.present addr.block) ≡ false }
+        requires free { IsFree self.old.holds transaction addr mode }
+        requires loaded { is_pending (present_of self.old.present addr.block) ≡ false }
         ensures found { IfOk result (λ found. IsSource self.old transaction addr mode found self.new) }
         ensures within { IfOk result (IsSourceWithin addr.len) }
         ensures refused { OnErr result (self.new ≡ self.old) }
     {
-        self.holds.reserve(1)?;
         if let Some(content) = content_of(&self.present, addr.block) {
             let bytes = part_of(alloc, content, addr)?;
-            take(&mut self.holds, for_reading(transaction, addr, mode));
+            take(&mut self.holds, for_reading(transaction, addr, mode))?;
             return Ok(Source::Bytes(bytes));
         }
         self.present.reserve(1)?;
@@ -100,12 +101,12 @@ impl<C: Change> State<C> {
         if let Some(newest) = self.log.latest(addr.block) {
             content.copy_from(newest);
             let bytes = part_of(alloc, &content, addr)?;
+            take(&mut self.holds, for_reading(transaction, addr, mode))?;
             add(&mut self.present, addr.block, Some(content));
-            take(&mut self.holds, for_reading(transaction, addr, mode));
             return Ok(Source::Bytes(bytes));
         }
+        take(&mut self.holds, for_fetching(transaction, addr, mode))?;
         add(&mut self.present, addr.block, None);
-        take(&mut self.holds, for_fetching(transaction, addr, mode));
         Ok(Source::Fetch(FetchIo {
             block: addr.block,
             buffer: content,
@@ -130,6 +131,19 @@ impl<C: Change> State<C> {
     {
         let FetchIo { block, buffer: _ } = io;
         let_go(&mut self.present, block);
+    }
+}
+
+// Takes what a wish is for that nothing keeps off.
+fn take(holds: &mut Table, hold: Hold) -> Result<(), AllocError>
+    requires { IsFree holds.old hold.transaction hold.addr hold.mode }
+    ensures taken { OnOk result (holds.new ≡ with_hold holds.old hold) }
+    ensures refused { OnErr result (holds.new ≡ holds.old) }
+{
+    match holds.take(hold) {
+        Take::Held => Ok(()),
+        Take::NoMemory => Err(AllocError),
+        Take::Busy => unreachable!(),
     }
 }
 

@@ -12,8 +12,8 @@ mod installer;
 mod logger;
 mod search;
 
-use crate::circ::Recovered;
 use crate::{LogChange, Room, Seq};
+use circ::Recovered;
 use disk::{Block, BlockNo};
 use limits::LOG_SLOTS;
 use std::alloc::{AllocError, Global};

@@ -2,13 +2,11 @@
 ghost use Rattle.std.specs.Prelude.{◌<◌, IfOk, All};
 ghost use Rattle.wal.specs.Log.{IsHomeOn, blocks_of};
 
+use circ::{LogFault, Recovered, address_at, end_of, put_address, put_end, put_start, read_log};
 use disk::{Block, BlockNo, CrashDisk, MemDisk, Side};
 use limits::{FIRST_HOME_BLOCK, LOG_HEADER_BLOCK, LOG_SLOTS, START_BLOCK};
 use std::alloc::Global;
 use std::test::Fail;
-use wal::circ::{
-    LogFault, Recovered, address_at, end_of, put_address, put_end, put_start, read_log,
-};
 use wal::{Append, IoCall, Room, Seq, Wal};
 
 // The blocks of the disks here.

@@ -7,6 +7,7 @@ ghost use Rattle.store_workers.specs.Worker.{Fits};
 use crate::tests::compared::is_same_reply;
 use crate::tests::plain::{asked, fresh, plain_reply_to};
 use crate::tests::served::formatted;
+use circ::recover;
 use disk::{Block, BlockNo, CrashDisk, Failed};
 use layout::Super;
 use limits::SUPER_BLOCK;
@@ -17,7 +18,6 @@ use std::test::Fail;
 use store::{CallAnswer, Verdict, Worker};
 use txn::Core;
 use wal::Wal;
-use wal::circ::recover;
 use worked_messages::{GETATTR, NOW};
 
 // The super block of an image, whose sizes are the device's.

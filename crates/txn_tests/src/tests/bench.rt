@@ -2,12 +2,12 @@
 ghost use Rattle.std.specs.Prelude.{◌≡◌, ◌<◌, [], ◌∷◌, IfSome};
 
 use crate::tests::toys::{At, BLOCKS, INODES, Toy};
+use circ::{Recovered, recover};
 use disk::{Block, BlockNo, CrashDisk, MemDisk};
 use limits::FIRST_HOME_BLOCK;
 use std::alloc::Global;
 use std::test::Fail;
 use txn::*;
-use wal::circ::{Recovered, recover};
 use wal::{Seq, Wal};
 
 // What a transaction does before it ends. Where memory is refused to it, it does that again.

@@ -4,7 +4,7 @@ ghost use Rattle.limits.specs.declared.TheConstants.{LOG_SLOTS};
 ghost use Rattle.wal_law.specs.Logger.{IsHeader};
 
 use crate::LogChange;
-use crate::circ::{put_address, put_end};
+use circ::{put_address, put_end};
 use disk::Block;
 use limits::LOG_SLOTS;
 use std::collections::VecDeque;

@@ -10,8 +10,8 @@ ghost use Rattle.wal_law.specs.Installer.{with_installed, next_home, IsNextInstC
 
 use super::Wal;
 use super::search::next_newest;
-use crate::circ::put_start;
 use crate::{InstIo, IoCall, LogChange};
+use circ::put_start;
 use disk::{Block, BlockNo, Side};
 use limits::START_BLOCK;
 use std::collections::VecDeque;

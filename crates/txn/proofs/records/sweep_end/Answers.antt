@@ -1,4 +1,4 @@
-use Rattle.std.proofs.Common.{◌≡◌, ◌+◌, ◌∙◌, ◌∷◌, refl, ap, sym, subst, drop, List, All}
+use Rattle.std.proofs.Common.{◌≡◌, ◌+◌, ◌∙◌, ◌∷◌, [], refl, ap, sym, subst, drop, List, All}
 use Rattle.std.proofs.Math.ListN.{drop_of_length-le}
 use Rattle.std.proofs.lemmas.List.{drop_more}
 use Rattle.std.specs.List.{list_any}
@@ -19,11 +19,13 @@ pub loop-hold-preserved : goal.loop-hold-preserved
 loop-hold-preserved g c =
     let tx = c.args.transaction in
     let holds : List Hold = c.args.holds.now in
+    let items : List Hold = c.holds-hold-items.result.now in
     let hold : Hold = c.hold-item.result in
     let i = c.loop-hold.hold-index in
     let split : drop i holds ≡ hold ∷ drop (i + 1) holds =
-    drop_more holds i hold c.loop-hold-test.true
-    ∙ ap (λ (h : Hold). h ∷ drop (i + 1) holds) (sym c.hold-item.is) in (
+    subst (λ (xs : List Hold). drop i xs ≡ hold ∷ drop (i + 1) xs) c.holds-hold-items.ensures
+    (drop_more items i hold c.loop-hold-test.true
+    ∙ ap (λ (h : Hold). h ∷ drop (i + 1) items) (sym c.hold-item.is)) in (
       step_swept tx holds
           (λ block. list_any (λ kept. lies_in (g.C.Change.planned kept.change).read block)
           c.args.records.now.items) hold c.loop-hold.present.items c.sweep_hold.new.present.items
@@ -46,4 +48,5 @@ returns g c =
     (subst (λ (ahead : List Hold). All (IsAhead c.args.transaction c.args.holds.now
     (λ block. list_any (λ kept. lies_in (g.C.Change.planned kept.change).read block)
     c.args.records.now.items) ahead) c.loop-hold.present.items)
-    (drop_of_length-le c.args.holds.now c.loop-hold-test.false) c.loop-hold.invariant.1)
+    (subst (λ (xs : List Hold). drop c.loop-hold.hold-index xs ≡ []) c.holds-hold-items.ensures
+    (drop_of_length-le c.holds-hold-items.result.now c.loop-hold-test.false)) c.loop-hold.invariant.1)

@@ -13,9 +13,8 @@ use Rattle.txn.proofs.state.State.close.Goals as goal
 
 pub sweep_end-requires : goal.sweep_end-requires
 sweep_end-requires g c =
-    needed_of_map (λ kept. footprint kept.place.0 (g.C.Change.planned kept.change)) c.self.inside.holds.items
-    c.deref.result.now c.self.inside.records.items c.self.inside.present.items c.deref.ensures.value
-    c.self.invariant.needed
+    needed_of_map (λ kept. footprint kept.place.0 (g.C.Change.planned kept.change)) c.self.inside.holds
+    c.self.inside.records.items c.self.inside.present.items c.self.invariant.needed
 
 pub invariant_of-self : goal.invariant_of-self
 invariant_of-self g c =
@@ -24,16 +23,15 @@ invariant_of-self g c =
     let records : List Footprint =
     map (λ kept. footprint kept.place.0 (g.C.Change.planned kept.change)) core.records.items in
     let swept_is : c.sweep_end.new.present.items
-    ≡ swept (released core.holds.items tx) records core.present.items =
+    ≡ swept (released core.holds tx) records core.present.items =
     c.sweep_end.ensures
     ∙ swept_of_map (λ kept. footprint kept.place.0 (g.C.Change.planned kept.change))
-    (released c.deref.result.now tx) core.records.items core.present.items
-    ∙ ap (λ (holds : List Hold). swept (released holds tx) records core.present.items) c.deref.ensures.value in
+    (released core.holds tx) core.records.items core.present.items in
     subst (λ (holds : List Hold). IsNeat core.log holds records c.sweep_end.new.present.items)
-    (sym c.release.ensures)
-    (subst (λ (present : List Present). IsNeat core.log (released core.holds.items tx) records present)
+    (sym c.release_all.ensures)
+    (subst (λ (present : List Present). IsNeat core.log (released core.holds tx) records present)
     (sym swept_is)
-    (neat_swept core.log (released core.holds.items tx) records core.present.items c.self.invariant.kept))
+    (neat_swept core.log (released core.holds tx) records core.present.items c.self.invariant.kept))
 
 pub returns : goal.returns
 returns g c =
@@ -42,20 +40,19 @@ returns g c =
     let records : List Footprint =
     map (λ kept. footprint kept.place.0 (g.C.Change.planned kept.change)) core.records.items in
     let swept_is : c.sweep_end.new.present.items
-    ≡ swept (released core.holds.items tx) records core.present.items =
+    ≡ swept (released core.holds tx) records core.present.items =
     c.sweep_end.ensures
     ∙ swept_of_map (λ kept. footprint kept.place.0 (g.C.Change.planned kept.change))
-    (released c.deref.result.now tx) core.records.items core.present.items
-    ∙ ap (λ (holds : List Hold). swept (released holds tx) records core.present.items) c.deref.ensures.value in
+    (released core.holds tx) core.records.items core.present.items in
     let seen : CoreState = record {
       log = core.log;
       inodes = core.inodes;
       begun = core.begun;
       out = core.out.items;
-      holds = core.holds.items;
+      holds = core.holds;
       present = core.present.items;
       records = records;
     } in
-    ended_is seen tx c.leave.new.out.items c.release.new.holds.items c.sweep_end.new.present.items
-    c.leave.ensures c.release.ensures swept_is
+    ended_is seen tx c.leave.new.out.items c.release_all.new.self c.sweep_end.new.present.items
+    c.leave.ensures c.release_all.ensures swept_is
     ∙ ap (λ (seen : CoreState). ended seen tx) c.self.view_is

@@ -8,9 +8,9 @@ use Rattle.txn.proofs.state.State.fetch_failed.Goals as goal
 pub invariant_of-self : goal.invariant_of-self
 invariant_of-self g c =
     let core = c.self.inside in
-    subst (λ (present : List Present). IsNeat core.log core.holds.items
+    subst (λ (present : List Present). IsNeat core.log core.holds
     (map (λ kept. footprint kept.place.0 (g.C.Change.planned kept.change)) core.records.items) present)
     (sym c.let_go.ensures)
-    (neat_failed core.log core.holds.items
+    (neat_failed core.log core.holds
     (map (λ kept. footprint kept.place.0 (g.C.Change.planned kept.change)) core.records.items)
     core.present.items c.io.inside.block c.self.invariant)

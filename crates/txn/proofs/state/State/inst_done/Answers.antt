@@ -8,7 +8,6 @@ use Rattle.txn_law.specs.Commit.{footprint}
 use Rattle.txn_law.specs.Core.{CoreState, past, installed}
 use Rattle.txn_law.specs.Records.{swept}
 use Rattle.txn_law.specs.Window.{Footprint}
-use Rattle.txn_law.specs.declared.hold.Hold.{Hold}
 use Rattle.txn_law.specs.declared.present.Present.{Present}
 use Rattle.txn.proofs.state.State.inst_done.Goals as goal
 
@@ -42,13 +41,13 @@ returns-then-is_at_most-clause-others g c =
       inodes = core.inodes;
       begun = core.begun;
       out = core.out.items;
-      holds = core.holds.items;
+      holds = core.holds;
       present = core.present.items;
       records = records;
     } in
     installed_is seen log records core.present.items (sym past_is)
-    (sym (ap (λ (rs : List Footprint). swept core.holds.items rs core.present.items) past_is
-    ∙ swept_same core.log core.holds.items records core.present.items c.self.invariant))
+    (sym (ap (λ (rs : List Footprint). swept core.holds rs core.present.items) past_is
+    ∙ swept_same core.log core.holds records core.present.items c.self.invariant))
     ∙ ap (λ (old : CoreState). installed old log) c.self.view_is
 
 pub returns-then-is_at_most-clause-law : goal.returns-then-is_at_most-clause-law
@@ -69,13 +68,12 @@ invariant_of-self-2 g c =
     ∙ map_filter (λ kept. footprint kept.place.0 (g.C.Change.planned kept.change))
     (λ (kept : Footprint). nat_lt c.installed-installed.result.0 kept.place) core.records.items
     ∙ ap (λ place. past place before) c.installed-installed.ensures in
-    let swept_is : c.sweep.new.present.items ≡ swept core.holds.items records core.present.items =
+    let swept_is : c.sweep.new.present.items ≡ swept core.holds records core.present.items =
     c.sweep.ensures
-    ∙ swept_of_map (λ kept. footprint kept.place.0 (g.C.Change.planned kept.change)) c.deref.result.now
-    c.forget.new.records.items core.present.items
-    ∙ ap (λ (holds : List Hold). swept holds records core.present.items) c.deref.ensures.value in
-    subst (λ (present : List Present). IsNeat log core.holds.items records present) (sym swept_is)
-    (neat_swept log core.holds.items records core.present.items
+    ∙ swept_of_map (λ kept. footprint kept.place.0 (g.C.Change.planned kept.change)) core.holds
+    c.forget.new.records.items core.present.items in
+    subst (λ (present : List Present). IsNeat log core.holds records present) (sym swept_is)
+    (neat_swept log core.holds records core.present.items
     (subst (λ (rs : List Footprint). All (IsToInstall log) rs) (sym kept_is)
     (kept_past core.log log before c.inst_done.ensures.seen.places c.self.invariant.kept)))
 
@@ -92,22 +90,21 @@ returns-clause-others g c =
     ∙ map_filter (λ kept. footprint kept.place.0 (g.C.Change.planned kept.change))
     (λ (kept : Footprint). nat_lt c.installed-installed.result.0 kept.place) core.records.items
     ∙ ap (λ place. past place before) c.installed-installed.ensures in
-    let swept_is : c.sweep.new.present.items ≡ swept core.holds.items records core.present.items =
+    let swept_is : c.sweep.new.present.items ≡ swept core.holds records core.present.items =
     c.sweep.ensures
-    ∙ swept_of_map (λ kept. footprint kept.place.0 (g.C.Change.planned kept.change)) c.deref.result.now
-    c.forget.new.records.items core.present.items
-    ∙ ap (λ (holds : List Hold). swept holds records core.present.items) c.deref.ensures.value in
+    ∙ swept_of_map (λ kept. footprint kept.place.0 (g.C.Change.planned kept.change)) core.holds
+    c.forget.new.records.items core.present.items in
     let seen : CoreState = record {
       log = core.log;
       inodes = core.inodes;
       begun = core.begun;
       out = core.out.items;
-      holds = core.holds.items;
+      holds = core.holds;
       present = core.present.items;
       records = before;
     } in
     installed_is seen log records c.sweep.new.present.items kept_is
-    (swept_is ∙ ap (λ (rs : List Footprint). swept core.holds.items rs core.present.items) kept_is)
+    (swept_is ∙ ap (λ (rs : List Footprint). swept core.holds rs core.present.items) kept_is)
     ∙ ap (λ (old : CoreState). installed old log) c.self.view_is
 
 pub returns-clause-law : goal.returns-clause-law

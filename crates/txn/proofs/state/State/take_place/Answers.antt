@@ -30,10 +30,10 @@ invariant_of-self-in-Appended g c =
     c.places-place.ensures refl
     ∙ ap (λ xs. with_record log log.places plan
     (map (λ kept. footprint kept.place.0 (g.C.Change.planned kept.change)) xs)) c.reserve.ensures.items in
-    subst (λ (rs : List Footprint). IsNeat log core.holds.items rs c.refresh.new.present.items) (sym kept)
-    (subst (λ (ps : List Present). IsNeat log core.holds.items (with_record log log.places plan before) ps)
+    subst (λ (rs : List Footprint). IsNeat log core.holds rs c.refresh.new.present.items) (sym kept)
+    (subst (λ (ps : List Present). IsNeat log core.holds (with_record log log.places plan before) ps)
     (sym c.refresh.ensures)
-    (neat_with core.log log _ plan before (c.append.ensures.seen (search rules)) core.holds.items
+    (neat_with core.log log _ plan before (c.append.ensures.seen (search rules)) core.holds
     core.present.items c.self.invariant))
 
 pub returns-in-Appended : goal.returns-in-Appended

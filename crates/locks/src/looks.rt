@@ -1,0 +1,79 @@
+//! Looks at what is taken.
+ghost use Rattle.std.specs.Prelude.{◌≡◌, ◌↔◌, ◌&&◌, IsTrue, not, nat_eq};
+ghost use Rattle.std.specs.List.{list_any};
+ghost use Rattle.txn_law.specs.Holds.{KeepsOff, IsFree, is_taken, hold_of, is_read, is_written, released};
+
+use disk::BlockNo;
+use objects::{Addr, Mode};
+use txn_law::Hold;
+
+/// Whether of what keeps the wish off nothing has a byte of the address, but what this transaction has taken by
+/// this address.
+pub(crate) fn is_free(holds: &[Hold], transaction: u64, addr: Addr, mode: Mode) -> bool
+    ensures { IsTrue result ↔ IsFree holds.now transaction addr mode }
+{
+    holds.iter().all(|hold| {
+        !hold.addr.overlaps(addr)
+            || !keeps_off(hold, transaction, mode)
+            || hold.transaction == transaction && hold.addr == addr
+    })
+}
+
+// Whether what is taken keeps off such a wish.
+fn keeps_off(hold: &Hold, transaction: u64, mode: Mode) -> bool
+    ensures { IsTrue result ↔ KeepsOff transaction mode hold.now }
+{
+    hold.transaction == transaction || hold.mode.excludes(mode)
+}
+
+/// The transaction's hold of the address, if it has one.
+pub(crate) fn hold_of(holds: &[Hold], transaction: u64, addr: Addr) -> Option<Hold>
+    ensures { result ≡ hold_of holds.now transaction addr }
+{
+    holds
+        .iter()
+        .find(|hold| hold.transaction == transaction && hold.addr == addr)
+        .copied()
+}
+
+/// Whether the transaction holds the address for reading.
+pub(crate) fn is_read_by(holds: &[Hold], transaction: u64, addr: Addr) -> bool
+    ensures { result ≡ is_read (hold_of holds.now transaction addr) }
+{
+    match hold_of(holds, transaction, addr) {
+        Some(hold) => hold.is_read,
+        None => false,
+    }
+}
+
+/// Whether the transaction holds the address for writing.
+pub(crate) fn is_written_by(holds: &[Hold], transaction: u64, addr: Addr) -> bool
+    ensures { result ≡ is_written (hold_of holds.now transaction addr) }
+{
+    match hold_of(holds, transaction, addr) {
+        Some(hold) => hold.mode == Mode::Exclusive && (hold.is_read || hold.is_claimed),
+        None => false,
+    }
+}
+
+/// Whether anyone has taken a part of the block.
+pub(crate) fn is_taken(holds: &[Hold], block: BlockNo) -> bool
+    ensures { result ≡ is_taken holds.now block }
+{
+    holds.iter().any(|hold| hold.addr.block == block)
+}
+
+// Whether a hold of anyone but the transaction is of a part of the block.
+fn any_beside(holds: &[Hold], transaction: u64, block: BlockNo) -> bool
+    ensures { result ≡ list_any (λ hold. not (nat_eq hold.transaction transaction)
+        && nat_eq hold.addr.block.0 block.0) holds.now }
+{
+    holds.iter().any(|hold| hold.transaction != transaction && hold.addr.block == block)
+}
+
+/// Whether anyone but the transaction has taken a part of the block.
+pub(crate) fn is_taken_beside(holds: &[Hold], transaction: u64, block: BlockNo) -> bool
+    ensures { result ≡ is_taken (released holds.now transaction) block }
+{
+    any_beside(holds, transaction, block)
+}

@@ -1,0 +1,130 @@
+//! The table of what is taken.
+ghost use Rattle.std.specs.Prelude.{◌≡◌, ◌↔◌, IsTrue, Contains, []};
+ghost use Rattle.objects.specs.declared.mode.Mode.TheVariants as modes;
+ghost use Rattle.txn_law.specs.Holds.{IsFree, is_taken, hold_of, is_read, is_written, released};
+ghost use Rattle.txn_law.specs.Tidy.{AreApart};
+ghost use Rattle.txn_law.specs.declared.hold.Hold.{Hold};
+ghost use Rattle.locks.specs.Taking.{IsTaking};
+
+use crate::looks::{is_free, is_read_by, is_taken, is_taken_beside, is_written_by};
+use crate::taking::{note, release};
+use disk::BlockNo;
+use objects::{Addr, Mode};
+use std::alloc::Global;
+use std::marker::Model;
+use txn_law::Hold;
+
+/// What came of a wish. Busy: what keeps it off has a byte of its address. NoMemory: it is free, but there was no
+/// room to note it.
+#[derive(Clone, Copy, Debug, PartialEq, Eq)]
+pub enum Take {
+    Held,
+    Busy,
+    NoMemory,
+}
+
+/// Who has taken what. Its type keeps that no two holds share a byte, but those of two transactions that both
+/// share it.
+#[derive(Drop)]
+pub struct Table {
+    holds: Vec<Hold>,
+}
+
+impl Model for Table {
+    ghost use Rattle.std.specs.Prelude.{List};
+    ghost use Rattle.txn_law.specs.declared.hold.Hold.{Hold};
+
+    ghost Value = { List Hold };
+
+    ghost view = { λ table. table.holds.items };
+
+    ghost use Rattle.txn_law.specs.Tidy.{AreApart};
+
+    ghost invariant = { λ table. AreApart table.holds.items };
+}
+
+impl Table {
+    /// A table in which nothing is taken.
+    pub fn new(alloc: Global) -> Table
+        ensures { result ≡ [] }
+    {
+        Table {
+            holds: Vec::new(alloc),
+        }
+    }
+
+    /// No two holds share a byte, but those of two transactions that both share it; and an address that is taken
+    /// for one alone has one holder.
+    pub fn lawful(&self)
+        ensures apart { AreApart self.now }
+        ensures one { (one other : Hold) → Contains self.now one → Contains self.now other
+            → one.addr ≡ other.addr → one.mode ≡ modes.Exclusive → one ≡ other }
+    {
+        let _ = &self.holds;
+    }
+
+    /// All that is taken, in no promised order.
+    pub fn holds(&self) -> &[Hold]
+        ensures { result.now ≡ self.now }
+    {
+        &self.holds
+    }
+
+    /// Takes what a wish is for, beside what its transaction has taken of the address. Busy is tested before
+    /// NoMemory, and both change nothing.
+    pub fn take(&mut self, hold: Hold) -> Take
+        ensures { IsTaking self.old hold result self.new }
+    {
+        if !self.is_free(hold.transaction, hold.addr, hold.mode) {
+            return Take::Busy;
+        }
+        if self.holds.reserve(1).is_err() {
+            return Take::NoMemory;
+        }
+        note(&mut self.holds, hold);
+        Take::Held
+    }
+
+    /// Lets go of all that the transaction has taken, and of nothing that others took.
+    pub fn release_all(&mut self, transaction: u64)
+        ensures { self.new ≡ released self.old transaction }
+    {
+        release(&mut self.holds, transaction);
+    }
+
+    /// Whether of what keeps the wish off nothing has a byte of the address, but what this transaction has taken
+    /// by this address.
+    pub fn is_free(&self, transaction: u64, addr: Addr, mode: Mode) -> bool
+        ensures { IsTrue result ↔ IsFree self.now transaction addr mode }
+    {
+        is_free(&self.holds, transaction, addr, mode)
+    }
+
+    /// Whether the transaction holds the address for reading.
+    pub fn is_read_by(&self, transaction: u64, addr: Addr) -> bool
+        ensures { result ≡ is_read (hold_of self.now transaction addr) }
+    {
+        is_read_by(&self.holds, transaction, addr)
+    }
+
+    /// Whether the transaction holds the address for writing: alone, and read or claimed.
+    pub fn is_written_by(&self, transaction: u64, addr: Addr) -> bool
+        ensures { result ≡ is_written (hold_of self.now transaction addr) }
+    {
+        is_written_by(&self.holds, transaction, addr)
+    }
+
+    /// Whether anyone has taken a part of the block.
+    pub fn is_taken(&self, block: BlockNo) -> bool
+        ensures { result ≡ is_taken self.now block }
+    {
+        is_taken(&self.holds, block)
+    }
+
+    /// Whether anyone but the transaction has taken a part of the block.
+    pub fn is_taken_beside(&self, transaction: u64, block: BlockNo) -> bool
+        ensures { result ≡ is_taken (released self.now transaction) block }
+    {
+        is_taken_beside(&self.holds, transaction, block)
+    }
+}

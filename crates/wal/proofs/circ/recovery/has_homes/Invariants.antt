@@ -1,7 +1,0 @@
-use Rattle.std.proofs.Common.{ℕ, ◌+◌, ◌<◌}
-use Rattle.wal_law.specs.Log.{IsHomeOn}
-use Rattle.wal_law.specs.Overlay.{home_at}
-use Rattle.wal.proofs.circ.recovery.has_homes.Given as goal
-
-abbrev pub invariant-loop-i : goal.invariant-loop-i
-invariant-loop-i l = (k : ℕ) → k < l.i → IsHomeOn l.blocks (home_at l.header (l.start + k))
