@@ -1,1 +1,5 @@
 pub mod Splices
+pub mod Found
+pub mod Entries
+pub mod Filled
+pub mod Kept

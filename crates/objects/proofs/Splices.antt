@@ -1,5 +1,5 @@
 -- What lies where in a block into which bytes were put.
-use Rattle.std.proofs.Common.{◌≡◌, ℕ, ◌+◌, ◌-◌, ◌≤◌, sym, ap, ◌∙◌, List, ◌++◌, length, take, drop}
+use Rattle.std.proofs.Common.{◌≡◌, ◌⊎◌, inl, inr, ℕ, ◌+◌, ◌-◌, ◌≤◌, sym, ap, ◌∙◌, List, ◌++◌, length, take, drop}
 use Rattle.std.proofs.Common.{length-append, length-drop, append_assoc, arith}
 use Rattle.std.proofs.Math.Seq.{drop-append-add, take-append_seam}
 use Rattle.std.proofs.lemmas.List.{drop-append-le, take-append-le, drop-take, take-take, drop-drop}
@@ -68,3 +68,9 @@ module _ (content bytes : List ℕ) (offset : ℕ) (room : offset + length bytes
       ∙ drop-append-add bytes behind_it (from - (offset + length bytes))
       ∙ drop-drop (from - (offset + length bytes)) (offset + length bytes) content
       ∙ ap (λ k. drop k content) two)
+
+  -- what lies on either side of them
+  pub elsewhere : (n : ℕ) → length bytes ≡ n → (from len : ℕ) → (from + len ≤ offset) ⊎ (offset + n ≤ from)
+      → take len (drop from (spliced content offset bytes)) ≡ take len (drop from content)
+  elsewhere n same from len (inl less) = ahead from len less
+  elsewhere n same from len (inr more) = behind from len (omega (arith, same, more))

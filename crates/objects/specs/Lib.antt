@@ -1,3 +1,5 @@
 pub mod Addr
 pub mod Mode
 pub mod Spliced
+pub mod Object
+pub mod Present

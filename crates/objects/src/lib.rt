@@ -1,8 +1,17 @@
-//! Parts of blocks: what a transaction reads, writes and holds.
+//! Parts of blocks, which a transaction reads, writes and holds, and the blocks in memory that they lie in.
 #![tactic(auto)]
 
 mod addr;
+mod blocks;
 mod mode;
+mod object;
+mod parts;
+mod present;
+mod residency;
 
 pub use addr::Addr;
 pub use mode::Mode;
+pub use object::Object;
+pub use parts::{extract, splice};
+pub use present::Present;
+pub use residency::Residency;

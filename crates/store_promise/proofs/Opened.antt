@@ -23,7 +23,7 @@ use Rattle.wal_law.specs.Log.{Log, installed_place, place_before}
 use Rattle.wal_law.specs.Overlay.{over}
 use Rattle.txn_law.specs.Core.{CoreState}
 use Rattle.txn_law.specs.CoreWindow.{AreBlocks, IsCoreWindow, held_of}
-use Rattle.txn_law.specs.declared.present.Present.{Present}
+use Rattle.objects.specs.declared.present.Present.{Present}
 use Rattle.txn_law.specs.Window.{Follow, Footprint, IsCurrent, LeadsTo, after_commits, commits_among}
 use Rattle.txn_law.specs.Window.{now_of, opening}
 use Rattle.store_promise.specs.GoodImage.{IsGoodImage}

@@ -46,7 +46,7 @@ use Rattle.txn_law.specs.Present.{content_in, is_pending, present_of}
 use Rattle.txn_law.specs.Tidy.{AreTidy}
 use Rattle.txn_law.specs.Wishes.{IsBusy}
 use Rattle.txn_law.specs.declared.hold.Hold.{Hold}
-use Rattle.txn_law.specs.declared.present.Present.{Present}
+use Rattle.objects.specs.declared.present.Present.{Present}
 use Rattle.txn_law.proofs.Again as again
 use Rattle.txn_law.proofs.Claims.{all_four, found_by}
 use Rattle.txn_law.proofs.Others.{found_some, kept_off_by}

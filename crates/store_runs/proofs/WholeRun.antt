@@ -12,7 +12,7 @@ use Rattle.model.specs.Tree.{Tree}
 use Rattle.txn_law.specs.Core.{CoreState}
 use Rattle.txn_law.specs.Fetch.{Fetch}
 use Rattle.txn_law.specs.Present.{is_pending, present_of}
-use Rattle.txn_law.specs.declared.present.Present.{Present}
+use Rattle.objects.specs.declared.present.Present.{Present}
 use Rattle.store_promise.specs.declared.events.Event.{Event}
 use Rattle.store_promise.specs.declared.transcript.Run.{Run}
 use Rattle.store_promise.specs.Headline.{KeepsPromise, MayRun}

@@ -12,7 +12,7 @@ use Rattle.txn_law.specs.Core.{CoreState, with_begun, without}
 use Rattle.txn_law.specs.CoreLaw.{IsLawfulCore}
 use Rattle.txn_law.specs.CoreWindow.{IsHomeOf, KeepsHome, KeepsReads, SetsOnly}
 use Rattle.txn_law.specs.Leaves.{Leaves, taken_by, is_fetching, in_memory, but_by}
-use Rattle.txn_law.specs.Object.{ObjectBytes}
+use Rattle.objects.specs.Object.{ObjectBytes}
 use Rattle.txn_law.specs.Tidy.{AreTidy}
 use Rattle.txn_law.specs.Wishes.{IsWhole}
 use Rattle.txn_law.proofs.CoreLaws.{home_held, home_fetch, home_claim, lawful_held, lawful_fetch, lawful_claim}

@@ -7,7 +7,7 @@ use Rattle.std.specs.List.{list_any, filter}
 use Rattle.disk.specs.declared.block.BlockNo.{BlockNo}
 use Rattle.txn_law.specs.Holds.{is_taken, released}
 use Rattle.txn_law.specs.declared.hold.Hold.{Hold}
-use Rattle.txn_law.specs.declared.present.Present.{Present}
+use Rattle.objects.specs.declared.present.Present.{Present}
 use Rattle.txn.proofs.Neat.{all_both, filter_all}
 
 -- a filter by what passes another as well leaves the same behind it

@@ -10,7 +10,7 @@ use Rattle.txn_law.specs.Holds.{is_taken, released}
 use Rattle.txn_law.specs.Records.{lies_in, swept}
 use Rattle.txn_law.specs.Window.{Footprint}
 use Rattle.txn_law.specs.declared.hold.Hold.{Hold}
-use Rattle.txn_law.specs.declared.present.Present.{Present}
+use Rattle.objects.specs.declared.present.Present.{Present}
 
 -- what is made of the values that pass is what passes of what is made of all
 pub map_filter : {X Y : Type 0} (f : X → Y) (p : Y → Bool) (xs : List X)

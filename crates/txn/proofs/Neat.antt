@@ -11,25 +11,27 @@ use Rattle.std.proofs.lemmas.Map.Views.{any-filter_same}
 use Rattle.std.specs.Prelude.{is_some, Result, Ok, Err, OnOk, OnErr}
 use Rattle.std.specs.List.{list_any, filter}
 use Rattle.objects.specs.declared.addr.Addr.{Addr}
+use Rattle.objects.specs.Present.{filled_in, present_of, with_block}
 use Rattle.disk.specs.Device.{Content}
 use Rattle.disk.specs.declared.block.BlockNo.{BlockNo}
-use Rattle.wal_law.specs.Log.{Log, installed_place, place_before, newest, or_else}
-use Rattle.wal_law.specs.Effects.{is_all_home, HasAppended}
+use Rattle.wal_law.specs.Log.{Log, installed_place, place_before, newest}
+use Rattle.wal_law.specs.Effects.{is_all_home, HasAppended, HasGoneOn}
 use Rattle.wal_law.specs.declared.change.LogChange.{LogChange}
 use Rattle.txn_law.specs.Commit.{Planned, footprint, with_record, refreshed_content, refreshed_entry, refreshed}
 use Rattle.txn_law.specs.Core.{past}
-use Rattle.txn_law.specs.Fetched.{filled, without_pending}
+use Rattle.objects.specs.Present.{filled, without_pending}
 use Rattle.txn_law.specs.Holds.{is_taken, is_hold_of, hold_of, without_hold, joined, with_hold}
-use Rattle.txn_law.specs.Object.{ObjectBytes}
+use Rattle.objects.specs.Object.{ObjectBytes}
 use Rattle.txn_law.specs.Records.{lies_in, is_kept, swept}
 use Rattle.txn_law.specs.Window.{Footprint}
 use Rattle.txn_law.specs.declared.hold.Hold.{Hold}
-use Rattle.txn_law.specs.declared.present.Present.{Present}
+use Rattle.objects.specs.declared.present.Present.{Present}
 use Rattle.locks.specs.Taking.{IsTaking}
 use Rattle.locks.specs.declared.table.Take.{Take}
 use Rattle.locks.specs.declared.table.Take.TheVariants as take
 use Rattle.txn.proofs.Mapped.{any_of_map}
-use Rattle.txn.specs.Neat.{is_needed, IsToInstall, IsNeat}
+use Rattle.txn.specs.Neat.{is_needed, IsAsLogged, IsToInstall, IsNeat}
+use Rattle.txn.proofs.Logged.{IsQuiet, logged_with, logged_on}
 
 or-true : (b : Bool) → (b || true) ≡ true
 or-true true = refl
@@ -64,9 +66,11 @@ past_same place log records le kept =
 
 -- what is left after a sweep is neat
 pub neat_swept : (log : Log) (holds : List Hold) (records : List Footprint) (present : List Present)
-    → All (IsToInstall log) records → IsNeat log holds records (swept holds records present)
-neat_swept log holds records present kept = record {
+    → All (IsAsLogged log) present → All (IsToInstall log) records
+    → IsNeat log holds records (swept holds records present)
+neat_swept log holds records present logged kept = record {
   needed = filter_passes (is_needed holds records) present;
+  logged = All-filter (is_needed holds records) (IsAsLogged log) present logged;
   kept = kept;
 }
 
@@ -154,6 +158,7 @@ neat_taken log holds hold records present neat = record {
       (λ entry need. needed_by_hold (is_none entry.content) (is_taken holds entry.block)
       (is_kept records entry.block) (is_taken (with_hold holds hold) entry.block)
       (taken_more holds hold entry.block) need) present neat.needed;
+  logged = neat.logged;
   kept = neat.kept;
 }
 
@@ -182,10 +187,11 @@ neat_took log holds hold records present (Err none) left taken refused neat =
 
 -- where its block comes into memory with it
 pub neat_added : (log : Log) (holds : List Hold) (hold : Hold) (records : List Footprint)
-    (present : List Present) (content : Option Content) → IsNeat log holds records present
+    (present : List Present) (content : Option Content)
+    → IsAsLogged log (record { block = hold.addr.block; content = content }) → IsNeat log holds records present
     → IsNeat log (with_hold holds hold) records
     (present ++ record { block = hold.addr.block; content = content } ∷ [])
-neat_added log holds hold records present content neat = record {
+neat_added log holds hold records present content fits neat = record {
   needed = All-append (λ entry. is_needed (with_hold holds hold) records entry ≡ true) present
       (record { block = hold.addr.block; content = content } ∷ [])
       (neat_taken log holds hold records present neat).needed
@@ -195,6 +201,10 @@ neat_added log holds hold records present content neat = record {
       (taken_itself holds hold hold.addr.block refl)
       ∙ ap (λ t. t || is_kept records hold.addr.block) (or-true (is_none content)))
       (All-nil (λ entry. is_needed (with_hold holds hold) records entry ≡ true)));
+  logged = All-append (IsAsLogged log) present (record { block = hold.addr.block; content = content } ∷ [])
+      neat.logged
+      (All-cons (IsAsLogged log) (record { block = hold.addr.block; content = content }) [] fits
+      (All-nil (IsAsLogged log)));
   kept = neat.kept;
 }
 
@@ -205,6 +215,8 @@ pub neat_failed : (log : Log) (holds : List Hold) (records : List Footprint) (pr
 neat_failed log holds records present block neat = record {
   needed = All-filter (λ (entry : Present). not (nat_eq entry.block.0 block.0) || is_some entry.content)
       (λ entry. is_needed holds records entry ≡ true) present neat.needed;
+  logged = All-filter (λ (entry : Present). not (nat_eq entry.block.0 block.0) || is_some entry.content)
+      (IsAsLogged log) present neat.logged;
   kept = neat.kept;
 }
 
@@ -225,12 +237,12 @@ needed_filled holds records (entry ∷ later) block content need h =
     go : All (λ entry. is_needed holds records entry ≡ true) (filled later block content)
         → (t : Bool) → nat_eq entry.block.0 block.0 ≡ t
         → All (λ entry. is_needed holds records entry ≡ true)
-        (if t then record { block = entry.block; content = or_else entry.content (Some content) } ∷ later
+        (if t then record { block = entry.block; content = filled_in entry.content content } ∷ later
         else entry ∷ filled later block content)
     go behind true e =
         All-cons (λ entry. is_needed holds records entry ≡ true)
-        (record { block = entry.block; content = or_else entry.content (Some content) }) later
-        (needed_first (is_none (or_else entry.content (Some content))) (is_taken holds entry.block)
+        (record { block = entry.block; content = filled_in entry.content content }) later
+        (needed_first (is_none (filled_in entry.content content)) (is_taken holds entry.block)
         (is_kept records entry.block)
         (ap (λ (n : ℕ). list_any (λ (hold : Hold). nat_eq hold.addr.block.0 n) holds
         || list_any (λ (commit : Footprint). list_any (λ (o : ObjectBytes). nat_eq o.addr.block.0 n) commit.read)
@@ -323,20 +335,32 @@ module _ (old new : Log) (group : List (BlockNo × Content)) (plan : Planned) (r
       (kept_block entry.block) need) present needed)
 
   -- the lists stay neat where a commit is recorded
-  pub neat_with : (holds : List Hold) (present : List Present) → IsNeat old holds records present
+  pub neat_with : (holds : List Hold) (present : List Present) → All (IsQuiet group) present
+      → IsNeat old holds records present
       → IsNeat new holds (with_record new new.places plan records) (refreshed new present)
-  neat_with holds present neat = record {
+  neat_with holds present quiet neat = record {
     needed = needed_with holds present neat.needed;
+    logged = logged_with old new group seen present quiet neat.logged;
     kept = kept_with neat.kept;
   }
 
--- the same, told by what is there before and after
-pub neat_added_is : (log : Log) (holds : List Hold) (hold : Hold) (records : List Footprint)
-    (present : List Present) (content : Option Content) (taken : List Hold) (room added : List Present)
-    → taken ≡ with_hold holds hold → added ≡ room ++ record { block = hold.addr.block; content = content } ∷ []
-    → room ≡ present → IsNeat log holds records present → IsNeat log taken records added
-neat_added_is log holds hold records present content taken room added held is same neat =
-    subst (λ (hs : List Hold). IsNeat log hs records added) (sym held)
-    (subst (λ (ps : List Present). IsNeat log (with_hold holds hold) records ps)
-    (sym (is ∙ ap (λ (ps : List Present). ps ++ record { block = hold.addr.block; content = content } ∷ []) same))
-    (neat_added log holds hold records present content neat))
+-- where a block that nobody had comes into memory with what is taken of it
+pub neat_taken_with : (log : Log) (holds : List Hold) (hold : Hold) (records : List Footprint)
+    (present : List Present) (content : Option Content) → present_of present hold.addr.block ≡ None
+    → IsAsLogged log (record { block = hold.addr.block; content = content }) → IsNeat log holds records present
+    → IsNeat log (with_hold holds hold) records (with_block present hold.addr.block content)
+neat_taken_with log holds hold records present content absent fits neat =
+    subst (λ (there : Option Present). IsNeat log (with_hold holds hold) records
+    (if is_some there then present
+    else present ++ record { block = hold.addr.block; content = content } ∷ [])) (sym absent)
+    (neat_added log holds hold records present content fits neat)
+
+-- where the logger or the installer has gone on, and nothing more is installed
+pub neat_on : (old new : Log) (holds : List Hold) (records : List Footprint) (present : List Present)
+    → HasGoneOn old new → installed_place new ≤ installed_place old → IsNeat old holds records present
+    → IsNeat new holds records present
+neat_on old new holds records present on installed neat = record {
+  needed = neat.needed;
+  logged = logged_on old new on present neat.logged;
+  kept = kept_on old new records installed (omega (arith, on.places)) neat.kept;
+}

@@ -15,7 +15,7 @@ use Rattle.txn_law.specs.Core.{CoreState, IsOut}
 use Rattle.txn_law.specs.Group.{blocks_after, is_among}
 use Rattle.txn_law.specs.Holds.{hold_of, is_hold_of, is_read, is_written}
 use Rattle.txn_law.specs.Leaves.{is_fetching, taken_by}
-use Rattle.txn_law.specs.Object.{ObjectBytes}
+use Rattle.objects.specs.Object.{ObjectBytes}
 use Rattle.txn_law.specs.Tidy.{AreTidy, IsOfOne}
 use Rattle.txn_law.specs.declared.hold.Hold.{Hold}
 use Rattle.txn_law.proofs.Again as again

@@ -5,7 +5,7 @@ use Rattle.objects.specs.declared.addr.Addr.{Addr}
 use Rattle.txn_law.specs.Core.{CoreState}
 use Rattle.txn_law.specs.Holds.{is_written}
 use Rattle.txn_law.specs.Leaves.{taken_by}
-use Rattle.txn_law.specs.Object.{ObjectBytes}
+use Rattle.objects.specs.Object.{ObjectBytes}
 use Rattle.txn_law.specs.Wishes.{IsWhole}
 
 -- the transaction holds the whole block for writing

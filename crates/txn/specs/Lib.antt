@@ -3,11 +3,12 @@ pub mod Exactly
 pub mod Source
 pub mod Claimed
 pub mod Neat
+pub mod Refreshed
 -- What the contracts here cite, for the crates above.
-pub use Rattle.txn_law.specs.Object
+pub use Rattle.objects.specs.Object
 pub use Rattle.txn_law.specs.Group
 pub use Rattle.txn_law.specs.Holds
-pub use Rattle.txn_law.specs.Present
+pub use Rattle.objects.specs.Present
 pub use Rattle.txn_law.specs.Records
 pub use Rattle.txn_law.specs.Window
 pub use Rattle.txn_law.specs.Core

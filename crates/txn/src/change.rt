@@ -9,7 +9,7 @@ use crate::Object;
 pub trait Change: Drop {
     ghost use Rattle.std.specs.Prelude.{List, ℕ};
     ghost use Rattle.txn_law.specs.Commit.{Planned};
-    ghost use Rattle.txn_law.specs.Object.{ObjectBytes};
+    ghost use Rattle.objects.specs.Object.{ObjectBytes};
 
     // What it was worked out for, what it read and what it writes.
     ghost planned: { Self → Planned };

@@ -9,11 +9,11 @@ ghost use Rattle.txn_law.specs.Group.{blocks_of};
 
 use crate::outcomes::Commit;
 use crate::records::keep;
+use crate::refreshing::refresh;
 use crate::state::State;
 use crate::{Change, Object, Tx};
 use disk::BlockNo;
-use holds::group::{are_sized, blocks_of_objects, group_of};
-use holds::present::{content_of, is_pending, refresh};
+use groups::{are_sized, blocks_of_objects, group_of};
 use std::alloc::Global;
 use wal::{Append, Room};
 
@@ -47,6 +47,7 @@ impl<C: Change> State<C> {
         ensures { IsCommitExactly self.old tx (C.planned change) change result self.new }
     {
         are_sized(change.written());
+        self.present.lawful();
         if self.records.reserve(1).is_err() {
             return Commit::NoMemory(tx, change);
         }
@@ -57,7 +58,7 @@ impl<C: Change> State<C> {
             Append::Appended => {
                 let Tx { number } = tx;
                 let place = self.log.places();
-                refresh(&mut self.present, &self.log);
+                refresh(&mut self.present, &self.log, blocks);
                 keep(&mut self.records, place, change, self.log.installed());
                 self.close(number);
                 Commit::Committed(place)
@@ -94,7 +95,7 @@ impl<C: Change> State<C> {
         ensures { IsTrue result ↔ HasBytes self.now object.now }
     {
         let addr = object.addr();
-        match content_of(&self.present, addr.block) {
+        match self.present.content_of(addr.block) {
             Some(content) => {
                 &content.as_slice()[addr.offset..addr.offset + addr.len] == object.bytes()
             }
@@ -117,7 +118,7 @@ impl<C: Change> State<C> {
         ensures { IsTrue result ↔ IsWrittenBy self.now transaction object.now.addr }
     {
         let addr = object.addr();
-        self.holds.is_written_by(transaction, addr) && !is_pending(&self.present, addr.block)
+        self.holds.is_written_by(transaction, addr) && !self.present.is_pending(addr.block)
     }
 
     // Whether a change may write these blocks.

@@ -13,7 +13,7 @@ ghost use Rattle.txn_law.specs.CoreWindow.{KeepsReads};
 ghost use Rattle.txn_law.specs.Leaves.{HasFetched, Leaves, but_by, in_memory, taken_by, is_fetching};
 ghost use Rattle.txn_law.specs.Leaves.{without_fetch};
 ghost use Rattle.txn_law.specs.Others.{KeepsTaken};
-ghost use Rattle.txn_law.specs.Object.{ObjectBytes};
+ghost use Rattle.objects.specs.Object.{ObjectBytes};
 ghost use Rattle.txn_law.specs.Tidy.{AreTidy};
 ghost use Rattle.txn_law.specs.Wishes.{IsBusy, IsLoading, IsWhole};
 ghost use Rattle.txn_law.specs.declared.hold.Hold.{Hold};

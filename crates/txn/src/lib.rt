@@ -7,17 +7,18 @@ mod fetching;
 mod laws;
 mod outcomes;
 mod records;
+mod refreshing;
 mod state;
 mod transactions;
 mod tx;
 mod want;
 
 pub use change::Change;
-pub use holds::Object;
 pub use laws::{
     a_lone_transaction_is_not_kept_off, a_planned_change_is_its_own, a_wish_is_met_after_its_fetch,
     others_keep_what_they_have,
 };
+pub use objects::Object;
 pub use outcomes::{BeginFault, Claim, Commit, Want};
 pub use transactions::Core;
 pub use tx::{FetchIo, Stable, Tx};

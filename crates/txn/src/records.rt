@@ -9,8 +9,8 @@ ghost use Rattle.std.specs.VecDeque.{deque_len, deque_capacity};
 use crate::{Change, Object};
 use disk::BlockNo;
 use locks::{Hold, Table};
+use objects::Residency;
 use std::collections::VecDeque;
-use txn_law::Present;
 use wal::Seq;
 
 /// A commit with its place.
@@ -80,76 +80,73 @@ pub(crate) fn forget<C: Change>(records: &mut VecDeque<Record<C>>, installed: Se
 
 /// Lets go of the blocks that nobody has taken, no kept record read and no fetch is pending of.
 pub(crate) fn sweep<C: Change>(
-    present: &mut Vec<Present>,
+    present: &mut Residency,
     holds: &Table,
     records: &VecDeque<Record<C>>,
 )
-    ensures { present.new.items ≡ filter (λ entry. is_none entry.content || is_taken holds.now entry.block
+    ensures { present.new ≡ filter (λ entry. is_none entry.content || is_taken holds.now entry.block
         || list_any (λ kept. lies_in (C.planned kept.change).read entry.block) records.now.items)
-        present.old.items }
+        present.old }
 {
     present.retain(|entry| {
         entry.content.is_none() || holds.is_taken(entry.block) || is_kept(records, entry.block)
     });
 }
 
-// Whether a fetch of the block is pending, anyone but the transaction has taken a part of it, or a kept record
-// read one.
-fn is_needed_beside<C: Change>(
-    entry: &Present,
+// Whether anyone but the transaction has taken a part of the block, or a kept record read one.
+fn is_used_beside<C: Change>(
     holds: &Table,
     records: &VecDeque<Record<C>>,
     transaction: u64,
+    block: BlockNo,
 ) -> bool
-    ensures { result ≡ (is_none entry.now.content
-        || is_taken (released holds.now transaction) entry.now.block
-        || list_any (λ kept. lies_in (C.planned kept.change).read entry.now.block) records.now.items) }
+    ensures { result ≡ (is_taken (released holds.now transaction) block
+        || list_any (λ kept. lies_in (C.planned kept.change).read block) records.now.items) }
 {
-    entry.content.is_none()
-        || holds.is_taken_beside(transaction, entry.block)
-        || is_kept(records, entry.block)
+    holds.is_taken_beside(transaction, block) || is_kept(records, block)
 }
 
 // Looks at the block that a hold is of, if the transaction has it: lets go of the block, if nobody else has taken
 // a part of it, no kept record read one and no fetch is pending of it.
 fn sweep_hold<C: Change>(
-    present: &mut Vec<Present>,
+    present: &mut Residency,
     holds: &Table,
     records: &VecDeque<Record<C>>,
     transaction: u64,
     hold: &Hold,
 )
-    ensures { present.new.items ≡ (if nat_eq hold.now.transaction transaction
+    ensures { present.new ≡ (if nat_eq hold.now.transaction transaction
         then filter (λ entry. not (nat_eq entry.block.0 hold.now.addr.block.0)
         || (is_none entry.content || is_taken (released holds.now transaction) entry.block
         || list_any (λ kept. lies_in (C.planned kept.change).read entry.block) records.now.items))
-        present.old.items
-        else present.old.items) }
+        present.old
+        else present.old) }
 {
     if hold.transaction != transaction {
         return;
     }
     let block = hold.addr.block;
-    present.retain(|entry| {
-        entry.block != block || is_needed_beside(entry, holds, records, transaction)
-    });
+    if is_used_beside(holds, records, transaction, block) {
+        return;
+    }
+    present.unpin(block);
 }
 
 /// Lets go of the blocks that nobody but the transaction has taken, no kept record read and no fetch is pending
 /// of, where somebody needs each: so only those are looked at that the transaction has taken.
 pub(crate) fn sweep_end<C: Change>(
-    present: &mut Vec<Present>,
+    present: &mut Residency,
     holds: &Table,
     records: &VecDeque<Record<C>>,
     transaction: u64,
 )
     requires { All (λ entry. (is_none entry.content || is_taken holds.now entry.block
         || list_any (λ kept. lies_in (C.planned kept.change).read entry.block) records.now.items) ≡ true)
-        present.old.items }
-    ensures { present.new.items ≡ filter (λ entry. is_none entry.content
+        present.old }
+    ensures { present.new ≡ filter (λ entry. is_none entry.content
         || is_taken (released holds.now transaction) entry.block
         || list_any (λ kept. lies_in (C.planned kept.change).read entry.block) records.now.items)
-        present.old.items }
+        present.old }
 {
     for hold in holds.holds() {
         sweep_hold(present, holds, records, transaction, hold);

@@ -20,14 +20,13 @@ use crate::outcomes::BeginFault;
 use crate::records::{Record, forget, sweep, sweep_end};
 use crate::{Change, Object, Stable, Tx};
 use disk::BlockNo;
-use holds::group::blocks_of_objects;
+use groups::blocks_of_objects;
 use limits::FIRST_HOME_BLOCK;
 use locks::Table;
-use objects::Addr;
+use objects::{Addr, Residency};
 use std::alloc::Global;
 use std::collections::VecDeque;
 use std::marker::Model;
-use txn_law::Present;
 use wal::{InstIo, LogIo, Seq, Wal};
 
 /// What a core has. Its type keeps that nothing is in memory that nobody needs, and that no commit is kept that
@@ -43,7 +42,7 @@ pub(crate) struct State<C: Change> {
     pub(crate) holds: Table,
     // Each block that is held or that a kept record read, with its current content, and those that are being
     // fetched.
-    pub(crate) present: Vec<Present>,
+    pub(crate) present: Residency,
     // The commits that aren't installed, oldest first.
     pub(crate) records: VecDeque<Record<C>>,
 }
@@ -61,14 +60,14 @@ impl<C: Change> Model for State<C> {
       begun = c.begun;
       out = c.out.items;
       holds = c.holds;
-      present = c.present.items;
+      present = c.present;
       records = map (λ r. footprint r.place.0 (C.planned r.change)) c.records.items;
     } };
 
     ghost use Rattle.txn.specs.Neat.{IsNeat};
 
     ghost invariant = { λ c. IsNeat c.log c.holds
-        (map (λ r. footprint r.place.0 (C.planned r.change)) c.records.items) c.present.items };
+        (map (λ r. footprint r.place.0 (C.planned r.change)) c.records.items) c.present };
 }
 
 impl<C: Change> State<C> {
@@ -90,7 +89,7 @@ impl<C: Change> State<C> {
             begun: 0,
             out: Vec::new(alloc),
             holds: Table::new(alloc),
-            present: Vec::new(alloc),
+            present: Residency::new(alloc),
             records: VecDeque::new(alloc),
         }
     }

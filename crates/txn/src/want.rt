@@ -1,25 +1,25 @@
 //! Reading and claiming what a transaction works on.
-ghost use Rattle.std.specs.Prelude.{◌≡◌, IfOk, OnOk, OnErr, true, false, length};
+ghost use Rattle.std.specs.Prelude.{◌≡◌, IfOk, OnOk, OnErr, None, Some, false};
+ghost use Rattle.disk.specs.Device.{Content};
+ghost use Rattle.wal_law.specs.Log.{newest};
 ghost use Rattle.objects.specs.declared.addr.Addr.{Addr};
 ghost use Rattle.txn.specs.Outcomes.{IsWithin};
 ghost use Rattle.txn.specs.Exactly.{IsWantedExactly, IsClaimedExactly};
 ghost use Rattle.txn_law.specs.Holds.{IsFree, with_hold};
-ghost use Rattle.txn_law.specs.Present.{present_of, is_pending};
-ghost use Rattle.txn_law.specs.Window.{part};
+ghost use Rattle.objects.specs.Present.{present_of, is_pending};
+ghost use Rattle.txn_law.specs.Lists.{taken};
 ghost use Rattle.txn_law.specs.Wishes.{IsWhole};
-ghost use Rattle.txn_law.specs.Fetched.{fetched, fetch_failed, filled};
+ghost use Rattle.txn_law.specs.Fetched.{fetched, fetch_failed};
 ghost use Rattle.txn.specs.Source.{IsSource, IsSourceWithin};
 
 use crate::outcomes::{Claim, Want};
-use crate::records::{is_used, sweep};
+use crate::records::is_used;
 use crate::state::State;
 use crate::{Change, FetchIo, Tx};
 use disk::{Block, BlockNo};
-use holds::present::{add, content_of, fill, is_pending, let_go};
 use locks::{Hold, Table, Take, for_fetching, for_reading, for_writing};
-use objects::{Addr, Mode};
+use objects::{Addr, Mode, extract};
 use std::alloc::{AllocError, Global};
-use txn_law::Present;
 
 // What want found, before the transaction is handed back.
 enum Source {
@@ -39,7 +39,7 @@ impl<C: Change> State<C> {
         if !self.holds.is_free(tx.number, addr, mode) {
             return Want::Busy(tx);
         }
-        if is_pending(&self.present, addr.block) {
+        if self.present.is_pending(addr.block) {
             return Want::Loading(tx);
         }
         match self.take_for_reading(alloc, tx.number, addr, mode) {
@@ -66,7 +66,7 @@ impl<C: Change> State<C> {
         if !self.holds.is_free(tx.number, addr, Mode::Exclusive) {
             return Claim::Busy(tx);
         }
-        if is_pending(&self.present, addr.block) {
+        if self.present.is_pending(addr.block) {
             return Claim::Loading(tx);
         }
         match self.holds.take(for_writing(tx.number, addr)) {
@@ -91,26 +91,42 @@ impl<C: Change> State<C> {
         ensures within { IfOk result (IsSourceWithin addr.len) }
         ensures refused { OnErr result (self.new ≡ self.old) }
     {
-        if let Some(content) = content_of(&self.present, addr.block) {
-            let bytes = part_of(alloc, content, addr)?;
+        if let Some(content) = self.present.content_of(addr.block) {
+            let bytes = extract(alloc, content, addr)?;
             take(&mut self.holds, for_reading(transaction, addr, mode))?;
             return Ok(Source::Bytes(bytes));
         }
-        self.present.reserve(1)?;
         let mut content = Block::zeros(alloc)?;
         if let Some(newest) = self.log.latest(addr.block) {
             content.copy_from(newest);
-            let bytes = part_of(alloc, &content, addr)?;
-            take(&mut self.holds, for_reading(transaction, addr, mode))?;
-            add(&mut self.present, addr.block, Some(content));
+            let bytes = extract(alloc, &content, addr)?;
+            self.take_with(for_reading(transaction, addr, mode), Some(content))?;
             return Ok(Source::Bytes(bytes));
         }
-        take(&mut self.holds, for_fetching(transaction, addr, mode))?;
-        add(&mut self.present, addr.block, None);
+        self.take_with(for_fetching(transaction, addr, mode), None)?;
         Ok(Source::Fetch(FetchIo {
             block: addr.block,
             buffer: content,
         }))
+    }
+
+    // Takes what a wish is for, which is free, with its block, which isn't in memory and gets this content, or is
+    // to be fetched. All of it is taken, or nothing.
+    fn take_with(&mut self, hold: Hold, content: Option<Block>) -> Result<(), AllocError>
+        requires free { IsFree self.old.holds hold.transaction hold.addr hold.mode }
+        requires absent { present_of self.old.present hold.addr.block ≡ None }
+        requires logged { (newer : Content) → newest self.old.log hold.addr.block.0 ≡ Some newer
+            → content ≡ Some newer }
+        ensures taken { OnOk result (self.new ≡ taken self.old hold content) }
+        ensures refused { OnErr result (self.new ≡ self.old) }
+    {
+        let block = hold.addr.block;
+        self.present.pin(block, content)?;
+        if let Err(none) = take(&mut self.holds, hold) {
+            self.present.take_back(block);
+            return Err(none);
+        }
+        Ok(())
     }
 
     /// Gives a fetch back with what was read. The block stays in memory while anyone has taken a part of it.
@@ -118,11 +134,10 @@ impl<C: Change> State<C> {
         ensures { self.new ≡ fetched self.old io.block io.content }
     {
         let FetchIo { block, buffer } = io;
-        put(&mut self.present, block, buffer);
-        if is_used(&self.holds, &self.records, block) {
-            return;
+        self.present.fetched(block, buffer);
+        if !is_used(&self.holds, &self.records, block) {
+            self.present.unpin(block);
         }
-        sweep(&mut self.present, &self.holds, &self.records);
     }
 
     /// Gives a fetch back that failed. The next want of the block asks for it again.
@@ -130,7 +145,7 @@ impl<C: Change> State<C> {
         ensures { self.new ≡ fetch_failed self.old io.block }
     {
         let FetchIo { block, buffer: _ } = io;
-        let_go(&mut self.present, block);
+        self.present.fetch_failed(block);
     }
 }
 
@@ -145,19 +160,4 @@ fn take(holds: &mut Table, hold: Hold) -> Result<(), AllocError>
         Take::NoMemory => Err(AllocError),
         Take::Busy => unreachable!(),
     }
-}
-
-// Puts the content of a block in its place, where its fetch is pending.
-fn put(present: &mut Vec<Present>, block: BlockNo, content: Block)
-    ensures { present.new.items ≡ filled present.old.items block content }
-{
-    fill(present, block, content);
-}
-
-// The bytes of a block that an object has.
-fn part_of(alloc: Global, content: &Block, addr: Addr) -> Result<Vec<u8>, AllocError>
-    ensures bytes { IfOk result (λ bytes. bytes.items ≡ part content.now addr) }
-    ensures len { IfOk result (λ bytes. length bytes.items ≡ addr.len) }
-{
-    content.as_slice()[addr.offset..addr.offset + addr.len].to_vec(alloc)
 }

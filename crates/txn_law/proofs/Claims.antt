@@ -13,8 +13,8 @@ use Rattle.objects.specs.Mode.{is_exclusive}
 use Rattle.objects.specs.declared.mode.Mode.{Mode}
 use Rattle.objects.specs.declared.mode.Mode.TheVariants as modes
 use Rattle.txn_law.specs.Holds.{is_hold_of, hold_of, is_written}
-use Rattle.txn_law.specs.Object.{ObjectBytes}
-use Rattle.txn_law.specs.Present.{present_of, content_in}
+use Rattle.objects.specs.Object.{ObjectBytes}
+use Rattle.objects.specs.Present.{present_of, content_in}
 use Rattle.txn_law.specs.declared.hold.Hold.{Hold}
 use Rattle.txn_law.specs.Steps.{IsWholeIn}
 use Rattle.txn_law.specs.Tidy.{AreTidy, IsReadHere, IsClaimedWhole}

@@ -15,7 +15,7 @@ use Rattle.wal_law.specs.Overlay.{content_or}
 use Rattle.wal_law.specs.Effects.{newest_in}
 use Rattle.wal_law.proofs.Newest.{place_before-all}
 use Rattle.wal_law.specs.Grows.{recovered, GrowsBy}
-use Rattle.txn_law.specs.Object.{ObjectBytes}
+use Rattle.objects.specs.Object.{ObjectBytes}
 use Rattle.txn_law.specs.Window.{Footprint, Follow, with_objects, after_commits}
 use Rattle.txn_law.specs.Window.{opening, now_of, GroupEnd, at_first, at_installed, at_logged}
 use Rattle.txn_law.specs.Window.{at_taken, at_last, ArePlaced, commits_among, LeadsTo, IsInLog, AreInLog}

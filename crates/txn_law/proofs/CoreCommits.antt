@@ -18,10 +18,10 @@ use Rattle.txn_law.specs.Commit.{Planned, IsReadBy}
 use Rattle.txn_law.specs.Core.{CoreState}
 use Rattle.txn_law.specs.Group.{base_in}
 use Rattle.txn_law.specs.Holds.{released}
-use Rattle.txn_law.specs.Present.{present_of, content_in}
+use Rattle.objects.specs.Present.{present_of, content_in}
 use Rattle.txn_law.specs.Records.{lies_in}
 use Rattle.txn_law.specs.Window.{Footprint, part, IsAsRead, with_objects}
-use Rattle.txn_law.specs.declared.present.Present.{Present}
+use Rattle.objects.specs.declared.present.Present.{Present}
 use Rattle.txn_law.specs.CoreWindow.{with_entry, held_of, IsCoreWindow}
 use Rattle.txn_law.specs.Commit.{refreshed_content, refreshed, committed, IsCommitted}
 use Rattle.txn_law.specs.Steps.{IsBrought, IsWholeIn, IsKnown, with_commit}

@@ -25,7 +25,7 @@ use Rattle.txn_law.specs.CoreWindow.{held_of, IsCoreWindow, AreBlocks, IsHomeOf,
 use Rattle.txn_law.specs.Fetch.{Fetch}
 use Rattle.txn_law.specs.Fetched.{fetched, fetch_failed}
 use Rattle.txn_law.specs.Group.{blocks_of, IsLaid}
-use Rattle.txn_law.specs.Object.{ObjectBytes}
+use Rattle.objects.specs.Object.{ObjectBytes}
 use Rattle.wal_law.specs.Grows.{IsWholeChange}
 use Rattle.txn_law.specs.Tidy.{IsOfOne, AreTidy}
 use Rattle.txn_law.specs.Window.{Footprint, IsWindowOver}

@@ -5,17 +5,19 @@ use Rattle.std.specs.Prelude.{Contains, nat_le, is_some}
 use Rattle.std.specs.List.{filter}
 use Rattle.std.proofs.lemmas.Bool.{eqb-true}
 use Rattle.std.proofs.lemmas.List.Elements.{All-cons, All-weaker}
+use Rattle.objects.specs.Present.{filled_in}
 use Rattle.disk.specs.Device.{Content}
 use Rattle.disk.specs.Crash.{Image}
 use Rattle.disk.specs.declared.block.BlockNo.{BlockNo}
 use Rattle.wal_law.specs.Calls.{home_after}
 use Rattle.wal_law.specs.Law.{with_changes}
-use Rattle.wal_law.specs.Log.{Log, newest, or_else}
+use Rattle.wal_law.specs.Log.{Log, newest}
 use Rattle.wal_law.specs.Overlay.{content_or}
 use Rattle.txn_law.specs.Core.{CoreState}
-use Rattle.txn_law.specs.declared.present.Present.{Present}
+use Rattle.objects.specs.declared.present.Present.{Present}
 use Rattle.txn_law.specs.CoreWindow.{with_entry, held_of, IsCoreWindow}
-use Rattle.txn_law.specs.Fetched.{filled, fetched, fetch_failed}
+use Rattle.txn_law.specs.Fetched.{fetched, fetch_failed}
+use Rattle.objects.specs.Present.{filled}
 use Rattle.txn_law.specs.Window.{now_of, IsPinned, ArePinned, IsCurrent, IsWindowOver}
 use Rattle.txn_law.proofs.HomeReads.{not_brought}
 use Rattle.txn_law.proofs.Moves.{home_is_current, other_memory}
@@ -33,7 +35,7 @@ home_stays base log ok block none = go (ok && nat_le (log.installing + 2) log.in
 -- a content that is there keeps what holds of all
 module _ (P : ℕ × Content → Type 0) (block : BlockNo) (content : Content) where
   all_one : (at : BlockNo) (there : Option Content) (xs : List (ℕ × Content)) → P (at.0, content)
-      → All P (with_entry at there xs) → All P (with_entry at (or_else there (Some content)) xs)
+      → All P (with_entry at there xs) → All P (with_entry at (filled_in there content) xs)
   all_one at (Some c) xs new h = h
   all_one at None xs new h = All-cons P (at.0, content) xs new h
 
@@ -45,7 +47,7 @@ module _ (P : ℕ × Content → Type 0) (block : BlockNo) (content : Content) w
       go : (All P (held_of later) → All P (held_of (filled later block content))) → (t : Bool)
           → nat_eq entry.block.0 block.0 ≡ t
           → All P (held_of (if t
-          then record { block = entry.block; content = or_else entry.content (Some content) } ∷ later
+          then record { block = entry.block; content = filled_in entry.content content } ∷ later
           else entry ∷ filled later block content))
       go rest true e =
           all_one entry.block entry.content (held_of later)
@@ -58,7 +60,7 @@ module _ (P : ℕ × Content → Type 0) (block : BlockNo) (content : Content) w
 module _ (number : ℕ) (old : Content) (block : BlockNo) (content : Content) where
   in_one : (at : BlockNo) (there : Option Content) (xs : List (ℕ × Content))
       → Contains (with_entry at there xs) (number, old)
-      → Contains (with_entry at (or_else there (Some content)) xs) (number, old)
+      → Contains (with_entry at (filled_in there content) xs) (number, old)
   in_one at (Some c) xs h = h
   in_one at None xs h = in_more (at.0, content) (number, old) xs h
 
@@ -70,7 +72,7 @@ module _ (number : ℕ) (old : Content) (block : BlockNo) (content : Content) wh
       go : (Contains (held_of later) (number, old)
           → Contains (held_of (filled later block content)) (number, old)) → (t : Bool)
           → Contains (held_of (if t
-          then record { block = entry.block; content = or_else entry.content (Some content) } ∷ later
+          then record { block = entry.block; content = filled_in entry.content content } ∷ later
           else entry ∷ filled later block content)) (number, old)
       go rest true = in_one entry.block entry.content (held_of later) h
       go rest false =

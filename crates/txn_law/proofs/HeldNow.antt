@@ -8,7 +8,7 @@ use Rattle.objects.specs.declared.mode.Mode.{Mode}
 use Rattle.txn_law.specs.Commit.{IsReadBy}
 use Rattle.txn_law.specs.Core.{CoreState}
 use Rattle.txn_law.specs.CoreWindow.{held_of, IsHomeOf}
-use Rattle.txn_law.specs.Object.{ObjectBytes}
+use Rattle.objects.specs.Object.{ObjectBytes}
 use Rattle.txn_law.specs.Window.{IsAsRead, IsCurrent, now_of, object_at, part}
 use Rattle.txn_law.specs.Wishes.{IsHeld}
 use Rattle.txn_law.proofs.CoreCommits.{found_in}

@@ -10,14 +10,15 @@ use Rattle.wal_law.specs.Log.{Log, installed_place}
 use Rattle.txn_law.specs.Core.{CoreState, past, installed, ended}
 use Rattle.txn_law.specs.CoreWindow.{KeepsReads}
 use Rattle.txn_law.specs.Fetch.{Fetch}
-use Rattle.txn_law.specs.Fetched.{filled, fetched, fetch_failed}
+use Rattle.txn_law.specs.Fetched.{fetched, fetch_failed}
+use Rattle.objects.specs.Present.{filled}
 use Rattle.txn_law.specs.Holds.{for_reading, for_fetching, for_writing}
 use Rattle.txn_law.specs.Holds.{is_taken, is_hold_of, hold_of, is_read, joined, with_hold, released}
-use Rattle.txn_law.specs.Present.{present_of, content_in}
+use Rattle.objects.specs.Present.{present_of, content_in}
 use Rattle.txn_law.specs.Lists.{taken, IsHeldExactly, IsFetchedExactly, claimed}
 use Rattle.txn_law.specs.declared.hold.Hold.{Hold}
 use Rattle.txn_law.proofs.Claims.{found_by, all_four}
-use Rattle.txn_law.proofs.Entries.{same_block, filled_content}
+use Rattle.objects.proofs.Entries.{same_block, filled_content}
 use Rattle.txn_law.proofs.TakenBy.{taken_with, taken_released}
 use Rattle.txn_law.proofs.Tidied.{block_stays, taken_one, taken_stays, failed_stays}
 

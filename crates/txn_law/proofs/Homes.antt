@@ -6,6 +6,7 @@ use Rattle.std.specs.Prelude.{Contains, nat_le}
 use Rattle.std.proofs.lemmas.Bool.{eqb-true, eq-eqb}
 use Rattle.std.proofs.lemmas.List.Elements.{All-head, All-tail, All-take, All-contains}
 use Rattle.limits.specs.declared.TheConstants.{BLOCK_BYTES}
+use Rattle.objects.specs.Present.{filled_in}
 use Rattle.disk.specs.Device.{Content, Device, current, newest as newest_content}
 use Rattle.disk.specs.Crash.{Image}
 use Rattle.disk.specs.declared.block.BlockNo.{BlockNo}
@@ -18,17 +19,19 @@ use Rattle.wal_law.specs.Overlay.{content_or}
 use Rattle.txn_law.specs.Commit.{Planned, IsOwn, IsCommitted, with_record, committed}
 use Rattle.txn_law.specs.Core.{CoreState}
 use Rattle.txn_law.specs.CoreWindow.{with_entry, held_of, IsCoreWindow, AreBlocks, IsHomeOf}
-use Rattle.txn_law.specs.Fetched.{filled, fetched}
+use Rattle.txn_law.specs.Fetched.{fetched}
+use Rattle.objects.specs.Present.{filled}
 use Rattle.txn_law.specs.Group.{is_among, blocks_of, IsLaid}
-use Rattle.txn_law.specs.Present.{present_of, is_pending}
+use Rattle.objects.specs.Present.{present_of, is_pending}
 use Rattle.wal_law.specs.Grows.{IsWholeChange}
 use Rattle.txn_law.specs.HomeRead.{IsReadable, HasContents}
-use Rattle.txn_law.specs.Tidy.{IsOnce, IsUnlogged, IsPlaced, AreTidy}
+use Rattle.txn_law.specs.Tidy.{IsUnlogged, IsPlaced, AreTidy}
+use Rattle.objects.specs.Present.{IsOnce}
 use Rattle.txn_law.specs.Window.{now_of, with_objects}
-use Rattle.txn_law.specs.declared.present.Present.{Present}
+use Rattle.objects.specs.declared.present.Present.{Present}
 use Rattle.txn_law.proofs.Claims.{found_by, whole_writes}
 use Rattle.txn_law.proofs.CoreCommits.{core_committed, core_now}
-use Rattle.txn_law.proofs.Entries.{is_of, same_block}
+use Rattle.objects.proofs.Entries.{is_of, same_block}
 use Rattle.txn_law.proofs.Fetches.{core_fetched}
 use Rattle.txn_law.proofs.HomeReads.{read_home}
 use Rattle.txn_law.proofs.Laid.{among_after}
@@ -136,13 +139,13 @@ not_filled : (xs : List Present) (block : BlockNo) (content : Content)
 not_filled [] block content e = refl
 not_filled (x ∷ xs) block content e = go (not_filled xs block content) (nat_eq x.block.0 block.0) e
   where
-    some : (o : Option Content) → is_none o ≡ false → or_else o (Some content) ≡ o
+    some : (o : Option Content) → is_none o ≡ false → filled_in o content ≡ o
     some (Some c) e = refl
     some None e = absurd (cc)
 
     go : (is_pending (present_of xs block) ≡ false → filled xs block content ≡ xs) → (t : Bool)
         → is_pending (cond t (Some x) (present_of xs block)) ≡ false
-        → (if t then record { block = x.block; content = or_else x.content (Some content) } ∷ xs
+        → (if t then record { block = x.block; content = filled_in x.content content } ∷ xs
         else x ∷ filled xs block content) ≡ x ∷ xs
     go rest true e = ap (λ (o : Option Content). record { block = x.block; content = o } ∷ xs)
         (some x.content e)

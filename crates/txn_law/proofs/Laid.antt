@@ -16,11 +16,11 @@ use Rattle.wal_law.specs.Overlay.{content_or}
 use Rattle.wal_law.specs.Effects.{newest_in}
 use Rattle.objects.specs.Spliced.{spliced}
 use Rattle.txn_law.specs.Group.{is_among, blocks_after, laid, base_in, IsLaid}
-use Rattle.txn_law.specs.Object.{ObjectBytes}
-use Rattle.txn_law.specs.Present.{present_of, content_in}
+use Rattle.objects.specs.Object.{ObjectBytes}
+use Rattle.objects.specs.Present.{present_of, content_in}
 use Rattle.txn_law.specs.Records.{lies_in}
 use Rattle.txn_law.specs.Window.{Footprint, with_object, with_objects}
-use Rattle.txn_law.specs.declared.present.Present.{Present}
+use Rattle.objects.specs.declared.present.Present.{Present}
 use Rattle.txn_law.specs.Steps.{IsBrought, IsCovered, IsWholeIn, IsMade}
 
 eqb-sym : (a b : ℕ) → nat_eq a b ≡ nat_eq b a

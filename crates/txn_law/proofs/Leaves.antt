@@ -11,18 +11,22 @@ use Rattle.wal_law.specs.Log.{Log, newest, or_else, installed_place}
 use Rattle.txn_law.specs.Commit.{Planned, with_record, refreshed_content, refreshed, committed}
 use Rattle.txn_law.specs.Core.{CoreState, ended, past, installed}
 use Rattle.txn_law.specs.Fetch.{Fetch}
-use Rattle.txn_law.specs.Fetched.{filled, fetched, fetch_failed}
+use Rattle.txn_law.specs.Fetched.{fetched, fetch_failed}
+use Rattle.objects.specs.Present.{filled}
 use Rattle.txn_law.specs.Holds.{for_reading, for_fetching, for_writing, is_hold_of, hold_of, joined, with_hold}
 use Rattle.txn_law.specs.Holds.{is_read, is_written, released}
 use Rattle.txn_law.specs.Leaves.{Leaves, taken_by, is_fetching, in_memory, but_by}
 use Rattle.txn_law.specs.Leaves.{without_fetch, with_content}
-use Rattle.txn_law.specs.Lists.{with_block, claimed, IsHeldExactly, IsFetchedExactly}
-use Rattle.txn_law.specs.Present.{present_of, content_in, is_pending}
-use Rattle.txn_law.specs.Tidy.{IsOnce, AreTidy}
+use Rattle.txn_law.specs.Lists.{claimed, IsHeldExactly, IsFetchedExactly}
+use Rattle.objects.specs.Present.{with_block}
+use Rattle.objects.specs.Present.{present_of, content_in, is_pending}
+use Rattle.txn_law.specs.Tidy.{AreTidy}
+use Rattle.objects.specs.Present.{IsOnce}
 use Rattle.txn_law.specs.Wishes.{IsOpen, IsHeld, IsFetched, IsTaken}
 use Rattle.txn_law.specs.declared.hold.Hold.{Hold}
-use Rattle.txn_law.specs.declared.present.Present.{Present}
-use Rattle.txn_law.proofs.Entries.{same_block, once_filled, once_refreshed}
+use Rattle.objects.specs.declared.present.Present.{Present}
+use Rattle.txn_law.proofs.Entries.{once_refreshed}
+use Rattle.objects.proofs.Entries.{same_block, once_filled}
 use Rattle.txn_law.proofs.Memory.{swept_fetches, swept_comes, swept_stays, other_block, own_block, new_block}
 use Rattle.txn_law.proofs.Memory.{filled_memory, filled_fetches, failed_memory, failed_fetches}
 use Rattle.txn_law.proofs.Memory.{refreshed_memory, refreshed_fetches}

@@ -10,7 +10,6 @@ pub mod CoreCommits
 pub mod Claims
 pub mod Wishes
 pub mod Fetches
-pub mod Found
 pub mod Entries
 pub mod Tidied
 pub mod TidyCommit

@@ -5,22 +5,24 @@ use Rattle.std.proofs.Common.{◌++◌, Option, Some, None, is_none, option_map,
 use Rattle.std.specs.Prelude.{is_some}
 use Rattle.std.specs.List.{filter}
 use Rattle.std.proofs.lemmas.Bool.{eqb-true, eq-eqb}
+use Rattle.objects.specs.Present.{filled_in}
 use Rattle.disk.specs.Device.{Content}
 use Rattle.disk.specs.declared.block.BlockNo.{BlockNo}
-use Rattle.wal_law.specs.Log.{Log, newest, or_else}
+use Rattle.wal_law.specs.Log.{Log, newest}
 use Rattle.txn_law.specs.Commit.{refreshed_content, refreshed_entry, refreshed}
-use Rattle.txn_law.specs.Fetched.{filled, without_pending}
+use Rattle.objects.specs.Present.{filled, without_pending}
 use Rattle.txn_law.specs.Holds.{is_taken}
-use Rattle.txn_law.specs.Lists.{with_block}
-use Rattle.txn_law.specs.Present.{present_of, content_in, is_pending}
+use Rattle.objects.specs.Present.{with_block}
+use Rattle.objects.specs.Present.{present_of, content_in, is_pending}
 use Rattle.txn_law.specs.Records.{is_kept, swept}
-use Rattle.txn_law.specs.Tidy.{IsOnce}
+use Rattle.objects.specs.Present.{IsOnce}
 use Rattle.txn_law.specs.Window.{Footprint}
 use Rattle.txn_law.specs.declared.hold.Hold.{Hold}
-use Rattle.txn_law.specs.declared.present.Present.{Present}
+use Rattle.objects.specs.declared.present.Present.{Present}
 use Rattle.txn_law.proofs.Claims.{found_by}
-use Rattle.txn_law.proofs.Entries.{is_of, same_block, filled_one, present_of-refreshed}
-use Rattle.txn_law.proofs.Found.{find_none, find_kept, find_push_some, find_push_none}
+use Rattle.txn_law.proofs.Entries.{present_of-refreshed}
+use Rattle.objects.proofs.Entries.{is_of, same_block, filled_one}
+use Rattle.objects.proofs.Found.{find_none, find_kept, find_push_some, find_push_none}
 use Rattle.txn_law.proofs.Swept.{or-true}
 
 -- an entry, where it passes the test
@@ -199,7 +201,7 @@ filled_memory xs block content at = ap content_in (present_of-filled xs block co
     own None = refl
     own (Some x) = by x.content
       where
-        by : (c : Option Content) → or_else c (Some content) ≡ (if is_none c then Some content else c)
+        by : (c : Option Content) → filled_in c content ≡ (if is_none c then Some content else c)
         by None = refl
         by (Some d) = refl
 
@@ -227,7 +229,7 @@ filled_fetches xs block content at = ap is_pending (present_of-filled xs block c
     own None = refl
     own (Some x) = by x.content
       where
-        by : (c : Option Content) → is_none (or_else c (Some content)) ≡ false
+        by : (c : Option Content) → is_none (filled_in c content) ≡ false
         by None = refl
         by (Some d) = refl
 

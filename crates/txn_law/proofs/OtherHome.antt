@@ -15,7 +15,7 @@ use Rattle.wal_law.specs.Law.{with_changes, with_home}
 use Rattle.wal_law.specs.Log.{Log, newest, newest_of, or_else}
 use Rattle.wal_law.specs.Overlay.{content_or}
 use Rattle.objects.specs.Spliced.{spliced}
-use Rattle.txn_law.specs.Object.{ObjectBytes}
+use Rattle.objects.specs.Object.{ObjectBytes}
 use Rattle.txn_law.specs.Window.{Footprint, Follow, IsAsRead, part, with_object, with_objects, after_commits}
 use Rattle.txn_law.specs.Window.{opening, now_of, at_first, commits_among, AreInLog, IsInLog}
 use Rattle.txn_law.specs.Window.{IsCurrent, IsWindowOver}

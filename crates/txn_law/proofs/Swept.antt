@@ -13,11 +13,11 @@ use Rattle.wal_law.specs.Installer.{with_inst_back}
 use Rattle.wal_law.specs.Log.{Log, IsLawful, installed_place}
 use Rattle.txn_law.specs.Core.{CoreState, past, installed}
 use Rattle.txn_law.specs.Holds.{is_taken}
-use Rattle.txn_law.specs.Object.{ObjectBytes}
+use Rattle.objects.specs.Object.{ObjectBytes}
 use Rattle.txn_law.specs.Records.{lies_in, is_kept, swept}
 use Rattle.txn_law.specs.Window.{Footprint}
 use Rattle.txn_law.specs.declared.hold.Hold.{Hold}
-use Rattle.txn_law.specs.declared.present.Present.{Present}
+use Rattle.objects.specs.declared.present.Present.{Present}
 use Rattle.txn_law.specs.CoreWindow.{with_entry, held_of, IsCoreWindow}
 use Rattle.txn_law.specs.Window.{now_of, IsPinned, ArePinned, IsCurrent, IsWindowOver}
 use Rattle.txn_law.proofs.Installed.{window_inst_back}

@@ -7,7 +7,7 @@ use Rattle.objects.specs.declared.addr.Addr.{Addr}
 use Rattle.txn_law.specs.Holds.{is_hold_of, hold_of, without_hold, joined, with_hold, released}
 use Rattle.txn_law.specs.declared.hold.Hold.{Hold}
 use Rattle.txn_law.proofs.Claims.{all_four}
-use Rattle.txn_law.proofs.Found.{find_push_none, find_push_other, find_none_kept, find_through}
+use Rattle.objects.proofs.Found.{find_push_none, find_push_other, find_none_kept, find_through}
 
 find_same : {X : Type 0} (p q : X → Bool) (xs : List X) → ((x : X) → p x ≡ q x) → find p xs ≡ find q xs
 find_same p q [] same = refl

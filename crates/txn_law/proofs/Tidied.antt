@@ -8,6 +8,7 @@ use Rattle.std.proofs.lemmas.Bool.{eqb-true, eq-eqb}
 use Rattle.std.proofs.lemmas.List.Elements.{All-nil, All-cons, All-head, All-tail, All-push, All-weaker}
 use Rattle.std.proofs.lemmas.List.Elements.{All-contains, All-contains_itself, All-filter}
 use Rattle.limits.specs.declared.TheConstants.{BLOCK_BYTES}
+use Rattle.objects.specs.Present.{filled_in}
 use Rattle.disk.specs.Device.{Content}
 use Rattle.disk.specs.declared.block.BlockNo.{BlockNo}
 use Rattle.objects.specs.Addr.{Overlap}
@@ -15,28 +16,31 @@ use Rattle.objects.specs.Mode.{Excludes, raised}
 use Rattle.objects.specs.declared.addr.Addr.{Addr}
 use Rattle.objects.specs.declared.mode.Mode.{Mode}
 use Rattle.objects.specs.declared.mode.Mode.TheVariants as modes
-use Rattle.wal_law.specs.Log.{Log, IsHomeOn, newest, newest_of, or_else, installed_place}
+use Rattle.wal_law.specs.Log.{Log, IsHomeOn, newest, newest_of, installed_place}
 use Rattle.txn_law.specs.Core.{CoreState, IsOut, without, ended, past, installed}
 use Rattle.txn_law.specs.Fetch.{Fetch}
-use Rattle.txn_law.specs.Fetched.{filled, fetched, fetch_failed, without_pending}
+use Rattle.txn_law.specs.Fetched.{fetched, fetch_failed}
+use Rattle.objects.specs.Present.{filled, without_pending}
 use Rattle.txn_law.specs.Holds.{KeepsOff, IsHoldOf, IsFree, for_reading, for_fetching, for_writing, is_taken}
 use Rattle.txn_law.specs.Holds.{is_hold_of, hold_of, without_hold, joined, with_hold, released}
-use Rattle.txn_law.specs.Present.{present_of, content_in, is_pending}
+use Rattle.objects.specs.Present.{present_of, content_in, is_pending}
 use Rattle.txn_law.specs.Records.{is_kept, swept}
-use Rattle.txn_law.specs.Tidy.{AreBeside, AreApart, IsReadHere, IsClaimedWhole, IsOnce, IsUnlogged, IsOfOne}
+use Rattle.txn_law.specs.Tidy.{AreBeside, AreApart, IsReadHere, IsClaimedWhole, IsUnlogged, IsOfOne}
+use Rattle.objects.specs.Present.{IsOnce}
 use Rattle.txn_law.specs.Tidy.{IsPlaced}
 use Rattle.wal_law.specs.Grows.{IsWholeChange}
 use Rattle.txn_law.specs.Tidy.{AreTidy}
 use Rattle.txn_law.specs.Window.{Footprint}
-use Rattle.txn_law.specs.Lists.{with_block, IsHeldExactly, IsFetchedExactly, claimed}
+use Rattle.txn_law.specs.Lists.{IsHeldExactly, IsFetchedExactly, claimed}
+use Rattle.objects.specs.Present.{with_block}
 use Rattle.txn_law.specs.Wishes.{IsOpen, IsWhole}
 use Rattle.txn_law.specs.declared.hold.Hold.{Hold}
-use Rattle.txn_law.specs.declared.present.Present.{Present}
+use Rattle.objects.specs.declared.present.Present.{Present}
 use Rattle.txn_law.proofs.Again.{same_addr, one_or_apart}
 use Rattle.txn_law.proofs.Claims.{found_by, all_four}
-use Rattle.txn_law.proofs.Entries.{is_of, same_block, once_filter, once_push, filled_content, once_filled}
-use Rattle.txn_law.proofs.Entries.{each_filled}
-use Rattle.txn_law.proofs.Found.{find_kept, find_push_some, find_push_none}
+use Rattle.objects.proofs.Entries.{is_of, same_block, once_filter, once_push, filled_content, once_filled}
+use Rattle.objects.proofs.Entries.{each_filled}
+use Rattle.objects.proofs.Found.{find_kept, find_push_some, find_push_none}
 use Rattle.txn_law.proofs.Memory.{swept_stays}
 use Rattle.txn_law.proofs.Swept.{or-true, in_cons}
 
@@ -439,7 +443,7 @@ tidy_fetched old block content tidy = record {
   changes = tidy.changes;
 }
   where
-    some : (o : Option Content) → or_else o (Some content) ≡ None → ⊥
+    some : (o : Option Content) → filled_in o content ≡ None → ⊥
     some (Some c) e = absurd (cc)
     some None e = absurd (cc)
 

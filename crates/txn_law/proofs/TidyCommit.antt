@@ -19,13 +19,15 @@ use Rattle.txn_law.specs.Commit.{committed}
 use Rattle.txn_law.specs.Core.{CoreState, IsOut, ended}
 use Rattle.txn_law.specs.Group.{is_among, blocks_of}
 use Rattle.txn_law.specs.Holds.{is_taken, released}
-use Rattle.txn_law.specs.Object.{ObjectBytes}
-use Rattle.txn_law.specs.Present.{present_of, content_in, is_pending}
+use Rattle.objects.specs.Object.{ObjectBytes}
+use Rattle.objects.specs.Present.{present_of, content_in, is_pending}
 use Rattle.txn_law.specs.Records.{lies_in, is_kept}
 use Rattle.wal_law.specs.Grows.{IsWholeChange}
-use Rattle.txn_law.specs.Tidy.{IsReadHere, IsClaimedWhole, IsOnce, IsUnlogged, IsPlaced, AreTidy}
-use Rattle.txn_law.specs.declared.present.Present.{Present}
-use Rattle.txn_law.proofs.Entries.{same_block, once_filter, once_refreshed, present_of-refreshed}
+use Rattle.txn_law.specs.Tidy.{IsReadHere, IsClaimedWhole, IsUnlogged, IsPlaced, AreTidy}
+use Rattle.objects.specs.Present.{IsOnce}
+use Rattle.objects.specs.declared.present.Present.{Present}
+use Rattle.txn_law.proofs.Entries.{once_refreshed, present_of-refreshed}
+use Rattle.objects.proofs.Entries.{same_block, once_filter}
 use Rattle.txn_law.proofs.Laid.{among_after, among_group}
 use Rattle.txn_law.proofs.Tidied.{apart_filter, read_swept, owned_end}
 
@@ -46,7 +48,7 @@ once_is (x ∷ xs) h =
     behind y e false same = e
 
 -- what is written lies in no block whose fetch is pending
-none_lies : (present : List Present) (written : List ObjectBytes) (block : BlockNo)
+pub none_lies : (present : List Present) (written : List ObjectBytes) (block : BlockNo)
     → All (λ object. is_pending (present_of present object.addr.block) ≡ false) written
     → is_pending (present_of present block) ≡ true → lies_in written block ≡ false
 none_lies present [] block loaded waits = refl
@@ -64,7 +66,7 @@ none_lies present (o ∷ os) block loaded waits =
         ∙ All-head (λ object. is_pending (present_of present object.addr.block) ≡ false) o os loaded in cc)
     go rest false same = rest
 
-nothing : (o : Option Content) → is_some o ≡ false → o ≡ None
+pub nothing : (o : Option Content) → is_some o ≡ false → o ≡ None
 nothing None e = refl
 nothing (Some c) e = absurd (cc)
 

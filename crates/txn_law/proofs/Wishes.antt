@@ -11,13 +11,14 @@ use Rattle.objects.specs.declared.addr.Addr.{Addr}
 use Rattle.objects.specs.declared.mode.Mode.{Mode}
 use Rattle.wal_law.specs.Log.{newest, or_else}
 use Rattle.wal_law.specs.Overlay.{content_or}
-use Rattle.txn_law.specs.Lists.{with_block, IsHeldExactly, IsFetchedExactly, claimed}
+use Rattle.txn_law.specs.Lists.{IsHeldExactly, IsFetchedExactly, claimed}
+use Rattle.objects.specs.Present.{with_block}
 use Rattle.txn_law.specs.Wishes.{current}
 use Rattle.txn_law.specs.Core.{CoreState, ended}
 use Rattle.txn_law.specs.Fetch.{Fetch}
 use Rattle.txn_law.specs.Holds.{released}
-use Rattle.txn_law.specs.Present.{present_of, content_in}
-use Rattle.txn_law.specs.declared.present.Present.{Present}
+use Rattle.objects.specs.Present.{present_of, content_in}
+use Rattle.objects.specs.declared.present.Present.{Present}
 use Rattle.txn_law.specs.CoreWindow.{with_entry, held_of, IsCoreWindow}
 use Rattle.txn_law.specs.Window.{now_of, IsPinned, ArePinned, IsCurrent, IsWindowOver}
 use Rattle.txn_law.proofs.CoreCommits.{found_in}

@@ -12,12 +12,12 @@ use Rattle.wal_law.specs.Overlay.{content_or}
 use Rattle.txn_law.specs.Core.{CoreState, IsOut, ended}
 use Rattle.txn_law.specs.Group.{blocks_of, IsLaid}
 use Rattle.txn_law.specs.Holds.{released, hold_of, is_read, is_written}
-use Rattle.txn_law.specs.Object.{ObjectBytes}
-use Rattle.txn_law.specs.Present.{present_of, content_in, is_pending}
+use Rattle.objects.specs.Object.{ObjectBytes}
+use Rattle.objects.specs.Present.{present_of, content_in, is_pending}
 use Rattle.txn_law.specs.Records.{lies_in, swept}
 use Rattle.txn_law.specs.Steps.{IsWholeIn}
 use Rattle.txn_law.specs.Window.{Footprint, now_of, part}
-use Rattle.txn_law.specs.declared.present.Present.{Present}
+use Rattle.objects.specs.declared.present.Present.{Present}
 
 -- what a change was planned for, what it read and what it writes
 pub record Planned : Type 0 where

@@ -6,9 +6,9 @@ use Rattle.disk.specs.Crash.{Image}
 use Rattle.disk.specs.declared.block.BlockNo.{BlockNo}
 use Rattle.txn_law.specs.Commit.{IsReadBy}
 use Rattle.txn_law.specs.Core.{CoreState}
-use Rattle.txn_law.specs.Object.{ObjectBytes}
-use Rattle.txn_law.specs.Present.{present_of, is_pending}
-use Rattle.txn_law.specs.declared.present.Present.{Present}
+use Rattle.objects.specs.Object.{ObjectBytes}
+use Rattle.objects.specs.Present.{present_of, is_pending}
+use Rattle.objects.specs.declared.present.Present.{Present}
 use Rattle.txn_law.specs.Window.{IsWindowOver, now_of, with_objects}
 
 -- a block in memory, where its content is there

@@ -7,9 +7,9 @@ use Rattle.std.specs.List.{list_any}
 use Rattle.objects.specs.Spliced.{spliced}
 use Rattle.disk.specs.declared.block.BlockNo.{BlockNo}
 use Rattle.wal_law.specs.Log.{Log, newest}
-use Rattle.txn_law.specs.Object.{ObjectBytes}
-use Rattle.txn_law.specs.Present.{present_of, content_in}
-use Rattle.txn_law.specs.declared.present.Present.{Present}
+use Rattle.objects.specs.Object.{ObjectBytes}
+use Rattle.objects.specs.Present.{present_of, content_in}
+use Rattle.objects.specs.declared.present.Present.{Present}
 
 -- whether the block is among these
 abbrev pub is_among : BlockNo → List BlockNo → Bool

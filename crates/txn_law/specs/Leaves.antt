@@ -7,7 +7,7 @@ use Rattle.disk.specs.declared.block.BlockNo.{BlockNo}
 use Rattle.objects.specs.declared.addr.Addr.{Addr}
 use Rattle.txn_law.specs.Core.{CoreState}
 use Rattle.txn_law.specs.Holds.{hold_of, is_hold_of, is_taken, joined}
-use Rattle.txn_law.specs.Present.{present_of, content_in, is_pending}
+use Rattle.objects.specs.Present.{present_of, content_in, is_pending}
 use Rattle.txn_law.specs.Records.{is_kept}
 use Rattle.txn_law.specs.declared.hold.Hold.{Hold}
 

@@ -1,7 +1,5 @@
-pub mod Object
 pub mod Group
 pub mod Holds
-pub mod Present
 pub mod Records
 pub mod Window
 pub mod Core
@@ -18,3 +16,6 @@ pub mod HomeRead
 pub mod Tidy
 pub mod CoreLaw
 pub mod Others
+-- What the definitions here stand on, for the crates above.
+pub use Rattle.objects.specs.Object
+pub use Rattle.objects.specs.Present

@@ -1,23 +1,16 @@
 -- Exactly what a wish that is met makes of the lists of a core.
-use Rattle.std.specs.Prelude.{◌≡◌, ℕ, if◌then◌else◌, Option, Some, None, is_some, List, [], ◌∷◌, ◌++◌}
+use Rattle.std.specs.Prelude.{◌≡◌, ℕ, Option, Some, None, List}
 use Rattle.disk.specs.Device.{Content}
-use Rattle.disk.specs.declared.block.BlockNo.{BlockNo}
 use Rattle.objects.specs.declared.addr.Addr.{Addr}
 use Rattle.objects.specs.declared.mode.Mode.{Mode}
 use Rattle.wal_law.specs.Log.{newest}
 use Rattle.txn_law.specs.Core.{CoreState}
 use Rattle.txn_law.specs.Fetch.{Fetch}
 use Rattle.txn_law.specs.Holds.{for_reading, for_fetching, for_writing, with_hold}
-use Rattle.txn_law.specs.Present.{present_of}
+use Rattle.objects.specs.Present.{present_of, with_block}
 use Rattle.txn_law.specs.Window.{part}
 use Rattle.txn_law.specs.Wishes.{current}
 use Rattle.txn_law.specs.declared.hold.Hold.{Hold}
-use Rattle.txn_law.specs.declared.present.Present.{Present}
-
--- the blocks in memory once a block is there too
-abbrev pub with_block : List Present → BlockNo → Option Content → List Present
-with_block present block content = if is_some (present_of present block) then present else present
-    ++ record { block = block; content = content } ∷ []
 
 -- the core once an address is taken, and its block is in memory or is being fetched
 abbrev pub taken : CoreState → Hold → Option Content → CoreState

@@ -3,10 +3,10 @@ use Rattle.std.specs.Prelude.{Bool, ◌||◌, List, is_none, nat_eq}
 use Rattle.std.specs.List.{list_any, filter}
 use Rattle.disk.specs.declared.block.BlockNo.{BlockNo}
 use Rattle.txn_law.specs.Holds.{is_taken}
-use Rattle.txn_law.specs.Object.{ObjectBytes}
+use Rattle.objects.specs.Object.{ObjectBytes}
 use Rattle.txn_law.specs.Window.{Footprint}
 use Rattle.txn_law.specs.declared.hold.Hold.{Hold}
-use Rattle.txn_law.specs.declared.present.Present.{Present}
+use Rattle.objects.specs.declared.present.Present.{Present}
 
 -- whether one of the objects lies in the block
 abbrev pub lies_in : List ObjectBytes → BlockNo → Bool

@@ -13,10 +13,10 @@ use Rattle.wal_law.specs.Log.{blocks_of as group_blocks}
 use Rattle.wal_law.specs.Overlay.{content_or}
 use Rattle.wal_law.specs.Effects.{newest_in}
 use Rattle.txn_law.specs.Group.{blocks_of, base_in, IsLaid}
-use Rattle.txn_law.specs.Object.{ObjectBytes}
-use Rattle.txn_law.specs.Present.{present_of, content_in}
+use Rattle.objects.specs.Object.{ObjectBytes}
+use Rattle.objects.specs.Present.{present_of, content_in}
 use Rattle.txn_law.specs.Records.{lies_in}
-use Rattle.txn_law.specs.declared.present.Present.{Present}
+use Rattle.objects.specs.declared.present.Present.{Present}
 use Rattle.txn_law.specs.Window.{Footprint, IsAsRead, with_objects}
 
 -- the object's block is in the group

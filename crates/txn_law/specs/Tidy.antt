@@ -7,9 +7,9 @@ use Rattle.wal_law.specs.Grows.{IsWholeChange}
 use Rattle.wal_law.specs.Log.{Log, IsHomeOn, newest}
 use Rattle.txn_law.specs.Core.{CoreState, IsOut}
 use Rattle.txn_law.specs.Holds.{KeepsOff}
-use Rattle.txn_law.specs.Present.{present_of, content_in}
+use Rattle.objects.specs.Present.{present_of, content_in, IsOnce}
 use Rattle.txn_law.specs.declared.hold.Hold.{Hold}
-use Rattle.txn_law.specs.declared.present.Present.{Present}
+use Rattle.objects.specs.declared.present.Present.{Present}
 
 -- where a byte lies in both, the one doesn't keep off the other
 abbrev pub AreBeside : Hold → Hold → Type 0
@@ -28,11 +28,6 @@ IsReadHere present hold = hold.is_read ≡ true → (content : Content)
 -- what is claimed is a whole block
 abbrev pub IsClaimedWhole : Hold → Type 0
 IsClaimedWhole hold = hold.is_claimed ≡ true → (hold.addr.offset ≡ 0) × (hold.addr.len ≡ BLOCK_BYTES)
-
--- a block has one entry
-abbrev pub IsOnce : List Present → Type 0
-IsOnce [] = Unit {0}
-IsOnce (entry ∷ later) = (present_of later entry.block ≡ None) × IsOnce later
 
 -- the log doesn't have a block whose fetch is pending
 abbrev pub IsUnlogged : Log → Present → Type 0

@@ -11,7 +11,7 @@ use Rattle.wal_law.specs.declared.change.LogChange.{LogChange}
 use Rattle.wal_law.specs.Grows.{recovered}
 use Rattle.wal_law.specs.Law.{with_changes}
 use Rattle.wal_law.specs.Log.{Log, installed_place, newest_of, place_before}
-use Rattle.txn_law.specs.Object.{ObjectBytes}
+use Rattle.objects.specs.Object.{ObjectBytes}
 
 -- what a commit read, and what it wrote
 pub record Footprint : Type 0 where

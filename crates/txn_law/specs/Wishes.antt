@@ -11,7 +11,7 @@ use Rattle.txn_law.specs.Core.{CoreState, IsOut}
 use Rattle.txn_law.specs.Fetch.{Fetch}
 use Rattle.txn_law.specs.Holds.{IsFree, for_reading, for_fetching, for_writing}
 use Rattle.txn_law.specs.Leaves.{Leaves, taken_by, is_fetching, in_memory, with_taken, with_fetch, with_content}
-use Rattle.txn_law.specs.Present.{present_of, content_in, is_pending}
+use Rattle.objects.specs.Present.{present_of, content_in, is_pending}
 use Rattle.txn_law.specs.Window.{part}
 
 -- the transaction is out, and the block is one that a change may write

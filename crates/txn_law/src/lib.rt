@@ -3,7 +3,6 @@
 #![tactic(auto)]
 
 mod hold;
-mod present;
 mod reads;
 mod window;
 
@@ -30,14 +29,14 @@ ghost use Rattle.objects.specs.declared.addr.Addr.{Addr};
 ghost use Rattle.objects.specs.declared.mode.Mode.{Mode};
 ghost use Rattle.txn_law.specs.CoreWindow.{IsCoreWindow, IsHomeOf, KeepsReads, held_of};
 ghost use Rattle.txn_law.specs.Tidy.{AreTidy};
-ghost use Rattle.txn_law.specs.Object.{ObjectBytes};
-ghost use Rattle.txn_law.specs.Present.{present_of, content_in};
+ghost use Rattle.objects.specs.Object.{ObjectBytes};
+ghost use Rattle.objects.specs.Present.{present_of, content_in};
 ghost use Rattle.txn_law.specs.Fetched.{fetched, fetch_failed};
 ghost use Rattle.txn_law.specs.Leaves.{Leaves, taken_by, is_fetching, in_memory};
 ghost use Rattle.txn_law.specs.Others.{IsApartFrom, IsKeptOff, KeepsTaken};
 ghost use Rattle.txn_law.specs.Wishes.{IsBusy, IsHeld, IsOpen};
 ghost use Rattle.txn_law.specs.Commit.{Planned, IsCommitted, committed, IsReadBy, IsWrittenBy};
-ghost use Rattle.txn_law.specs.declared.present.Present.{Present};
+ghost use Rattle.objects.specs.declared.present.Present.{Present};
 ghost use Rattle.wal_law.specs.Room.{with_group};
 ghost use Rattle.txn_law.specs.Window.{Footprint, with_objects, after_commits};
 ghost use Rattle.txn_law.specs.Window.{IsWindowOver, IsAsRead, IsCurrent, ArePinned, now_of, object_at};
@@ -46,7 +45,6 @@ ghost use Rattle.txn_law.specs.Absorb.{fresh, with_absorbed};
 ghost use Rattle.txn_law.specs.Steps.{IsBrought, IsMade, with_commit, IsWholeIn};
 
 pub use hold::Hold;
-pub use present::Present;
 pub use reads::{
     a_read_brings_what_is_current, a_read_brings_what_is_home, steps_keep_what_may_be_read,
     the_installer_keeps_what_may_be_read, the_logger_keeps_what_may_be_read,

@@ -3,7 +3,7 @@ ghost use Rattle.std.specs.Prelude.{◌≡◌, ◌≢◌, ◌+◌, ℕ, List, []
 ghost use Rattle.objects.specs.declared.addr.Addr.{Addr};
 ghost use Rattle.wal_law.specs.Log.{Log, installed_place};
 ghost use Rattle.disk.specs.Device.{Content};
-ghost use Rattle.txn_law.specs.Object.{ObjectBytes};
+ghost use Rattle.objects.specs.Object.{ObjectBytes};
 ghost use Rattle.txn_law.specs.Window.{Footprint, IsLegalWindow};
 
 /// Two commits in a row that read one object differently, the first without a write, are in no legal window.

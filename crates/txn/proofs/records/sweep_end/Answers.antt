@@ -12,7 +12,7 @@ loop-hold-init g c = (
   refl,
   ahead_first c.args.transaction c.args.holds.now
       (λ block. list_any (λ kept. lies_in (g.C.Change.planned kept.change).read block)
-      c.args.records.now.items) c.args.present.now.items c.requires,
+      c.args.records.now.items) c.args.present.now c.requires,
 )
 
 pub loop-hold-preserved : goal.loop-hold-preserved
@@ -28,25 +28,25 @@ loop-hold-preserved g c =
     ∙ ap (λ (h : Hold). h ∷ drop (i + 1) items) (sym c.hold-item.is)) in (
       step_swept tx holds
           (λ block. list_any (λ kept. lies_in (g.C.Change.planned kept.change).read block)
-          c.args.records.now.items) hold c.loop-hold.present.items c.sweep_hold.new.present.items
+          c.args.records.now.items) hold c.loop-hold.present c.sweep_hold.new.present
           c.sweep_hold.ensures
           ∙ c.loop-hold.invariant.0,
       step_ahead tx holds
           (λ block. list_any (λ kept. lies_in (g.C.Change.planned kept.change).read block)
-          c.args.records.now.items) hold (drop (i + 1) holds) c.loop-hold.present.items
-          c.sweep_hold.new.present.items c.sweep_hold.ensures
+          c.args.records.now.items) hold (drop (i + 1) holds) c.loop-hold.present
+          c.sweep_hold.new.present c.sweep_hold.ensures
           (subst (λ (ahead : List Hold). All (IsAhead tx holds
           (λ block. list_any (λ kept. lies_in (g.C.Change.planned kept.change).read block)
-          c.args.records.now.items) ahead) c.loop-hold.present.items) split c.loop-hold.invariant.1),
+          c.args.records.now.items) ahead) c.loop-hold.present) split c.loop-hold.invariant.1),
     )
 
 pub returns : goal.returns
 returns g c =
     swept_last c.args.transaction c.args.holds.now
     (λ block. list_any (λ kept. lies_in (g.C.Change.planned kept.change).read block) c.args.records.now.items)
-    c.args.present.now.items c.loop-hold.present.items c.loop-hold.invariant.0
+    c.args.present.now c.loop-hold.present c.loop-hold.invariant.0
     (subst (λ (ahead : List Hold). All (IsAhead c.args.transaction c.args.holds.now
     (λ block. list_any (λ kept. lies_in (g.C.Change.planned kept.change).read block)
-    c.args.records.now.items) ahead) c.loop-hold.present.items)
+    c.args.records.now.items) ahead) c.loop-hold.present)
     (subst (λ (xs : List Hold). drop c.loop-hold.hold-index xs ≡ []) c.holds-hold-items.ensures
     (drop_of_length-le c.holds-hold-items.result.now c.loop-hold-test.false)) c.loop-hold.invariant.1)

@@ -9,10 +9,10 @@ abbrev pub invariant-loop-hold : goal.invariant-loop-hold
 invariant-loop-hold g l =
     (filter (stays l.transaction l.holds
     (λ block. list_any (λ kept. lies_in (g.C.Change.planned kept.change).read block) l.records.items))
-    l.present.items
+    l.present
     ≡ filter (stays l.transaction l.holds
     (λ block. list_any (λ kept. lies_in (g.C.Change.planned kept.change).read block) l.records.items))
-    l.initial.present.items)
+    l.initial.present)
     × All (IsAhead l.transaction l.holds
     (λ block. list_any (λ kept. lies_in (g.C.Change.planned kept.change).read block) l.records.items)
-    (drop l.hold-index l.holds)) l.present.items
+    (drop l.hold-index l.holds)) l.present

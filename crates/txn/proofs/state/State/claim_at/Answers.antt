@@ -8,4 +8,4 @@ invariant_of-self g c =
     let core = c.self.inside in
     neat_taking core.log core.holds c.for_writing.result
     (map (λ kept. footprint kept.place.0 (g.C.Change.planned kept.change)) core.records.items)
-    core.present.items c.take.result c.take.new.self c.take.ensures c.self.invariant
+    core.present c.take.result c.take.new.self c.take.ensures c.self.invariant

@@ -8,13 +8,13 @@ use Rattle.txn_law.specs.Holds.{released}
 use Rattle.txn_law.specs.Records.{swept}
 use Rattle.txn_law.specs.Window.{Footprint}
 use Rattle.txn_law.specs.declared.hold.Hold.{Hold}
-use Rattle.txn_law.specs.declared.present.Present.{Present}
+use Rattle.objects.specs.declared.present.Present.{Present}
 use Rattle.txn.proofs.state.State.close.Goals as goal
 
 pub sweep_end-requires : goal.sweep_end-requires
 sweep_end-requires g c =
     needed_of_map (λ kept. footprint kept.place.0 (g.C.Change.planned kept.change)) c.self.inside.holds
-    c.self.inside.records.items c.self.inside.present.items c.self.invariant.needed
+    c.self.inside.records.items c.self.inside.present c.self.invariant.needed
 
 pub invariant_of-self : goal.invariant_of-self
 invariant_of-self g c =
@@ -22,16 +22,17 @@ invariant_of-self g c =
     let tx = c.args.transaction in
     let records : List Footprint =
     map (λ kept. footprint kept.place.0 (g.C.Change.planned kept.change)) core.records.items in
-    let swept_is : c.sweep_end.new.present.items
-    ≡ swept (released core.holds tx) records core.present.items =
+    let swept_is : c.sweep_end.new.present
+    ≡ swept (released core.holds tx) records core.present =
     c.sweep_end.ensures
     ∙ swept_of_map (λ kept. footprint kept.place.0 (g.C.Change.planned kept.change))
-    (released core.holds tx) core.records.items core.present.items in
-    subst (λ (holds : List Hold). IsNeat core.log holds records c.sweep_end.new.present.items)
+    (released core.holds tx) core.records.items core.present in
+    subst (λ (holds : List Hold). IsNeat core.log holds records c.sweep_end.new.present)
     (sym c.release_all.ensures)
     (subst (λ (present : List Present). IsNeat core.log (released core.holds tx) records present)
     (sym swept_is)
-    (neat_swept core.log (released core.holds tx) records core.present.items c.self.invariant.kept))
+    (neat_swept core.log (released core.holds tx) records core.present c.self.invariant.logged
+    c.self.invariant.kept))
 
 pub returns : goal.returns
 returns g c =
@@ -39,20 +40,20 @@ returns g c =
     let tx = c.args.transaction in
     let records : List Footprint =
     map (λ kept. footprint kept.place.0 (g.C.Change.planned kept.change)) core.records.items in
-    let swept_is : c.sweep_end.new.present.items
-    ≡ swept (released core.holds tx) records core.present.items =
+    let swept_is : c.sweep_end.new.present
+    ≡ swept (released core.holds tx) records core.present =
     c.sweep_end.ensures
     ∙ swept_of_map (λ kept. footprint kept.place.0 (g.C.Change.planned kept.change))
-    (released core.holds tx) core.records.items core.present.items in
+    (released core.holds tx) core.records.items core.present in
     let seen : CoreState = record {
       log = core.log;
       inodes = core.inodes;
       begun = core.begun;
       out = core.out.items;
       holds = core.holds;
-      present = core.present.items;
+      present = core.present;
       records = records;
     } in
-    ended_is seen tx c.leave.new.out.items c.release_all.new.self c.sweep_end.new.present.items
+    ended_is seen tx c.leave.new.out.items c.release_all.new.self c.sweep_end.new.present
     c.leave.ensures c.release_all.ensures swept_is
     ∙ ap (λ (seen : CoreState). ended seen tx) c.self.view_is

@@ -2,7 +2,7 @@ use Rattle.std.proofs.Common.{map, sym, subst, List}
 use Rattle.txn.proofs.Neat.{neat_failed}
 use Rattle.txn.specs.Neat.{IsNeat}
 use Rattle.txn_law.specs.Commit.{footprint}
-use Rattle.txn_law.specs.declared.present.Present.{Present}
+use Rattle.objects.specs.declared.present.Present.{Present}
 use Rattle.txn.proofs.state.State.fetch_failed.Goals as goal
 
 pub invariant_of-self : goal.invariant_of-self
@@ -10,7 +10,7 @@ invariant_of-self g c =
     let core = c.self.inside in
     subst (λ (present : List Present). IsNeat core.log core.holds
     (map (λ kept. footprint kept.place.0 (g.C.Change.planned kept.change)) core.records.items) present)
-    (sym c.let_go.ensures)
+    (sym c.fetch_failed.ensures)
     (neat_failed core.log core.holds
     (map (λ kept. footprint kept.place.0 (g.C.Change.planned kept.change)) core.records.items)
-    core.present.items c.io.inside.block c.self.invariant)
+    core.present c.io.inside.block c.self.invariant)

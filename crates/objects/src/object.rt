@@ -1,0 +1,62 @@
+//! Objects: parts of blocks with their bytes.
+ghost use Rattle.std.specs.Prelude.{◌≡◌, length};
+ghost use Rattle.objects.specs.declared.addr.Addr.{Addr as Address};
+
+use crate::Addr;
+use std::alloc::AllocError;
+use std::marker::Model;
+
+/// An address and the bytes that lie there, or that are to lie there.
+#[derive(Drop)]
+pub struct Object {
+    addr: Addr,
+    bytes: Vec<u8>,
+}
+
+impl Model for Object {
+    ghost use Rattle.std.specs.Prelude.{◌≡◌, length};
+    ghost use Rattle.objects.specs.Object.{ObjectBytes};
+
+    ghost Value = { ObjectBytes };
+
+    ghost view = { λ o. record { addr = o.addr; bytes = o.bytes.items } };
+
+    ghost invariant = { λ o. length o.bytes.items ≡ o.addr.len };
+}
+
+impl Object {
+    /// The bytes at an address, one for each that it names.
+    pub fn new(addr: Addr, bytes: Vec<u8>) -> Object
+        requires { length bytes.items ≡ addr.len }
+        ensures addr { result.addr ≡ addr }
+        ensures bytes { result.bytes ≡ bytes.items }
+    {
+        Object { addr, bytes }
+    }
+
+    /// Where the object lies.
+    pub fn addr(&self) -> Addr
+        ensures { result ≡ self.now.addr }
+    {
+        self.addr
+    }
+
+    /// Its bytes.
+    pub fn bytes(&self) -> &[u8]
+        ensures bytes { result.now ≡ self.now.bytes }
+        ensures len { length result.now ≡ self.now.addr.len }
+    {
+        &self.bytes
+    }
+}
+
+impl Clone for Object {
+    ghost is_clone = { λ object copy. copy ≡ object };
+
+    fn clone(&self) -> Result<Object, AllocError> {
+        Ok(Object {
+            addr: self.addr,
+            bytes: self.bytes.clone()?,
+        })
+    }
+}
