@@ -1,8 +1,8 @@
 //! What the parts of a split device ask of their file: one call each of what is on their side of the device, and
 //! nothing else. The home side asks its own opening of the file.
 
-use crate::tests::fake::{Fake, Step, Steps};
 use crate::tests::block;
+use crate::tests::fake::{Fake, Step, Steps};
 use disk::{Block, BlockNo, Failed, FileDisk, FilePort, FileSource, Port, Side, Source};
 use std::alloc::Global;
 use std::fs::OpenOptions;
@@ -164,9 +164,11 @@ fn is_met(alloc: Global, row: &Row) -> Result<bool, Fail> {
     drop((log, home, sources));
     let asked_log = of_log.made.into_inner();
     let asked_home = of_home.made.into_inner();
-    Ok(answer == row.answer
-        && asked_log.as_slice() == row.of_log
-        && asked_home.as_slice() == row.of_home)
+    Ok(
+        answer == row.answer
+            && asked_log.as_slice() == row.of_log
+            && asked_home.as_slice() == row.of_home,
+    )
 }
 
 #[test]
