@@ -6,7 +6,7 @@ import struct
 import threading
 import time
 
-from cases import nfs, wire
+from cases import images, nfs, wire
 from cases.conversing import ROOT, ROOT_USER
 from cases.running import MADE, NEW_MODE, expect, is_so, same
 from cases.tcp import MNT, UMNT, Server, is_closed, mount_call, mounted, next_reply, replies, spent
@@ -142,6 +142,35 @@ def test_64_connections_of_1000_calls_in_pieces_are_answered_right(place):
 
 def test_one_worker_answers_many_connections(place):
     assert_all_answered(place, place.image(), 1, 12, 210)
+
+
+def test_calls_of_one_piece_never_wait_for_each_other(place):
+    """Just after a start no block is in memory: a call finds a file whose inode a later one of the piece has taken."""
+    names = {b"%d" % it: images.directory({b"below": images.regular()}) for it in range(100)}
+    tree = images.Image(images.directory(names), inodes=256)
+    image = tree.write(place.path("image"))
+    for first in (0, 40, 80):
+        server = Server(place, image, connections=2)
+        asked = []
+        for it in range(first, first + 16):
+            directory = tree.root.below(b"%d" % it)
+            below = directory.below(b"below")
+            for procedure, *values in (
+                (nfs.LOOKUP, directory.handle(), b"below"),
+                (nfs.LOOKUP, tree.root.handle(), b"%d" % it),
+                (nfs.GETATTR, below.handle()),
+                (nfs.GETATTR, directory.handle()),
+            ):
+                asked.append(procedure.call(len(asked) + 1, CALLER, *values))
+
+        def all_are_answered():
+            with server.connect() as stream:
+                stream.sendall(b"".join(asked))
+                for xid, message in replies(stream, len(asked)).items():
+                    same(f"the status of call {xid}", nfs.result_of(message)[:4], wire.words(nfs.OK))
+
+        all_of([all_are_answered, all_are_answered])
+        server.end()
 
 
 def test_a_connection_beyond_64_is_closed_and_counts(place):
