@@ -18,7 +18,7 @@ ghost use Rattle.store_images.specs.Opening.{HasOpened, HoldsTree, Opens, store_
 ghost use Rattle.store_images.specs.Settling.{HasCalled, HaveSetOut, IsIdle, IsQuiet};
 
 use crate::opened::Store;
-use circ::{LogFault, recover};
+use circ::LogFault;
 use disk::{Block, BlockNo, CrashDisk, Failed, Side};
 use layout::{LayoutFault, Super};
 use limits::SUPER_BLOCK;
@@ -150,7 +150,7 @@ fn find_log<D: CrashDisk>(alloc: Global, disk: &mut D, blocks: u32) -> Result<Wa
         cause blocks (image_of (D.device disk.old))) }
     ensures model { D.keeps_model disk.new → D.keeps_model disk.old }
 {
-    match recover(alloc, disk) {
+    match circ::recover(alloc, disk) {
         Ok(log) => match Wal::new(alloc, blocks, log) {
             Ok(wal) => Ok(wal),
             Err(AllocError) => Err(OpenFault::NoMemory),
