@@ -453,7 +453,7 @@ never_too_long xid o (Some entry) last told now sound comes (inr unsettled) =
     subst (IsFine xid) (sym unsettled.told_is) (fine_refusal xid o.asked.call cause.Io)
 never_too_long xid o None last told now sound comes (inl unserved) =
     subst (IsFine xid) (sym unserved.told_is)
-    (not_long xid (refused_reply status.NotSupp o.asked.call) (refused_is_short status.NotSupp o.asked.call))
+    (not_long xid replies.Null (refused_is_short status.Io call.Null))
 never_too_long xid o None last told now sound comes (inr refused) =
     subst (IsFine xid) (sym refused.told_is) (fine_refusal xid o.asked.call refused.why)
 

@@ -8,6 +8,7 @@ use Rattle.nfs_types.specs.declared.call.Call.{Call}
 use Rattle.nfs_types.specs.declared.call.Call.TheVariants as call
 use Rattle.nfs_types.specs.declared.ctx.Ctx.{Ctx}
 use Rattle.nfs_types.specs.declared.reply.Reply.{Reply}
+use Rattle.nfs_types.specs.declared.reply.Reply.TheVariants.{Null}
 use Rattle.nfs_types.specs.declared.reply.Reply.TheVariants as reply
 use Rattle.nfs_types.specs.declared.status.Status.{Status}
 use Rattle.nfs_types.specs.declared.status.Status.TheVariants as status
@@ -279,7 +280,7 @@ module _ (t : Transcript) (a : Answer) (told : Reply) (is : a.verdict ≡ verdic
         → IsStepOfWork o now worker (At job stage) (Some one)
         → is_idle (progressed now.log.broken one (At job stage)) ≡ true
         → (shows (At job stage) ≡ true) ⊎ (now.log.broken ≡ true)
-    by_verdict (Called known) step.Replied has may ends = absurd (not_refused status.NotSupp job.call refl has.1)
+    by_verdict (Called known) step.Replied has may ends = let no : false ≡ true = tells Null has.1 in cc
     by_verdict (Called known) (step.Begun (Err why)) has may ends =
         inr (by_begun now (begins_transaction job.call) job.call why may has.1)
     by_verdict (Planning begun) (step.Commit blocks (committing.Committed place)) has may ends =
