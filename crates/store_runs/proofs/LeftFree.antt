@@ -113,10 +113,16 @@ module _ (w : State) where
     noted_in Idle so = absurd (true≢false (sym so))
     noted_in Called so = absurd (true≢false (sym (of_stage w.work.job (how.Called (known_in w.known)) so)))
     noted_in Planning so = (refl, of_stage w.work.job (how.Planning mine) so)
-    noted_in Reading so = (refl, of_fetch (λ taken. how.Reading mine taken) (λ taken. refl) w.asked.wish
-        (of_stage w.work.job (at_fetch (λ taken. how.Reading mine taken) mine w.asked.wish) so))
-    noted_in (Read ok) so = (refl, of_fetch (λ taken. how.Read mine taken ok) (λ taken. refl) w.asked.wish
-        (of_stage w.work.job (at_fetch (λ taken. how.Read mine taken ok) mine w.asked.wish) so))
+    noted_in Reading so = (
+      refl,
+      of_fetch (λ taken. how.Reading mine taken) (λ taken. refl) w.asked.wish
+          (of_stage w.work.job (at_fetch (λ taken. how.Reading mine taken) mine w.asked.wish) so),
+    )
+    noted_in (Read ok) so = (
+      refl,
+      of_fetch (λ taken. how.Read mine taken ok) (λ taken. refl) w.asked.wish
+          (of_stage w.work.job (at_fetch (λ taken. how.Read mine taken ok) mine w.asked.wish) so),
+    )
     noted_in (Refused why) so = (refl, of_stage w.work.job (how.Refused mine why) so)
     noted_in Again so = (refl, of_stage w.work.job (how.Again mine w.known.off) so)
     noted_in (Waiting place) so =

@@ -204,9 +204,12 @@ module _ (old new : Side) (beyond : NoneTakenBeyond old.core) (notes : NotesAll 
         (λ had. raised_alone had (for_writing tx addr) refl)
         (λ a. is.2.leaves.holds tx a)
         (inr (subst (λ (b : BlockNo). Contains (inserted (aim.Claim block) taken) (aim.Claim b)) (sym whole.0)
-        (there (aim.Claim block) taken)))
-        (addr, whole, now_taken old.core new.core tx addr (for_writing tx addr) (is.2.leaves.holds tx addr)
-        (is_hold_by tx addr (for_writing tx addr) refl refl refl refl)) (own tx tx_is))
+        (there (aim.Claim block) taken))) (
+          addr,
+          whole,
+          now_taken old.core new.core tx addr (for_writing tx addr) (is.2.leaves.holds tx addr)
+              (is_hold_by tx addr (for_writing tx addr) refl refl refl refl),
+        ) (own tx tx_is))
     takes block addr room (claim.Busy back) whole is = same back _ is.0 is.2 (off_taken (aim.Claim block) room)
     takes block addr room (claim.Loading back) whole is = same back _ is.0 is.2 (off_taken (aim.Claim block) room)
     takes block addr room (claim.Outside back) whole is = same back _ is.0 is.2 refl
