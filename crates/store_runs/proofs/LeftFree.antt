@@ -46,7 +46,7 @@ use Rattle.store_workers.specs.declared.workers.parts.State.{State}
 found_any : {X : Type 0} (test : X → Bool) (P : X → Type 0) (xs : List X) → All P xs → list_any test xs ≡ true
     → (x : X) × P x × (test x ≡ true)
 found_any test P [] all some = absurd (true≢false (sym some))
-found_any test P (x ∷ xs) all some = by (test x) refl some
+found_any {X = X} test P (x ∷ xs) all some = by (test x) refl some
   where
     by : (passes : Bool) → test x ≡ passes → (passes || list_any test xs) ≡ true
         → (y : X) × P y × (test y ≡ true)
