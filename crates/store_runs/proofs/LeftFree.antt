@@ -46,12 +46,13 @@ use Rattle.store_workers.specs.declared.workers.parts.State.{State}
 found_any : {X : Type 0} (test : X → Bool) (P : X → Type 0) (xs : List X) → All P xs → list_any test xs ≡ true
     → (x : X) × P x × (test x ≡ true)
 found_any test P [] all some = absurd (true≢false (sym some))
-found_any {X = X} test P (x ∷ xs) all some = by (test x) refl some
+found_any {X = X} test P (x ∷ xs) all some =
+    by (test x) refl some (found_any test P xs (All-tail P x xs all))
   where
     by : (passes : Bool) → test x ≡ passes → (passes || list_any test xs) ≡ true
-        → (y : X) × P y × (test y ≡ true)
-    by true is some = (x, All-head P x xs all, is)
-    by false is some = found_any test P xs (All-tail P x xs all) some
+        → (list_any test xs ≡ true → (y : X) × P y × (test y ≡ true)) → (y : X) × P y × (test y ≡ true)
+    by true is some rest = (x, All-head P x xs all, is)
+    by false is some rest = rest some
 
 -- a hold of a transaction is its own
 owner_at : (core : CoreState) (tx : ℕ) (addr : Addr) (hold : Hold) → taken_by core tx addr ≡ Some hold
