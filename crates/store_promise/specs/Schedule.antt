@@ -146,16 +146,26 @@ pub record IsSoOfAnother (told : Told) (worker : ℕ) (is : Progress → Bool) :
   pub differs : other ≢ worker
   pub so : is (told.workers other) ≡ true
 
+-- no other worker is so
+abbrev pub IsSoOfNoOther : Told → ℕ → (Progress → Bool) → Type 0
+IsSoOfNoOther told worker is = (other : ℕ) → other ≢ worker → is (told.workers other) ≡ false
+
+-- nothing that another worker has taken keeps the wish off, and no other fetches the block
+pub record IsLeftFree (told : Told) (worker : ℕ) (wished : Wished) : Type 0 where
+  pub free : IsSoOfNoOther told worker (has_taken wished)
+  pub settled : IsSoOfNoOther told worker (is_fetching wished.block)
+
 -- What a wish to read some bytes of a block may be answered: Busy only where what another worker has taken
--- keeps it off, Loading only where another fetches the block, Fetch only where no object of the block was
--- had, and never Outside, as no call asks for what lies elsewhere.
+-- keeps it off, Loading only where another fetches the block, and else only where no other does either. Fetch
+-- comes only where no object of the block was had, and Outside never, as no call asks for what lies elsewhere.
 abbrev pub IsWish : Told → ℕ → Begun → Wished → Wish → Type 0
-IsWish told worker begun wished wish.Held = Unit {0}
+IsWish told worker begun wished wish.Held = IsLeftFree told worker wished
 IsWish told worker begun wished wish.Busy = IsSoOfAnother told worker (has_taken wished)
-IsWish told worker begun wished wish.Fetch = is_loaded wished.block begun ≡ false
+IsWish told worker begun wished wish.Fetch =
+    IsLeftFree told worker wished × (is_loaded wished.block begun ≡ false)
 IsWish told worker begun wished wish.Loading = IsSoOfAnother told worker (is_fetching wished.block)
 IsWish told worker begun wished wish.Outside = ⊥
-IsWish told worker begun wished wish.NoMemory = Unit {0}
+IsWish told worker begun wished wish.NoMemory = IsLeftFree told worker wished
 
 -- what is wished with an object, and with a whole block
 abbrev pub wish_of : Addr → Mode → Wished

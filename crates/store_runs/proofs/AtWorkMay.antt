@@ -1,5 +1,5 @@
 -- Each step of a worker is one that may be made.
-use Rattle.std.proofs.Common.{◌≡◌, ◌∙◌, ◌↔◌, refl, sym, ap, subst, true≢false, ℕ, ◌+◌, ◌^◌, ◌≤◌, arith, Bool}
+use Rattle.std.proofs.Common.{◌≡◌, ◌≢◌, ◌∙◌, ◌↔◌, refl, sym, ap, subst, true≢false, ℕ, ◌+◌, ◌^◌, ◌≤◌, arith, Bool}
 use Rattle.std.proofs.Common.{true, false, ◌||◌, nat_eq, nat_le, IsTrue, Option, Some, None, List, [], ◌∷◌}
 use Rattle.std.proofs.Common.{◌<◌, ◌⊎◌, inl, inr, length, map, All, IfSome}
 use Rattle.std.proofs.Common.{Ok, Err}
@@ -46,13 +46,13 @@ use Rattle.wal_law.specs.Log.{IsHomeOn, added_blocks, settled_place}
 use Rattle.wal_law.specs.Room.{HasPlaces}
 use Rattle.wal_law.specs.declared.outcomes.Seq.{Seq}
 use Rattle.store_promise.specs.LogTold.{LogTold, settled_told}
-use Rattle.store_promise.specs.Progress.{Begun, Progress, is_loaded, is_object_in}
+use Rattle.store_promise.specs.Progress.{Begun, Progress, Wished, has_taken, is_fetching, is_loaded, is_object_in}
 use Rattle.store_promise.specs.declared.aims.Aim.{Aim}
 use Rattle.store_promise.specs.declared.aims.Aim.TheVariants as aim
 use Rattle.store_promise.specs.Progress as how
 use Rattle.store_promise.specs.Running.{IsRunningOver, IsTold, StoreSide}
 use Rattle.store_promise.specs.Schedule.{HasNumbers, IsAskedFor, IsBeginning, IsClaimAskedFor, IsClaimWish}
-use Rattle.store_promise.specs.Schedule.{IsCommitting, IsRetaking, IsStepBeside, IsStepByPlan}
+use Rattle.store_promise.specs.Schedule.{IsCommitting, IsLeftFree, IsRetaking, IsStepBeside, IsStepByPlan}
 use Rattle.store_promise.specs.Schedule.{IsStepOfCalled, IsStepOfWork}
 use Rattle.store_promise.specs.Schedule.{IsStepOfWaiting, IsWish, Setting, Told, is_held}
 use Rattle.store_promise.specs.Schedule as schedule
@@ -122,20 +122,20 @@ module _ (told : Told) (worker : ℕ) (core : CoreState) (tx : ℕ) (knowing : K
       → (new : CoreState) (answer : Want) → IsWanted core tx addr modes.Exclusive answer new
       → IsCaused told worker (Some (step.Wanted addr modes.Exclusive (wish_of answer)))
       → IsWish told worker (begun_of found seen knowing) (schedule.wish_of addr modes.Exclusive) (wish_of answer)
-  want_may addr home found seen new (want.Held back bytes) is caused = tt
-  want_may addr home found seen new (want.NoMemory back) is caused = tt
+  want_may addr home found seen new (want.Held back bytes) is caused = caused
+  want_may addr home found seen new (want.NoMemory back) is caused = caused
   want_may addr home found seen new (want.Busy back) is caused = caused
   want_may addr home found seen new (want.Loading back) is caused = caused
   want_may addr home found seen new (want.Outside back) is caused =
       absurd (is.1 (record { out = is_out; home = home }))
-  want_may addr home found seen new (want.Fetch back io) is caused = not_loaded addr.block is.2.absent
+  want_may addr home found seen new (want.Fetch back io) is caused = (caused, not_loaded addr.block is.2.absent)
 
   pub claim_may : (block : BlockNo) (addr : Addr) → IsHomeOn core.log.blocks addr.block → (begun : Begun)
       → (new : CoreState) (answer : Claim) → IsClaimed core tx addr answer new
       → IsCaused told worker (Some (step.Claimed block (claim_wish answer)))
       → IsClaimWish told worker begun block (claim_wish answer)
-  claim_may block addr home begun new (claim.Held back) is caused = tt
-  claim_may block addr home begun new (claim.NoMemory back) is caused = tt
+  claim_may block addr home begun new (claim.Held back) is caused = caused
+  claim_may block addr home begun new (claim.NoMemory back) is caused = caused
   claim_may block addr home begun new (claim.Busy back) is caused = caused
   claim_may block addr home begun new (claim.Loading back) is caused = caused
   claim_may block addr home begun new (claim.Outside back) is caused =
@@ -500,41 +500,48 @@ none_left_of worker nothing phase_is next later some =
     let none : worker.known.left ≡ [] = subst (λ (p : Phase). LeavesNothing p worker.known) phase_is nothing in
     let never : next ∷ later ≡ [] = sym some ∙ none in cc
 
--- what isn't kept off needs no cause
-not_caused : (told : Told) (number : ℕ) (made : Option Step) → is_kept_off made ≡ false
-    → IsCaused told number made
-not_caused told number (Some (step.Wanted addr mode wish.Busy)) off = absurd (true≢false off)
-not_caused told number (Some (step.Wanted addr mode wish.Loading)) off = absurd (true≢false off)
-not_caused told number (Some (step.Wanted addr mode wish.Held)) off = tt
-not_caused told number (Some (step.Wanted addr mode wish.Fetch)) off = tt
-not_caused told number (Some (step.Wanted addr mode wish.Outside)) off = tt
-not_caused told number (Some (step.Wanted addr mode wish.NoMemory)) off = tt
-not_caused told number (Some (step.Claimed block wish.Busy)) off = absurd (true≢false off)
-not_caused told number (Some (step.Claimed block wish.Loading)) off = absurd (true≢false off)
-not_caused told number (Some (step.Claimed block wish.Held)) off = tt
-not_caused told number (Some (step.Claimed block wish.Fetch)) off = tt
-not_caused told number (Some (step.Claimed block wish.Outside)) off = tt
-not_caused told number (Some (step.Claimed block wish.NoMemory)) off = tt
-not_caused told number (Some (step.Commit count committing.Foreign)) off = absurd (true≢false off)
-not_caused told number (Some (step.Commit count (committing.Committed place))) off = tt
-not_caused told number (Some (step.Commit count committing.Full)) off = tt
-not_caused told number (Some (step.Commit count committing.NoMemory)) off = tt
-not_caused told number (Some (step.Commit count committing.Broken)) off = tt
-not_caused told number (Some (step.Commit count committing.Spent)) off = tt
-not_caused told number None off = tt
-not_caused told number (Some _) off = tt
+-- where no other has a call, all is left free, and what isn't kept off needs no other cause
+module _ (told : Told) (number : ℕ) (idle : (other : ℕ) → other ≢ number → told.workers other ≡ how.Idle) where
+  left_free : (wished : Wished) → IsLeftFree told number wished
+  left_free wished = record {
+    free = λ other differs. ap (has_taken wished) (idle other differs);
+    settled = λ other differs. ap (is_fetching wished.block) (idle other differs);
+  }
+
+  not_caused : (made : Option Step) → is_kept_off made ≡ false → IsCaused told number made
+  not_caused (Some (step.Wanted addr mode wish.Busy)) off = absurd (true≢false off)
+  not_caused (Some (step.Wanted addr mode wish.Loading)) off = absurd (true≢false off)
+  not_caused (Some (step.Wanted addr mode wish.Held)) off = left_free (schedule.wish_of addr mode)
+  not_caused (Some (step.Wanted addr mode wish.Fetch)) off = left_free (schedule.wish_of addr mode)
+  not_caused (Some (step.Wanted addr mode wish.Outside)) off = tt
+  not_caused (Some (step.Wanted addr mode wish.NoMemory)) off = left_free (schedule.wish_of addr mode)
+  not_caused (Some (step.Claimed block wish.Busy)) off = absurd (true≢false off)
+  not_caused (Some (step.Claimed block wish.Loading)) off = absurd (true≢false off)
+  not_caused (Some (step.Claimed block wish.Held)) off = left_free (schedule.whole_wish block)
+  not_caused (Some (step.Claimed block wish.Fetch)) off = tt
+  not_caused (Some (step.Claimed block wish.Outside)) off = tt
+  not_caused (Some (step.Claimed block wish.NoMemory)) off = left_free (schedule.whole_wish block)
+  not_caused (Some (step.Commit count committing.Foreign)) off = absurd (true≢false off)
+  not_caused (Some (step.Commit count (committing.Committed place))) off = tt
+  not_caused (Some (step.Commit count committing.Full)) off = tt
+  not_caused (Some (step.Commit count committing.NoMemory)) off = tt
+  not_caused (Some (step.Commit count committing.Broken)) off = tt
+  not_caused (Some (step.Commit count committing.Spent)) off = tt
+  not_caused None off = tt
+  not_caused (Some _) off = tt
 
 pub step_may : (o : Setting) (told : Told) (number : ℕ) (base : Image) (store : StoreSide)
     (fetches : List Fetch) (boot : ℕ) (first last : Tree) (entries : List Entry)
     (run : IsRunningOver o base store fetches boot first entries last) (is_told : IsTold o told store)
+    (idle : (other : ℕ) → other ≢ number → told.workers other ≡ how.Idle)
     (inodes : o.geometry.inodes ≡ store.core.inodes) (worker : State) (new : Side)
     (one_geometry : (g h : Geometry) → g.blocks ≡ h.blocks → g.inodes ≡ h.inodes → g ≡ h) (made : Option Step)
     → GoesOn worker.phase (side worker store.core) made new → IsCoreAtWork worker store.core
     → IsWorkerAt boot entries worker → IsStepOfWork o told number (progress_of worker) made
-step_may o told number base store fetches boot first last entries run is_told inodes worker new one_geometry made
-    goes at worker_at =
+step_may o told number base store fetches boot first last entries run is_told idle inodes worker new one_geometry
+    made goes at worker_at =
     step_may_by o told number base store fetches boot first last entries run is_told inodes worker new
     one_geometry at.with.core_of.out (none_left_of worker at.alone.left) made goes at.alone.plans at.loads worker_at
-    (not_caused told number made
+    (not_caused told number idle made
     (never_kept_off (side worker store.core) new run.since.over.tidy at.alone.out at.alone.fetches worker.phase made
     at.with.sound.fetch at.alone.plans at.alone.left goes))

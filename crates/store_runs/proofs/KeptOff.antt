@@ -44,7 +44,7 @@ use Rattle.txn_law.specs.Object.{ObjectBytes}
 use Rattle.txn_law.specs.Others.{IsKeptOff}
 use Rattle.txn_law.specs.Present.{content_in, is_pending, present_of}
 use Rattle.txn_law.specs.Tidy.{AreTidy}
-use Rattle.txn_law.specs.Wishes.{IsBusy}
+use Rattle.txn_law.specs.Wishes.{IsBusy, IsOpen}
 use Rattle.txn_law.specs.declared.hold.Hold.{Hold}
 use Rattle.objects.specs.declared.present.Present.{Present}
 use Rattle.txn_law.proofs.Again as again
@@ -55,7 +55,7 @@ use Rattle.txn_law.proofs.TakenBy.{is_hold_by}
 use Rattle.store_promise.specs.Progress as how
 use Rattle.store_promise.specs.Progress.{Begun, Progress, Stage, Wished, aim_keeps_off, has_taken, is_fetching as fetches}
 use Rattle.store_promise.specs.Progress.{shares, stage_takes, takes}
-use Rattle.store_promise.specs.Schedule.{IsSoOfAnother, Told, whole_wish, wish_of}
+use Rattle.store_promise.specs.Schedule.{IsLeftFree, IsSoOfAnother, Told, whole_wish, wish_of}
 use Rattle.store_promise.specs.Waiting.{HasTakenWell, IsAim}
 use Rattle.store_promise.specs.declared.aims.Aim.{Aim}
 use Rattle.store_promise.specs.declared.aims.Aim.TheVariants as aim
@@ -65,6 +65,7 @@ use Rattle.store_promise.specs.declared.events.Step.TheVariants as step
 use Rattle.store_promise.specs.declared.events.Wish.TheVariants as wish
 use Rattle.store_runs.specs.AtWork.{FetchesFor, IsAtWork, IsLoadedBut, LoadsFor}
 use Rattle.store_runs.specs.AtWork as at_work
+use Rattle.store_runs.proofs.LeftFree.{left_free}
 use Rattle.store_workers.proofs.LoneWorker.{had, has_of, own_change, seen_of, was_read}
 use Rattle.store_workers.proofs.PlansStay.{wish_by}
 use Rattle.store_workers.proofs.WorkCases.{Cases, IsWished, by_cases}
@@ -86,8 +87,14 @@ use Rattle.store_workers.specs.declared.workers.parts.State.{State}
 
 -- ---- by what a step is kept off
 
--- a step that was kept off was so by another worker, and no commit is refused as foreign
+-- a step that was kept off was so by another worker, what it took was left free by the others, and no commit is
+-- refused as foreign
 abbrev pub IsCaused : Told → ℕ → Option Step → Type 0
+IsCaused told number (Some (step.Wanted addr mode wish.Held)) = IsLeftFree told number (wish_of addr mode)
+IsCaused told number (Some (step.Wanted addr mode wish.Fetch)) = IsLeftFree told number (wish_of addr mode)
+IsCaused told number (Some (step.Wanted addr mode wish.NoMemory)) = IsLeftFree told number (wish_of addr mode)
+IsCaused told number (Some (step.Claimed block wish.Held)) = IsLeftFree told number (whole_wish block)
+IsCaused told number (Some (step.Claimed block wish.NoMemory)) = IsLeftFree told number (whole_wish block)
 IsCaused told number (Some (step.Wanted addr mode wish.Busy)) =
     IsSoOfAnother told number (has_taken (wish_of addr mode))
 IsCaused told number (Some (step.Wanted addr mode wish.Loading)) = IsSoOfAnother told number (fetches addr.block)
@@ -236,10 +243,17 @@ module _ (boot : ℕ) (entries : List Entry) (told : Told) (core : CoreState) (w
     (worker : State) (tidy : AreTidy core) (share : ShareCore core workers) (is : IsOneOf workers number worker)
     (each : (other : ℕ) (w : State) → IsOneOf workers other w
     → (told.workers other ≡ progress_of w) × IsWorkerAt boot entries w × IsAtWork w core)
+    (beyond : (other : ℕ) → slice_get workers other ≡ None → told.workers other ≡ how.Idle)
     (tx : ℕ) (tx_is : worker.begun.tx ≡ Some tx) (no_io : worker.begun.io ≡ None) where
   same_worker : (other : ℕ) (w : State) → IsOneOf workers other w → other ≡ number → w ≡ worker
   same_worker other w w_is same =
       let one : Some w ≡ Some worker = sym w_is ∙ ap (λ (n : ℕ). slice_get workers n) same ∙ is in cc
+
+  -- the others leave free what is
+  free_so : (addr : Addr) → IsOpen core tx addr modes.Exclusive
+      → IsLeftFree told number (wish_of addr modes.Exclusive)
+  free_so addr left =
+      left_free boot entries told core workers number worker tidy share is each beyond tx tx_is addr left
 
   -- another's transaction has taken what keeps it off
   busy_so : (addr : Addr) → IsKeptOff core tx addr modes.Exclusive
@@ -256,7 +270,7 @@ module _ (boot : ℕ) (entries : List Entry) (told : Told) (core : CoreState) (w
         so = ap (has_taken (wish_of addr modes.Exclusive)) told_is
             ∙ takes_at boot entries w (wish_of addr modes.Exclusive)
             (noted_keeps w.known.taken off.hold addr modes.Exclusive
-            (notes off.hold.addr off.hold (taken_is core off.hold tidy off.there)) off.overlap off.excludes)
+            (notes.noted off.hold.addr off.hold (taken_is core off.hold tidy off.there)) off.overlap off.excludes)
             w.phase (sym at.with.sound.transaction ∙ some_is w.begun.tx off.hold.transaction w_tx) stands.stands;
       }
 
@@ -285,10 +299,10 @@ module _ (boot : ℕ) (entries : List Entry) (told : Told) (core : CoreState) (w
     wanted_caused : (new : CoreState) (addr : Addr) → Asks seen.geometry addr → (answer : Want)
         → IsWanted core tx addr modes.Exclusive answer new
         → IsCaused told number (Some (step.Wanted addr modes.Exclusive (answer_of answer)))
-    wanted_caused new addr asks (want.Held back bytes) is = tt
-    wanted_caused new addr asks (want.Fetch back io) is = tt
+    wanted_caused new addr asks (want.Held back bytes) is = free_so addr is.1
+    wanted_caused new addr asks (want.Fetch back io) is = free_so addr is.1
     wanted_caused new addr asks (want.Outside back) is = tt
-    wanted_caused new addr asks (want.NoMemory back) is = tt
+    wanted_caused new addr asks (want.NoMemory back) is = free_so addr is.1
     wanted_caused new addr asks (want.Busy back) is = busy_so addr (kept_off addr asks is.1)
     wanted_caused new addr asks (want.Loading back) is = loading_so addr.block is.1.2
 
@@ -304,9 +318,11 @@ module _ (boot : ℕ) (entries : List Entry) (told : Told) (core : CoreState) (w
     claimed_caused : (new : CoreState) (block : BlockNo) (addr : Addr) → Claims seen.geometry block
         → IsWhole block addr → (answer : Claim) → IsClaimed core tx addr answer new
         → IsCaused told number (Some (step.Claimed block (claim_wish answer)))
-    claimed_caused new block addr claims whole (claim.Held back) is = tt
+    claimed_caused new block addr claims whole (claim.Held back) is =
+        subst (IsLeftFree told number) (same_wish block addr whole) (free_so addr is.1)
     claimed_caused new block addr claims whole (claim.Outside back) is = tt
-    claimed_caused new block addr claims whole (claim.NoMemory back) is = tt
+    claimed_caused new block addr claims whole (claim.NoMemory back) is =
+        subst (IsLeftFree told number) (same_wish block addr whole) (free_so addr is.1)
     claimed_caused new block addr claims whole (claim.Busy back) is =
         subst (λ (w : Wished). IsSoOfAnother told number (has_taken w)) (same_wish block addr whole)
         (busy_so addr (kept_off addr (claimed_object seen.geometry block addr claims whole) is.1))
@@ -452,6 +468,7 @@ module _ (boot : ℕ) (entries : List Entry) (told : Told) (workers : List State
     (tidy : AreTidy old.core) (share : ShareCore old.core workers) (is : IsOneOf workers number old.worker)
     (each : (other : ℕ) (w : State) → IsOneOf workers other w
     → (told.workers other ≡ progress_of w) × IsWorkerAt boot entries w × IsAtWork w old.core)
+    (beyond : (other : ℕ) → slice_get workers other ≡ None → told.workers other ≡ how.Idle)
     (left_of : old.worker.phase ≡ Planning → IsLeftOf old.worker)
     (own_out : IfSome old.worker.begun.tx (IsOut old.core)) where
   abbrev Caused : Phase → Option Step → Type 0
@@ -467,7 +484,7 @@ module _ (boot : ℕ) (entries : List Entry) (told : Told) (workers : List State
   wanted_so tx addr made tx_is wished has at no_io plans =
       let it = wish_by old.worker (object addr) (plan.Need addr) (λ seen. Unit {0})
       (λ snap planned. ((planned.1, refl), tt)) (left_of at) wished in
-      wanted_caused boot entries told old.core workers number old.worker tidy share is each tx tx_is (no_io refl)
+      wanted_caused boot entries told old.core workers number old.worker tidy share is each beyond tx tx_is (no_io refl)
       (seen_of it.snap) (has_of old.worker old.core it.job tx (seen_of it.snap) it.job_is tx_is it.snap_is plans)
       new.core addr it.is_aim.0 has.answer has.core
 
@@ -477,7 +494,7 @@ module _ (boot : ℕ) (entries : List Entry) (told : Told) (workers : List State
   claimed_so tx block made tx_is wished has at no_io plans =
       let it = wish_by old.worker (aim.Claim block) (plan.Claim block) (λ seen. Unit {0})
       (λ snap planned. (planned.1, tt)) (left_of at) wished in
-      claimed_caused boot entries told old.core workers number old.worker tidy share is each tx tx_is (no_io refl)
+      claimed_caused boot entries told old.core workers number old.worker tidy share is each beyond tx tx_is (no_io refl)
       (seen_of it.snap) (has_of old.worker old.core it.job tx (seen_of it.snap) it.job_is tx_is it.snap_is plans)
       new.core block has.core.0 it.is_aim has.core.1 has.answer has.core.2
 
@@ -486,7 +503,7 @@ module _ (boot : ℕ) (entries : List Entry) (told : Told) (workers : List State
       → Caused Planning (Some (step.Commit (added_blocks old.core.log (blocks_of done.written))
       (committing_of has.answer)))
   committed_so job tx done made tx_is next has at no_io plans =
-      committed_caused boot entries told old.core workers number old.worker tidy share is each tx tx_is (no_io refl)
+      committed_caused boot entries told old.core workers number old.worker tidy share is each beyond tx tx_is (no_io refl)
       next.snap (has_of old.worker old.core next.job tx (seen_of next.snap) next.job_is tx_is next.snap_is plans)
       (out_in tx tx_is) done next.plan.0 new.core (added_blocks old.core.log (blocks_of done.written)) has.answer
       has.core

@@ -12,6 +12,7 @@ pub mod GoingOn
 pub mod GoingRead
 pub mod GoingWork
 pub mod KeptOff
+pub mod LeftFree
 pub mod MovesOne
 pub mod OwnChanges
 pub mod RunTaken

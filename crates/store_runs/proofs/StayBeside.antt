@@ -28,6 +28,7 @@ use Rattle.run_law.specs.Run.{Beginning}
 use Rattle.store_runs.specs.AtWork.{FetchesFor, IsAimLoaded, IsAtWork, IsLoadedBut, IsLoadedFor, LoadsFor}
 use Rattle.store_runs.specs.AtWork.{fetches_in, fetches_of, has_taken}
 use Rattle.store_runs.specs.Going.{AreSoFar, IsSoFar}
+use Rattle.store_workers.proofs.NotesAll.{same_notes}
 use Rattle.store_workers.proofs.ShareCore.{share_still}
 use Rattle.store_workers.proofs.StaysAlone.{moved, same_taken}
 use Rattle.store_workers.specs.Alone.{HasTaken, PlansAlone}
@@ -163,7 +164,7 @@ module _ (old new : CoreState) (worker : State) (blocks : new.log.blocks ≡ old
     plans = still_plans worker.phase at.plans;
     loads = loads_still worker.phase at.loads;
     notes = of_tx (λ tx. NotesTaken old tx worker.known.taken) (λ tx. NotesTaken new tx worker.known.taken)
-        (λ tx keeps notes addr hold is. notes addr hold (sym (keeps.taken addr) ∙ is)) at.notes;
+        (λ tx keeps notes. same_notes old new tx worker.known.taken keeps.taken notes) at.notes;
   }
 
 -- ---- with more entries

@@ -1,6 +1,6 @@
 //! Laws on a worker: what was fetched for its transaction stays until it ends, each of its steps is one that may be
 //! made, and leaves the run going.
-ghost use Rattle.std.specs.Prelude.{◌≡◌, ◌≤◌, ◌+◌, ◌++◌, ◌∷◌, ℕ, Bool, [], List, Option, Some, length, false};
+ghost use Rattle.std.specs.Prelude.{◌≡◌, ◌≢◌, ◌≤◌, ◌+◌, ◌++◌, ◌∷◌, ℕ, Bool, [], List, Option, Some, length, false};
 ghost use Rattle.std.specs.Prelude.{true};
 ghost use Rattle.disk.specs.Crash.{Image};
 ghost use Rattle.disk.specs.Device.{Content, Device, HasRead, current, newest};
@@ -30,6 +30,7 @@ ghost use Rattle.store_promise.specs.OpenSince.{IsOpenSince, IsSoundCore, Stands
 ghost use Rattle.store_promise.specs.declared.events.Event.TheVariants as event;
 ghost use Rattle.store_promise.specs.declared.events.Step.{Step};
 ghost use Rattle.store_promise.specs.declared.events.Step.TheVariants as made;
+ghost use Rattle.store_promise.specs.Progress.{Idle};
 ghost use Rattle.store_promise.specs.Running.{IsRunningOver, IsTold, StoreSide};
 ghost use Rattle.store_promise.specs.Schedule.{IsStepOfWork, Setting, Told, told_after};
 ghost use Rattle.store_promise.specs.ToldOf.{log_told};
@@ -80,11 +81,12 @@ pub fn a_core_at_work_stays_so()
         → IsCoreAtWork (told new.worker) new.core }
 {}
 
-/// Each step is one that a worker that is so far may make.
+/// Each step is one that a worker that is so far, and beside which no other has a call, may make.
 pub fn a_workers_step_may_be_made()
     ensures { (o : Setting) (told : Told) (number : ℕ) (base : Image) (store : StoreSide) (fetches : List Fetch)
         (boot : ℕ) (first last : Tree) (entries : List Entry)
         → IsRunningOver o base store fetches boot first entries last → IsTold o told store
+        → ((other : ℕ) → other ≢ number → told.workers other ≡ Idle)
         → o.geometry.inodes ≡ store.core.inodes → (worker : State) (new : Side) (made : Option Step)
         → GoesOn worker.phase (side worker store.core) made new
         → IsCoreAtWork worker store.core → IsWorkerAt boot entries worker

@@ -1,8 +1,9 @@
--- A worker notes all that its transaction takes.
+-- A worker notes all that its transaction takes, and nothing else.
 use Rattle.std.proofs.Common.{◌≡◌, ◌∙◌, refl, sym, ap, subst, true≢false, ℕ, inl, inr, Bool, true, false}
-use Rattle.std.proofs.Common.{if◌then◌else◌, nat_eq, Option, Some, None, List}
+use Rattle.std.proofs.Common.{if◌then◌else◌, nat_eq, Option, Some, None, List, []}
 use Rattle.std.specs.Prelude.{Contains, IfSome, IsSomeAnd, is_some}
 use Rattle.std.proofs.lemmas.Bool.{eqb-true}
+use Rattle.std.proofs.lemmas.List.Elements.{All-nil, All-weaker}
 use Rattle.disk.specs.declared.block.BlockNo.{BlockNo}
 use Rattle.objects.specs.Mode.{raised}
 use Rattle.objects.specs.declared.addr.Addr.{Addr}
@@ -24,9 +25,10 @@ use Rattle.txn.specs.declared.outcomes.Want.{Want}
 use Rattle.txn.specs.declared.outcomes.Want.TheVariants as want
 use Rattle.txn_law.proofs.Again as again
 use Rattle.txn_law.proofs.Claims.{all_four}
+use Rattle.txn_law.proofs.TakenBy.{is_hold_by}
 use Rattle.txn_law.specs.Holds.{for_fetching, for_reading, for_writing, is_hold_of, joined}
 use Rattle.txn_law.specs.declared.hold.Hold.{Hold}
-use Rattle.store_promise.proofs.RisingAims.{kept, there}
+use Rattle.store_promise.proofs.RisingAims.{all_more, kept, there}
 use Rattle.store_promise.specs.Aims.{inserted, is_above}
 use Rattle.store_promise.specs.declared.aims.Aim.{Aim}
 use Rattle.store_promise.specs.declared.aims.Aim.TheVariants as aim
@@ -34,7 +36,7 @@ use Rattle.store_promise.specs.declared.answers.Verdict.TheVariants as verdict
 use Rattle.store_promise.specs.declared.events.Step.{Step}
 use Rattle.store_workers.proofs.HowFar.{without_broken_reply, without_reply}
 use Rattle.store_workers.proofs.WorkCases.{Cases, by_cases}
-use Rattle.store_workers.specs.Beside.{IsNoted, NoneTakenBeyond, NotesAll, NotesTaken}
+use Rattle.store_workers.specs.Beside.{IsNoted, IsTakenIn, NoneTakenBeyond, NotesAll, NotesTaken}
 use Rattle.store_workers.specs.Knowing.{Knowing, with_off}
 use Rattle.store_workers.specs.Phases.{has_transaction}
 use Rattle.store_workers.specs.WorkerAnswers.{after_commit, begun_claimed, begun_wanted, known_claimed, known_off}
@@ -61,23 +63,64 @@ more_noted : (one : Aim) (aims : List Aim) (a : Addr) (m : Mode) → IsNoted aim
 more_noted one aims a m (inl object) = inl (kept one aims (aim.Object a m) object)
 more_noted one aims a m (inr claim) = inr (kept one aims (aim.Claim a.block) claim)
 
+-- who has taken the same notes the same
+pub same_notes : (old new : CoreState) (tx : ℕ) (aims : List Aim)
+    → ((addr : Addr) → taken_by new tx addr ≡ taken_by old tx addr) → NotesTaken old tx aims
+    → NotesTaken new tx aims
+same_notes old new tx aims same notes = record {
+  noted = λ addr hold is. notes.noted addr hold (sym (same addr) ∙ is);
+  taken = All-weaker (IsTakenIn old tx) (IsTakenIn new tx) one aims notes.taken;
+}
+  where
+    one : (it : Aim) → IsTakenIn old tx it → IsTakenIn new tx it
+    one (aim.Object addr mode) is = ap (λ (o : Option Hold). is_some o) (same addr) ∙ is
+    one (aim.Claim block) is = (is.0, is.1, ap (λ (o : Option Hold). is_some o) (same is.0) ∙ is.2)
+
+-- what a hold is added of is taken then
+now_taken : (core mid : CoreState) (tx : ℕ) (addr : Addr) (hold : Hold)
+    → taken_by mid tx addr ≡ with_taken hold (taken_by core) tx addr → is_hold_of tx addr hold ≡ true
+    → is_some (taken_by mid tx addr) ≡ true
+now_taken core mid tx addr hold now own =
+    ap (λ (o : Option Hold). is_some o) now
+    ∙ ap (λ (b : Bool). is_some (if b then Some (joined (taken_by core tx addr) hold) else taken_by core tx addr)) own
+
 -- what is taken then: what was, and a hold more, which is noted
 module _ (core mid : CoreState) (tx : ℕ) (aims : List Aim) (one : Aim) (hold : Hold)
     (alone : (had : Option Hold) → (joined had hold).mode ≡ modes.Exclusive)
     (now : (a : Addr) → taken_by mid tx a ≡ with_taken hold (taken_by core) tx a)
-    (new_noted : IsNoted (inserted one aims) hold.addr modes.Exclusive) (notes : NotesTaken core tx aims) where
-  pub notes_more : NotesTaken mid tx (inserted one aims)
-  notes_more a x taken = by (is_hold_of tx a hold) refl (sym (now a) ∙ taken)
+    (new_noted : IsNoted (inserted one aims) hold.addr modes.Exclusive) (new_taken : IsTakenIn mid tx one)
+    (notes : NotesTaken core tx aims) where
+  noted_more : (a : Addr) (x : Hold) → taken_by mid tx a ≡ Some x → IsNoted (inserted one aims) a x.mode
+  noted_more a x taken = by (is_hold_of tx a hold) refl (sym (now a) ∙ taken)
     where
       by : (own : Bool) → is_hold_of tx a hold ≡ own
           → (if own then Some (joined (taken_by core tx a) hold) else taken_by core tx a) ≡ Some x
           → IsNoted (inserted one aims) a x.mode
-      by false is e = more_noted one aims a x.mode (notes a x e)
+      by false is e = more_noted one aims a x.mode (notes.noted a x e)
       by true is e =
           let same : joined (taken_by core tx a) hold ≡ x = some_same (joined (taken_by core tx a) hold) x e in
           subst (λ (h : Hold). IsNoted (inserted one aims) a h.mode) same
           (subst (λ (m : Mode). IsNoted (inserted one aims) a m) (sym (alone (taken_by core tx a)))
           (subst (λ (b : Addr). IsNoted (inserted one aims) b modes.Exclusive) (hold_at tx a hold is) new_noted))
+
+  still_there : (a : Addr) → is_some (taken_by core tx a) ≡ true → is_some (taken_by mid tx a) ≡ true
+  still_there a had = ap (λ (o : Option Hold). is_some o) (now a) ∙ by (is_hold_of tx a hold)
+    where
+      by : (own : Bool)
+          → is_some (if own then Some (joined (taken_by core tx a) hold) else taken_by core tx a) ≡ true
+      by true = refl
+      by false = had
+
+  still_taken : (it : Aim) → IsTakenIn core tx it → IsTakenIn mid tx it
+  still_taken (aim.Object a mode) is = still_there a is
+  still_taken (aim.Claim block) is = (is.0, is.1, still_there is.0 is.2)
+
+  pub notes_more : NotesTaken mid tx (inserted one aims)
+  notes_more = record {
+    noted = noted_more;
+    taken = all_more one (IsTakenIn mid tx) aims new_taken
+        (All-weaker (IsTakenIn core tx) (IsTakenIn mid tx) still_taken aims notes.taken);
+  }
 
 raised_alone : (had : Option Hold) (hold : Hold) → hold.mode ≡ modes.Exclusive
     → (joined had hold).mode ≡ modes.Exclusive
@@ -136,12 +179,16 @@ module _ (old new : Side) (beyond : NoneTakenBeyond old.core) (notes : NotesAll 
         subst (λ (n : ℕ). NotesTaken new.core n (inserted (object addr) taken)) (sym is.0)
         (notes_more old.core new.core tx taken (object addr) (for_reading tx addr modes.Exclusive)
         (λ had. raised_alone had (for_reading tx addr modes.Exclusive) refl)
-        (λ a. is.2.leaves.holds tx a) (inl (there (object addr) taken)) (own tx tx_is))
+        (λ a. is.2.leaves.holds tx a) (inl (there (object addr) taken))
+        (now_taken old.core new.core tx addr (for_reading tx addr modes.Exclusive) (is.2.leaves.holds tx addr)
+        (is_hold_by tx addr (for_reading tx addr modes.Exclusive) refl refl refl refl)) (own tx tx_is))
     wants addr room (want.Fetch back io) is =
         subst (λ (n : ℕ). NotesTaken new.core n (inserted (object addr) taken)) (sym is.0)
         (notes_more old.core new.core tx taken (object addr) (for_fetching tx addr modes.Exclusive)
         (λ had. raised_alone had (for_fetching tx addr modes.Exclusive) refl)
-        (λ a. is.2.leaves.holds tx a) (inl (there (object addr) taken)) (own tx tx_is))
+        (λ a. is.2.leaves.holds tx a) (inl (there (object addr) taken))
+        (now_taken old.core new.core tx addr (for_fetching tx addr modes.Exclusive) (is.2.leaves.holds tx addr)
+        (is_hold_by tx addr (for_fetching tx addr modes.Exclusive) refl refl refl refl)) (own tx tx_is))
     wants addr room (want.Busy back) is = same back _ is.0 is.2 (off_taken (object addr) room)
     wants addr room (want.Loading back) is = same back _ is.0 is.2 (off_taken (object addr) room)
     wants addr room (want.Outside back) is = same back _ is.0 is.2 refl
@@ -157,7 +204,12 @@ module _ (old new : Side) (beyond : NoneTakenBeyond old.core) (notes : NotesAll 
         (λ had. raised_alone had (for_writing tx addr) refl)
         (λ a. is.2.leaves.holds tx a)
         (inr (subst (λ (b : BlockNo). Contains (inserted (aim.Claim block) taken) (aim.Claim b)) (sym whole.0)
-        (there (aim.Claim block) taken))) (own tx tx_is))
+        (there (aim.Claim block) taken))) (
+          addr,
+          whole,
+          now_taken old.core new.core tx addr (for_writing tx addr) (is.2.leaves.holds tx addr)
+              (is_hold_by tx addr (for_writing tx addr) refl refl refl refl),
+        ) (own tx tx_is))
     takes block addr room (claim.Busy back) whole is = same back _ is.0 is.2 (off_taken (aim.Claim block) room)
     takes block addr room (claim.Loading back) whole is = same back _ is.0 is.2 (off_taken (aim.Claim block) room)
     takes block addr room (claim.Outside back) whole is = same back _ is.0 is.2 refl
@@ -187,9 +239,14 @@ module _ (old new : Side) (beyond : NoneTakenBeyond old.core) (notes : NotesAll 
         same back base.known.taken is.0.transaction is.0.core aims
 
   begins : (job : Job) (number : ℕ) → HasBegun job old number new → NotesAll new.worker new.core
-  begins job number has = of_state _ has.worker (λ addr hold is. absurd (beyond addr hold
-      (ap (λ (n : ℕ). taken_by old.core n addr) (sym has.next)
-      ∙ sym (ap (λ (c : CoreState). taken_by c number addr) has.core) ∙ is)))
+  begins job number has = of_state _ has.worker none
+    where
+      none : NotesTaken new.core number []
+      none = record {
+        noted = λ addr hold is. absurd (beyond addr hold (ap (λ (n : ℕ). taken_by old.core n addr) (sym has.next)
+            ∙ sym (ap (λ (c : CoreState). taken_by c number addr) has.core) ∙ is));
+        taken = All-nil (IsTakenIn new.core number);
+      }
 
   gives : (ok : Bool) (io : _) (made : Step) → HasGivenBack ok io old made new → NotesAll new.worker new.core
   gives ok io made has = of_state _ has.worker (by old.worker.begun.tx notes)
@@ -197,7 +254,7 @@ module _ (old new : Side) (beyond : NoneTakenBeyond old.core) (notes : NotesAll 
       by : (found : Option ℕ) → IfSome found (λ t. NotesTaken old.core t taken)
           → IfSome found (λ t. NotesTaken new.core t taken)
       by None noted = tt
-      by (Some tx) noted = λ addr hold is. noted addr hold (sym (has.leaves.holds tx addr) ∙ is)
+      by (Some tx) noted = same_notes old.core new.core tx taken (λ addr. has.leaves.holds tx addr) noted
 
   waits : (place : Seq) (made : Step) → Waits place old made new → NotesAll new.worker new.core
   waits place made has = by has.settled old.core.log.broken has.told

@@ -1,7 +1,7 @@
 -- Workers beside each other: whose the transactions of one core are and whose its fetches, what each has noted of
 -- what it has taken, and what a step of one leaves of the others.
 use Rattle.std.specs.Prelude.{◌≡◌, ◌⊎◌, ℕ, ◌+◌, ◌≤◌, ◌<◌, true, false, Option, Some, List, ◌∷◌, Contains}
-use Rattle.std.specs.Prelude.{IfSome, IsSomeAnd, length, slice_get}
+use Rattle.std.specs.Prelude.{All, IfSome, IsSomeAnd, is_some, length, slice_get}
 use Rattle.disk.specs.declared.block.BlockNo.{BlockNo}
 use Rattle.objects.specs.declared.addr.Addr.{Addr}
 use Rattle.objects.specs.declared.mode.Mode.{Mode}
@@ -9,6 +9,7 @@ use Rattle.txn_law.specs.Core.{CoreState, IsOut}
 use Rattle.txn_law.specs.Fetch.{Fetch}
 use Rattle.txn_law.specs.Leaves.{is_fetching, taken_by}
 use Rattle.txn_law.specs.Others.{KeepsTaken}
+use Rattle.txn_law.specs.Wishes.{IsWhole}
 use Rattle.txn_law.specs.declared.hold.Hold.{Hold}
 use Rattle.store_promise.specs.declared.aims.Aim.{Aim}
 use Rattle.store_promise.specs.declared.aims.Aim.TheVariants as aim
@@ -23,10 +24,16 @@ use Rattle.store_workers.specs.declared.workers.parts.State.{State}
 abbrev pub IsNoted : List Aim → Addr → Mode → Type 0
 IsNoted aims addr mode = Contains aims (aim.Object addr mode) ⊎ Contains aims (aim.Claim addr.block)
 
--- all that a transaction has taken is among these
-abbrev pub NotesTaken : CoreState → ℕ → List Aim → Type 0
-NotesTaken core tx aims = (addr : Addr) (hold : Hold) → taken_by core tx addr ≡ Some hold
-    → IsNoted aims addr hold.mode
+-- the transaction has taken this; a claim is of the whole block
+abbrev pub IsTakenIn : CoreState → ℕ → Aim → Type 0
+IsTakenIn core tx (aim.Object addr mode) = is_some (taken_by core tx addr) ≡ true
+IsTakenIn core tx (aim.Claim block) =
+    (addr : Addr) × IsWhole block addr × (is_some (taken_by core tx addr) ≡ true)
+
+-- all that a transaction has taken is among these, and all these it has taken
+pub record NotesTaken (core : CoreState) (tx : ℕ) (aims : List Aim) : Type 0 where
+  pub noted : (addr : Addr) (hold : Hold) → taken_by core tx addr ≡ Some hold → IsNoted aims addr hold.mode
+  pub taken : All (IsTakenIn core tx) aims
 
 -- so it is of what the worker's transaction has taken
 abbrev pub NotesAll : State → CoreState → Type 0

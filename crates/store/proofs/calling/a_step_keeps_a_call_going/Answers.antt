@@ -21,7 +21,8 @@ returns-clause-goes c = λ o now worker new made calling goes home reads lawful 
     stepped o now worker new made calling
     (c.a_workers_step_may_be_made.ensures setting told 0 calling.base so_far (fetches_of worker)
     now.boot o.first
-    calling.last entries runs tells_so runs.inodes worker new made goes calling.at_work stands)
+    calling.last entries runs tells_so (λ other differs. refl) runs.inodes worker new made goes calling.at_work
+    stands)
     (c.a_worker_tells_its_steps.ensures now.boot 0 entries old new made stands (sym since.counted) goes)
     (c.a_workers_step_is_told.ensures setting told 0 so_far tells_so worker new since.over.lawful
     lawful runs.position made goes)
@@ -48,5 +49,5 @@ returns-clause-served c = λ o now worker new made calling goes waits.
     calling.so_far
     (c.a_workers_step_may_be_made.ensures setting told 0 calling.base so_far (fetches_of worker)
     now.boot o.first
-    calling.last entries runs (is_told setting now refl) runs.inodes worker new made goes
+    calling.last entries runs (is_told setting now refl) (λ other differs. refl) runs.inodes worker new made goes
     calling.at_work stands) waits

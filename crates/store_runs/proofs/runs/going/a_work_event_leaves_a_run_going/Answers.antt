@@ -1,11 +1,12 @@
-use Rattle.std.proofs.Common.{◌≡◌, ◌∙◌, ◌+◌, ap, sym, subst, Bool, true, false, All, List, [], length, arith, None}
-use Rattle.std.proofs.Common.{refl, not, ◌&&◌}
+use Rattle.std.proofs.Common.{◌≡◌, ◌∙◌, ◌+◌, ◌≤◌, ap, sym, subst, ℕ, zero, suc, Bool, true, false, All, List, [], ◌∷◌}
+use Rattle.std.proofs.Common.{refl, not, ◌&&◌, arith, length, None, slice_get}
 use Rattle.std.proofs.lemmas.List.{length-map, take_all}
 use Rattle.std.proofs.lemmas.List.Elements.{All-nil}
 use Rattle.txn_law.specs.Window.{Footprint, after_commits, opening}
 use Rattle.layout.specs.declared.geometry.Geometry.{Geometry}
 use Rattle.layout.specs.Homes.{homes_of}
 use Rattle.store_promise.proofs.KnownAims.{taken_well}
+use Rattle.store_promise.proofs.Told.{idle_beyond}
 use Rattle.store_promise.specs.declared.events.Event.TheVariants as event
 use Rattle.store_promise.specs.OpenSince.{file_blocks}
 use Rattle.store_promise.specs.Progress.{is_idle}
@@ -31,6 +32,12 @@ use Rattle.store_runs.proofs.GoingOn.{step_alone, with_fetches}
 use Rattle.store_runs.proofs.GoingWork.{goes, goes_on, left_by, noted, noting, stand}
 use Rattle.store_runs.proofs.KeptOff.{is_caused, left_at}
 use Rattle.store_runs.proofs.runs.going.a_work_event_leaves_a_run_going.Goals as goal
+
+-- a number of none of them is no less than their count
+past_end : {X : Type 0} (xs : List X) (number : ℕ) → slice_get xs number ≡ None → length xs ≤ number
+past_end [] number none = omega arith
+past_end (x ∷ xs) zero none = cc
+past_end (x ∷ xs) (suc number) none = let past = past_end xs number none in omega (arith, past)
 
 pub returns-clause-goes : goal.returns-clause-goes
 returns-clause-goes c =
@@ -70,7 +77,9 @@ returns-clause-goes c =
     (take_all (length store.core.records) store.core.records (omega arith)) in
     let caused = is_caused boot entries told_so workers number old step_to run.since.over.tidy share list.was
     (λ other w is. let its = going.so_far.each other w is in (its.progress, its.stands, its.at_work))
-    left_of own_out made worked.goes so.at_work.with.sound.fetch so.at_work.plans in
+    (λ other none. idle_beyond o b.workers b.events t.steps going.run.well.taken other
+    (let past = past_end workers other none in let count = going.so_far.count in omega (arith, past, count))
+    (length t.steps)) left_of own_out made worked.goes so.at_work.with.sound.fetch so.at_work.plans in
     let may = step_may_by o told_so number going.base store (fetches_of worker) boot b.tree going.last entries
     with_own going.run.told run.inodes worker step_to one_geometry own_out left_of made worked.goes so.at_work.plans
     so.at_work.loads so.stands caused in

@@ -1,0 +1,253 @@
+-- What nothing that is taken keeps off, and no fetch, is left free by the other workers, as they are told.
+use Rattle.std.proofs.Common.{◌≡◌, ◌≢◌, ◌∙◌, sym, ap, subst, refl, true≢false, ℕ, ◌+◌, inr, arith, Bool, true, false}
+use Rattle.std.proofs.Common.{◌&&◌, ◌||◌, nat_eq, nat_lt, Option, Some, None, List, [], ◌∷◌, All, is_some, slice_get}
+use Rattle.std.specs.Prelude.{IfSome, IsSomeAnd}
+use Rattle.std.specs.List.{list_any}
+use Rattle.std.proofs.lemmas.Bool.{and_parts, eqb-true, false_from_ne_true, ltb-true}
+use Rattle.std.proofs.lemmas.List.Elements.{All-contains, All-head, All-tail}
+use Rattle.disk.specs.declared.block.BlockNo.{BlockNo}
+use Rattle.model.specs.Entry.{Entry}
+use Rattle.objects.specs.Addr.{Overlap}
+use Rattle.objects.specs.Mode.{is_exclusive}
+use Rattle.objects.specs.declared.addr.Addr.{Addr}
+use Rattle.objects.specs.declared.mode.Mode.TheVariants as modes
+use Rattle.txn.proofs.OwnChange.{taken_at}
+use Rattle.txn_law.specs.Core.{CoreState}
+use Rattle.txn_law.specs.Fetch.{Fetch}
+use Rattle.txn_law.specs.Holds.{IsFree, IsHoldOf, KeepsOff, is_hold_of}
+use Rattle.txn_law.specs.Leaves.{is_fetching, taken_by}
+use Rattle.txn_law.specs.Tidy.{AreTidy}
+use Rattle.txn_law.specs.Wishes.{IsOpen, IsWhole}
+use Rattle.txn_law.specs.declared.hold.Hold.{Hold}
+use Rattle.txn_law.proofs.Claims.{all_four, found_by}
+use Rattle.store_promise.specs.Progress as how
+use Rattle.store_promise.specs.Progress.{Begun, Stage, Wished, aim_keeps_off, has_taken, is_fetching as fetches}
+use Rattle.store_promise.specs.Progress.{shares, stage_takes, takes}
+use Rattle.store_promise.specs.Schedule.{IsLeftFree, Told, wish_of}
+use Rattle.store_promise.specs.declared.aims.Aim.{Aim}
+use Rattle.store_promise.specs.declared.aims.Aim.TheVariants as aim
+use Rattle.store_runs.specs.AtWork.{IsAtWork}
+use Rattle.store_workers.specs.Beside.{IsFetchAt, IsOneOf, IsTakenIn, NotesTaken, ShareCore}
+use Rattle.store_workers.specs.Knowing.{known_in}
+use Rattle.store_workers.specs.Phases.{has_transaction}
+use Rattle.store_workers.specs.Seen.{seen_in}
+use Rattle.store_workers.specs.Stages.{IsFetchOf, IsWorkerAt, StandsAt, alone, at_fetch, at_stage, begun_of, handed}
+use Rattle.store_workers.specs.Stages.{progress_in, progress_of}
+use Rattle.store_workers.specs.declared.workers.parts.Job.{Job}
+use Rattle.store_workers.specs.declared.workers.parts.Phase.{Phase}
+use Rattle.store_workers.specs.declared.workers.parts.Phase.TheVariants.{Idle, Called, Planning}
+use Rattle.store_workers.specs.declared.workers.parts.Phase.TheVariants.{Reading, Read}
+use Rattle.store_workers.specs.declared.workers.parts.Phase.TheVariants.{Refused, Again, Waiting}
+use Rattle.store_workers.specs.declared.workers.parts.State.{State}
+
+-- ---- what is taken
+
+-- one that passes, where any does
+found_any : {X : Type 0} (test : X → Bool) (P : X → Type 0) (xs : List X) → All P xs → list_any test xs ≡ true
+    → (x : X) × P x × (test x ≡ true)
+found_any test P [] all some = absurd (true≢false (sym some))
+found_any {X = X} test P (x ∷ xs) all some =
+    by (test x) refl some (found_any test P xs (All-tail P x xs all))
+  where
+    by : (passes : Bool) → test x ≡ passes → (passes || list_any test xs) ≡ true
+        → (list_any test xs ≡ true → (y : X) × P y × (test y ≡ true)) → (y : X) × P y × (test y ≡ true)
+    by true is some rest = (x, All-head P x xs all, is)
+    by false is some rest = rest some
+
+-- a hold of a transaction is its own
+owner_at : (core : CoreState) (tx : ℕ) (addr : Addr) (hold : Hold) → taken_by core tx addr ≡ Some hold
+    → hold.transaction ≡ tx
+owner_at core tx addr hold is =
+    let found = found_by (is_hold_of tx addr) core.holds hold is in
+    let four = all_four (nat_eq hold.transaction tx) (nat_eq hold.addr.block.0 addr.block.0)
+    (nat_eq hold.addr.offset addr.offset) (nat_eq hold.addr.len addr.len) found.0 in
+    eqb-true hold.transaction tx four.0
+
+-- two blocks of one number are one
+one_block : (one other : BlockNo) → one.0 ≡ other.0 → one ≡ other
+one_block one other same = let block_of : ℕ → BlockNo = λ number. record { 0 = number } in ap block_of same
+
+-- what shares a byte
+shared_by : (addr other : Addr) → shares (wish_of addr modes.Exclusive) other ≡ true → Overlap other addr
+shared_by addr other so =
+    let (front, last) = and_parts
+    (nat_eq other.block.0 addr.block.0 && nat_lt other.offset (addr.offset + addr.len))
+    (nat_lt addr.offset (other.offset + other.len)) so in
+    let (same, first) = and_parts (nat_eq other.block.0 addr.block.0)
+    (nat_lt other.offset (addr.offset + addr.len)) front in (
+      one_block other.block addr.block (eqb-true other.block.0 addr.block.0 same),
+      ltb-true other.offset (addr.offset + addr.len) first,
+      ltb-true addr.offset (other.offset + other.len) last,
+    )
+
+-- a whole block does with each part of it
+whole_shares : (block : BlockNo) (addr other : Addr) → nat_eq block.0 addr.block.0 ≡ true → IsWhole block other
+    → Overlap other addr
+whole_shares block addr other same whole =
+    let low = whole.1 in let long = whole.2 in let some = addr.some in let within = addr.within in (
+      whole.0 ∙ one_block block addr.block (eqb-true block.0 addr.block.0 same),
+      omega (arith, low, some),
+      omega (arith, low, long, some, within),
+    )
+
+-- ---- what is told of one worker
+
+module _ (w : State) where
+  abbrev mine : Begun
+  mine = begun_of w.begun.tx (seen_in w.work.snap) w.known
+
+  -- what it is told to have taken it has noted, in a transaction
+  module _ (wished : Wished) where
+    of_stage : (job : Option Job) (stage : Stage) → has_taken wished (at_stage job stage) ≡ true
+        → stage_takes wished stage ≡ true
+    of_stage None stage so = absurd (true≢false (sym so))
+    of_stage (Some job) stage so = so
+
+    of_fetch : (stage : how.Taken → Stage)
+        → ((taken : how.Taken) → stage_takes wished (stage taken) ≡ takes wished mine) → (wish : Option Addr)
+        → stage_takes wished (at_fetch stage mine wish) ≡ true → takes wished mine ≡ true
+    of_fetch stage same None so = so
+    of_fetch stage same (Some addr) so = sym (same (alone addr)) ∙ so
+
+    noted_in : (phase : Phase) → has_taken wished (progress_in phase w.work.job mine w.asked w.known) ≡ true
+        → (has_transaction phase ≡ true) × (takes wished mine ≡ true)
+    noted_in Idle so = absurd (true≢false (sym so))
+    noted_in Called so = absurd (true≢false (sym (of_stage w.work.job (how.Called (known_in w.known)) so)))
+    noted_in Planning so = (refl, of_stage w.work.job (how.Planning mine) so)
+    noted_in Reading so = (
+      refl,
+      of_fetch (λ taken. how.Reading mine taken) (λ taken. refl) w.asked.wish
+          (of_stage w.work.job (at_fetch (λ taken. how.Reading mine taken) mine w.asked.wish) so),
+    )
+    noted_in (Read ok) so = (
+      refl,
+      of_fetch (λ taken. how.Read mine taken ok) (λ taken. refl) w.asked.wish
+          (of_stage w.work.job (at_fetch (λ taken. how.Read mine taken ok) mine w.asked.wish) so),
+    )
+    noted_in (Refused why) so = (refl, of_stage w.work.job (how.Refused mine why) so)
+    noted_in Again so = (refl, of_stage w.work.job (how.Again mine w.known.off) so)
+    noted_in (Waiting place) so =
+        absurd (true≢false (sym (of_stage w.asked.waiting (how.Waiting place.0) so)))
+
+  -- and what it is told to fetch it fetches
+  module _ (block : BlockNo) where
+    not_at : (job : Option Job) (stage : Stage) → ((j : how.Job) → fetches block (how.At j stage) ≡ false)
+        → fetches block (at_stage job stage) ≡ true → ⊥
+    not_at None stage never so = true≢false (sym so)
+    not_at (Some job) stage never so = true≢false (sym so ∙ never (handed job))
+
+    fetch_at : (stage : how.Taken → Stage)
+        → ((j : how.Job) (taken : how.Taken) → fetches block (how.At j (stage taken))
+        ≡ nat_eq taken.addr.block.0 block.0) → IsFetchOf w
+        → fetches block (at_stage w.work.job (at_fetch stage mine w.asked.wish)) ≡ true
+        → IsFetchAt block w.begun.io
+    fetch_at stage tells has = by w.work.job w.asked.wish has
+      where
+        same_at : (addr : Addr) (io : Option Fetch) → IsSomeAnd io (λ (io : Fetch). io.block ≡ addr.block)
+            → addr.block ≡ block → IsFetchAt block io
+        same_at addr None at same = absurd at
+        same_at addr (Some io) at same = at ∙ same
+
+        by : (job : Option Job) (wish : Option Addr)
+            → IsSomeAnd wish (λ addr. IsSomeAnd w.begun.io (λ (io : Fetch). io.block ≡ addr.block))
+            → fetches block (at_stage job (at_fetch stage mine wish)) ≡ true → IsFetchAt block w.begun.io
+        by None wish at so = absurd (true≢false (sym so))
+        by (Some job) None at so = absurd at
+        by (Some job) (Some addr) at so =
+            same_at addr w.begun.io at (one_block addr.block block (eqb-true addr.block.0 block.0
+            (sym (tells (handed job) (alone addr)) ∙ so)))
+
+    fetch_in : (boot : ℕ) (entries : List Entry) (phase : Phase) → StandsAt boot entries phase w
+        → fetches block (progress_in phase w.work.job mine w.asked w.known) ≡ true → IsFetchAt block w.begun.io
+    fetch_in boot entries Idle stands so = absurd (true≢false (sym so))
+    fetch_in boot entries Called stands so =
+        absurd (not_at w.work.job (how.Called (known_in w.known)) (λ j. refl) so)
+    fetch_in boot entries Planning stands so = absurd (not_at w.work.job (how.Planning mine) (λ j. refl) so)
+    fetch_in boot entries Reading stands so =
+        fetch_at (λ taken. how.Reading mine taken) (λ j taken. refl) stands.1 so
+    fetch_in boot entries (Read ok) stands so =
+        fetch_at (λ taken. how.Read mine taken ok) (λ j taken. refl) stands.1 so
+    fetch_in boot entries (Refused why) stands so =
+        absurd (not_at w.work.job (how.Refused mine why) (λ j. refl) so)
+    fetch_in boot entries Again stands so =
+        absurd (not_at w.work.job (how.Again mine w.known.off) (λ j. refl) so)
+    fetch_in boot entries (Waiting place) stands so =
+        absurd (not_at w.asked.waiting (how.Waiting place.0) (λ j. refl) so)
+
+-- ---- what the others leave free
+
+module _ (boot : ℕ) (entries : List Entry) (told : Told) (core : CoreState) (workers : List State) (number : ℕ)
+    (worker : State) (tidy : AreTidy core) (share : ShareCore core workers) (is : IsOneOf workers number worker)
+    (each : (other : ℕ) (w : State) → IsOneOf workers other w
+    → (told.workers other ≡ progress_of w) × IsWorkerAt boot entries w × IsAtWork w core)
+    (beyond : (other : ℕ) → slice_get workers other ≡ None → told.workers other ≡ how.Idle)
+    (tx : ℕ) (tx_is : worker.begun.tx ≡ Some tx) (addr : Addr) where
+  abbrev wished : Wished
+  wished = wish_of addr modes.Exclusive
+
+  -- nothing of what another has taken has a byte of what is free
+  module _ (free : IsFree core.holds tx addr modes.Exclusive) (other : ℕ) (differs : other ≢ number) (w : State)
+      (w_is : IsOneOf workers other w) (t : ℕ) (t_is : w.begun.tx ≡ Some t) where
+    clash : (a : Addr) → Overlap a addr → is_some (taken_by core t a) ≡ true → ⊥
+    clash a over taken = by (taken_by core t a) refl taken
+      where
+        by : (found : Option Hold) → taken_by core t a ≡ found → is_some found ≡ true → ⊥
+        by None none taken = true≢false (sym taken)
+        by (Some hold) hold_is taken =
+            let (there, at) = taken_at core t tidy a hold hold_is in
+            let own : IsHoldOf tx addr hold = All-contains
+            (λ (h : Hold). Overlap h.addr addr → KeepsOff tx modes.Exclusive h → IsHoldOf tx addr h) core.holds
+            hold free.others there (subst (λ (b : Addr). Overlap b addr) (sym at) over) (inr (inr refl)) in
+            let same : t ≡ tx = sym (owner_at core t a hold hold_is) ∙ own.0 in
+            differs (share.alone other number tx w worker w_is is (t_is ∙ ap (λ (n : ℕ). Some n) same) tx_is)
+
+    one_clash : (one : Aim) → IsTakenIn core t one → aim_keeps_off wished one ≡ true → ⊥
+    one_clash (aim.Object a mode) taken off =
+        clash a (shared_by addr a (and_parts (shares wished a)
+        (is_exclusive mode || is_exclusive modes.Exclusive) off).0) taken
+    one_clash (aim.Claim block) taken off =
+        clash taken.0 (whole_shares block addr taken.0 off taken.1) taken.2
+
+    never_noted : NotesTaken core t w.known.taken → takes wished (mine w) ≡ true → ⊥
+    never_noted notes some =
+        let (one, taken, off) = found_any (aim_keeps_off wished) (IsTakenIn core t) w.known.taken notes.taken some in
+        one_clash one taken off
+
+  never_taken : IsFree core.holds tx addr modes.Exclusive → (other : ℕ) → other ≢ number
+      → (found : Option State) → slice_get workers other ≡ found
+      → has_taken wished (told.workers other) ≡ true → ⊥
+  never_taken free other differs None none so =
+      true≢false (sym so ∙ ap (has_taken wished) (beyond other none))
+  never_taken free other differs (Some w) w_is so =
+      let (told_is, stands, at) = each other w w_is in
+      let (out, some) = noted_in w wished w.phase (sym (ap (has_taken wished) told_is) ∙ so) in
+      by w.begun.tx refl (at.with.sound.transaction ∙ out) at.notes some
+    where
+      by : (found : Option ℕ) → w.begun.tx ≡ found → is_some found ≡ true
+          → IfSome found (λ t. NotesTaken core t w.known.taken) → takes wished (mine w) ≡ true → ⊥
+      by None none out notes some = true≢false (sym out)
+      by (Some t) t_is out notes some = never_noted free other differs w w_is t t_is notes some
+
+  -- and no other fetches a block of which no fetch is pending
+  never_fetched : is_fetching core addr.block ≡ false → (other : ℕ) → (found : Option State)
+      → slice_get workers other ≡ found → fetches addr.block (told.workers other) ≡ true → ⊥
+  never_fetched settled other None none so =
+      true≢false (sym so ∙ ap (fetches addr.block) (beyond other none))
+  never_fetched settled other (Some w) w_is so =
+      let (told_is, stands, at) = each other w w_is in
+      pending_at w.begun.io (fetch_in w addr.block boot entries w.phase stands.stands
+      (sym (ap (fetches addr.block) told_is) ∙ so)) (share.fetched other w w_is)
+    where
+      pending_at : (io : Option Fetch) → IsFetchAt addr.block io
+          → IfSome io (λ (found : Fetch). is_fetching core found.block ≡ true) → ⊥
+      pending_at None at pending = absurd at
+      pending_at (Some io) at pending =
+          true≢false (sym pending ∙ ap (λ (b : BlockNo). is_fetching core b) at ∙ settled)
+
+  pub left_free : IsOpen core tx addr modes.Exclusive → IsLeftFree told number wished
+  left_free left = record {
+    free = λ other differs. false_from_ne_true (has_taken wished (told.workers other))
+        (never_taken left.free other differs (slice_get workers other) refl);
+    settled = λ other differs. false_from_ne_true (fetches addr.block (told.workers other))
+        (never_fetched left.settled other (slice_get workers other) refl);
+  }
