@@ -187,6 +187,9 @@ fn go_on<L: Ledger, G: Whole, I: Whole, P, S: Source, R: Wait + Clock>(
     let mut seat = seat.lock(rt);
     let mut kept_off = 0;
     for _ in rt.forever() {
+        if seat.is_due() {
+            read(rt, hall, number, &mut *seat);
+        }
         let rounds = hall.signs.rounds.count();
         let (made, look) = steps(rt, hall, &mut *seat);
         if let Some(look) = look {
@@ -202,11 +205,10 @@ fn go_on<L: Ledger, G: Whole, I: Whole, P, S: Source, R: Wait + Clock>(
             Told::Full => wait_for_room(rt, hall, rounds),
             Told::Nothing | Told::Committed => kept_off = 0,
         }
-        if seat.is_due() {
-            read(rt, hall, number, &mut *seat);
-        } else if let Some(place) = seat.waits() {
+        if let Some(place) = seat.waits() {
             return Driven::Waits(place.0);
-        } else if made.turn == Turn::Idle {
+        }
+        if made.turn == Turn::Idle && !seat.is_due() {
             return Driven::Empty;
         }
     }
