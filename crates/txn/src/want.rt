@@ -76,8 +76,8 @@ impl<C: Change> State<C> {
         }
     }
 
-    // Takes the object, which is free, and its block's place in memory where it has none. All room is made
-    // before anything changes.
+    // Takes the object, which is free, and its block's place in memory where it has none. Where there is no room
+    // nothing changes.
     fn take_for_reading(
         &mut self,
         alloc: Global,
