@@ -109,7 +109,7 @@ pub all_both : {X : Type 0} (P Q R : X → Type 0) → ((x : X) → P x → Q x 
     → All Q xs → All R xs
 all_both P Q R f xs one other = λ k d lt. f (slice_index_or xs k d) (one k d lt) (other k d lt)
 
-once_here : (block at : BlockNo) → nat_eq at.0 block.0 ≡ true → once_at block at ≡ 1
+pub once_here : (block at : BlockNo) → nat_eq at.0 block.0 ≡ true → once_at block at ≡ 1
 once_here block at e = ap (λ t. if t then 1 else 0) e
 
 once_elsewhere : (block at : BlockNo) → nat_eq at.0 block.0 ≡ false → once_at block at ≡ 0

@@ -23,20 +23,6 @@ map_filter f p (x ∷ xs) =
       | false ↦ map_filter f p xs
     ]
 
--- a value passes where what is made of it does
-pub any_of_map : {X Y : Type 0} (f : X → Y) (p : Y → Bool) (xs : List X)
-    → list_any p (map f xs) ≡ list_any (λ x. p (f x)) xs
-any_of_map f p [] = refl
-any_of_map f p (x ∷ xs) = ap (λ b. p (f x) || b) (any_of_map f p xs)
-
--- the blocks that are kept, told by the commits' records and by what is made of them
-pub swept_of_map : {X : Type 0} (f : X → Footprint) (holds : List Hold) (xs : List X) (present : List Present)
-    → filter (λ entry. is_none entry.content || is_taken holds entry.block
-    || list_any (λ x. lies_in (f x).read entry.block) xs) present ≡ swept holds (map f xs) present
-swept_of_map f holds xs present =
-    λ i. filter (λ entry. is_none entry.content || is_taken holds entry.block
-    || sym (any_of_map f (λ kept. lies_in kept.read entry.block) xs) i) present
-
 -- the records with a commit's, told by the commits and by what is made of them
 pub recorded : {X : Type 0} (f : X → Footprint) (log : Log) (plan : Planned) (installed place : ℕ)
     (xs : List X) (x : X) → installed ≡ installed_place log → place ≡ log.places
