@@ -72,12 +72,19 @@ pub(crate) fn keep<C: Change>(
     }
 }
 
+// Whether the place is further than what is installed.
+fn is_past(place: Seq, installed: Seq) -> bool
+    ensures { result ≡ nat_lt installed.0 place.0 }
+{
+    place > installed
+}
+
 // Takes the pins off what a record read whose place is no further than this.
 fn forget_one<C: Change>(present: &mut Residency, kept: &Record<C>, installed: Seq)
     ensures { Unpins present.old (λ at. if nat_lt installed.0 kept.now.place.0 then 0
         else objects_in (C.planned kept.now.change).read at) present.new }
 {
-    if kept.place > installed {
+    if is_past(kept.place, installed) {
         present.lawful();
         return;
     }

@@ -9,7 +9,7 @@ use Rattle.txn_law.specs.declared.hold.Hold.{Hold}
 use Rattle.txn.proofs.records.unpin_holds.Goals as goal
 
 -- what a hold counts for, where the transaction has it
-counts : ℕ → BlockNo → Hold → ℕ
+abbrev counts : ℕ → BlockNo → Hold → ℕ
 counts tx at hold = if not (nat_eq hold.transaction tx) then 0 else once_at hold.addr.block at
 
 pub loop-hold-init : goal.loop-hold-init
