@@ -54,7 +54,8 @@ total_more count xs i d lt =
 
 or_sum : (a b : ℕ) → (nat_lt 0 a || nat_lt 0 b) ≡ nat_lt 0 (a + b)
 or_sum zero b = let e : b ≡ 0 + b = omega arith in ap (nat_lt 0) e
-or_sum (suc a) b = sym (lt-ltb 0 (suc a + b) (omega arith))
+or_sum (suc a) b =
+    ap (λ t. t || nat_lt 0 b) (lt-ltb 0 (suc a) (omega arith)) ∙ sym (lt-ltb 0 (suc a + b) (omega arith))
 
 -- somebody passes just where there is something to count
 any_total : {X : Type 0} (p : X → Bool) (count : X → ℕ) → ((x : X) → p x ≡ nat_lt 0 (count x)) → (xs : List X)
@@ -129,6 +130,12 @@ not_both tx addr x y beside one other =
     beside (block, omega (arith, from, y.addr.some), omega (arith, from, x.addr.some))
     (inl (eqb-true x.transaction tx a.0 ∙ sym (eqb-true y.transaction tx b.0)))
 
+abbrev as_one : Bool → ℕ
+as_one t = if t then 1 else 0
+
+one_at_itself : (b n : ℕ) → n ≡ b → as_one (nat_eq b n) ≡ 1
+one_at_itself b n e = ap as_one (eq-eqb b n (sym e))
+
 module _ (tx : ℕ) (addr : Addr) (at : BlockNo) where
   abbrev own : Hold → Bool
   own hold = is_hold_of tx addr hold
@@ -173,9 +180,6 @@ module _ (tx : ℕ) (addr : Addr) (at : BlockNo) where
   held_pinned [] e = absurd cc
   held_pinned (x ∷ xs) e = go (own x) refl (held_pinned xs) e
     where
-      here : (b : ℕ) → (if nat_eq b b then 1 else 0) ≡ 1
-      here b = ap (λ t. if t then 1 else 0) (eq-eqb b b refl)
-
       go : (t : Bool) → own x ≡ t → (is_some (hold_of xs tx addr) ≡ true → 0 < holds_in xs addr.block)
           → is_some (cond t (Some x) (hold_of xs tx addr)) ≡ true
           → 0 < once_at x.addr.block addr.block + holds_in xs addr.block
@@ -183,7 +187,7 @@ module _ (tx : ℕ) (addr : Addr) (at : BlockNo) where
           let a = all_four (nat_eq x.transaction tx) (nat_eq x.addr.block.0 addr.block.0)
           (nat_eq x.addr.offset addr.offset) (nat_eq x.addr.len addr.len) mine in
           let one : once_at x.addr.block addr.block ≡ 1 =
-          same addr.block.0 x.addr.block.0 (eqb-true x.addr.block.0 addr.block.0 a.1) in
+          one_at_itself addr.block.0 x.addr.block.0 (eqb-true x.addr.block.0 addr.block.0 a.1) in
           omega (arith, one)
       go false mine rest e = let some = rest e in omega (arith, some)
 

@@ -8,7 +8,7 @@ use Rattle.txn.proofs.Renewing.{among_none, among_step}
 use Rattle.txn.proofs.refreshing.refresh.Goals as goal
 
 -- the same blocks pinned as often
-with_blocks : Resident → List Present → Resident
+abbrev with_blocks : Resident → List Present → Resident
 with_blocks resident blocks = record resident { blocks = blocks }
 
 pub loop-block-init : goal.loop-block-init

@@ -71,7 +71,7 @@ settle-requires g c = λ e.
     let core = c.self.inside in
     let block : BlockNo = c.args.hold.addr.block in
     let some = held_pinned c.args.hold.transaction c.args.hold.addr block core.holds
-    (sym c.is_held_by.ensures ∙ e) in
+    (sym c.is_held_by-again.ensures ∙ e) in
     let counted = c.self.invariant.counted block in
     let more = c.in_ok-bring.ensures.pinned block in
     let one = once_here block block (eq-eqb block.0 block.0 refl) in
@@ -102,8 +102,8 @@ invariant_of-self-2 g c =
     subst (λ (before : CoreState). (newer : Content) → newest before.log c.args.hold.addr.block.0 ≡ Some newer
     → c.args.content ≡ Some newer) (sym c.self.view_is) c.requires.logged in
     let pins : (at : BlockNo) → pins_of new at ≡ pins_of old at + newly_in core.holds c.args.hold at =
-    λ at. settled _ c.is_held_by.result (pins_of old at) (pins_of brought at) (pins_of new at)
-    (once_at c.args.hold.addr.block at) c.is_held_by.ensures (c.in_ok-bring.ensures.pinned at)
+    λ at. settled _ c.is_held_by-again.result (pins_of old at) (pins_of brought at) (pins_of new at)
+    (once_at c.args.hold.addr.block at) c.is_held_by-again.ensures (c.in_ok-bring.ensures.pinned at)
     (c.settle.ensures.pins at) in
     subst (λ (holds : List Hold). IsNeat core.log holds records new) (sym c.in_default.ensures.taken)
     (neat_brought core.log core.holds c.args.hold records old new c.args.content c.lawful.ensures.apart absent
