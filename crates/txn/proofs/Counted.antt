@@ -1,16 +1,16 @@
 -- Lemmas: how often blocks are pinned, as holds and kept commits come and go.
-use Rattle.std.proofs.Common.{◌≡◌, refl, ap, sym, ◌∙◌, ℕ, ◌+◌, ◌-◌, ◌<◌, ◌≤◌, zero, suc, Bool, true, false, not}
-use Rattle.std.proofs.Common.{cond, ◌||◌, ◌&&◌, if◌then◌else◌, nat_eq, nat_lt, List, [], ◌∷◌, ◌++◌, All, map}
-use Rattle.std.proofs.Common.{Option, Some, None, is_none, slice_index_or, get_or, take, length, arith, inl}
-use Rattle.std.proofs.lemmas.Bool.{ltb-true, lt-ltb, eqb-true, eq-eqb}
+use Rattle.std.proofs.Common.{◌≡◌, refl, ap, sym, ◌∙◌, ℕ, ◌+◌, ◌<◌, ◌≤◌, zero, suc, Bool, true, false, not}
+use Rattle.std.proofs.Common.{cond, ◌||◌, if◌then◌else◌, nat_eq, nat_lt, List, [], ◌∷◌, ◌++◌, All, map}
+use Rattle.std.proofs.Common.{Option, Some, None, is_none, get_or, take, length, arith, inl}
+use Rattle.std.proofs.lemmas.Bool.{lt-ltb, eqb-true, eq-eqb}
 use Rattle.std.proofs.lemmas.Bool.Decides.{nat_tests}
 use Rattle.std.proofs.lemmas.List.{take_more}
 use Rattle.std.proofs.lemmas.List.Elements.{All-head, All-tail}
-use Rattle.std.specs.List.{list_any, filter, find}
+use Rattle.std.specs.List.{list_any, filter}
 use Rattle.std.specs.Prelude.{is_some}
 use Rattle.disk.specs.declared.block.BlockNo.{BlockNo}
 use Rattle.objects.specs.Object.{ObjectBytes}
-use Rattle.objects.specs.Pins.{Resident, once_at, pins_of, wanted}
+use Rattle.objects.specs.Pins.{once_at, wanted}
 use Rattle.objects.specs.declared.addr.Addr.{Addr}
 use Rattle.objects.specs.declared.present.Present.{Present}
 use Rattle.objects.proofs.Entries.{same_block}

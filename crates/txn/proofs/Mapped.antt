@@ -1,13 +1,13 @@
 -- Tests of a list's values, and of what is made of them.
-use Rattle.std.proofs.Common.{◌≡◌, refl, ap, sym, Bool, true, false, cond, ◌||◌, List, [], ◌∷◌, map, is_none}
+use Rattle.std.proofs.Common.{◌≡◌, refl, ap, sym, Bool, true, false, cond, List, [], ◌∷◌, map}
 use Rattle.std.proofs.Common.{ℕ, ◌∙◌, ◌++◌, nat_lt, if◌then◌else◌}
 use Rattle.std.proofs.lemmas.List.{map-append}
-use Rattle.std.specs.List.{list_any, filter}
+use Rattle.std.specs.List.{filter}
 use Rattle.wal_law.specs.Log.{Log, installed_place}
 use Rattle.txn_law.specs.Commit.{Planned, footprint, with_record, refreshed, committed}
 use Rattle.txn_law.specs.Core.{CoreState, ended, installed, past, without}
-use Rattle.txn_law.specs.Holds.{is_taken, released}
-use Rattle.txn_law.specs.Records.{lies_in, swept}
+use Rattle.txn_law.specs.Holds.{released}
+use Rattle.txn_law.specs.Records.{swept}
 use Rattle.txn_law.specs.Window.{Footprint}
 use Rattle.txn_law.specs.declared.hold.Hold.{Hold}
 use Rattle.objects.specs.declared.present.Present.{Present}

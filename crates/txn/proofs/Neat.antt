@@ -1,14 +1,13 @@
 -- Lemmas: what keeps the lists of a core neat.
-use Rattle.std.proofs.Common.{◌≡◌, refl, ap, sym, ◌∙◌, subst, ℕ, ◌+◌, ◌-◌, ◌≤◌, Bool, true, false, not, cond}
-use Rattle.std.proofs.Common.{◌||◌, ◌&&◌, if◌then◌else◌, nat_eq, nat_lt, List, [], ◌∷◌, ◌++◌, length, All, map}
-use Rattle.std.proofs.Common.{Option, Some, None, is_none, slice_index_or, arith}
+use Rattle.std.proofs.Common.{◌≡◌, refl, sym, ◌∙◌, subst, ℕ, ◌+◌, ◌≤◌, Bool, true, false, not}
+use Rattle.std.proofs.Common.{◌||◌, ◌&&◌, if◌then◌else◌, nat_eq, nat_lt, List, [], ◌∷◌, ◌++◌, length, All}
+use Rattle.std.proofs.Common.{Option, None, arith}
 use Rattle.std.proofs.lemmas.Bool.{ltb-true, lt-ltb, eqb-true}
 use Rattle.std.proofs.lemmas.List.Elements.{All-nil, All-cons, All-weaker, All-filter, All-append, filter_passes}
 use Rattle.std.specs.Prelude.{is_some, Result, Ok, Err, OnOk, OnErr}
-use Rattle.std.specs.List.{filter}
 use Rattle.disk.specs.Device.{Content}
 use Rattle.disk.specs.declared.block.BlockNo.{BlockNo}
-use Rattle.wal_law.specs.Log.{Log, installed_place, place_before, newest}
+use Rattle.wal_law.specs.Log.{Log, installed_place, place_before}
 use Rattle.wal_law.specs.Effects.{is_all_home, HasAppended, HasGoneOn}
 use Rattle.wal_law.specs.declared.change.LogChange.{LogChange}
 use Rattle.txn_law.specs.Commit.{Planned, footprint, with_record, refreshed}

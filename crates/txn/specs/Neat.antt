@@ -1,7 +1,7 @@
 -- What is true of the lists of every core: each block is pinned once for each hold of a part of it and once for each
 -- object that a kept commit read in it, each block in memory that the log has is what the log has, and each commit
 -- that is kept is still to be installed. What isn't pinned goes from memory by itself.
-use Rattle.std.specs.Prelude.{◌≡◌, ℕ, ◌+◌, ◌<◌, ◌≤◌, Some, List, All}
+use Rattle.std.specs.Prelude.{◌≡◌, ◌+◌, ◌<◌, ◌≤◌, Some, List, All}
 use Rattle.disk.specs.Device.{Content}
 use Rattle.disk.specs.declared.block.BlockNo.{BlockNo}
 use Rattle.wal_law.specs.Log.{Log, installed_place, newest}

@@ -1,6 +1,6 @@
 -- How often each block is pinned: once for each hold of a part of it, and once for each object that a kept commit
 -- read in it.
-use Rattle.std.specs.Prelude.{◌≡◌, ℕ, ◌+◌, ◌<◌, ◌^◌, if◌then◌else◌, List, [], ◌∷◌, All, length, nat_eq, nat_lt, not}
+use Rattle.std.specs.Prelude.{ℕ, ◌+◌, ◌<◌, ◌^◌, if◌then◌else◌, List, [], ◌∷◌, All, length, nat_eq, not}
 use Rattle.std.specs.Prelude.{is_some}
 use Rattle.disk.specs.declared.block.BlockNo.{BlockNo}
 use Rattle.objects.specs.Object.{ObjectBytes}

@@ -63,7 +63,13 @@ impl<C: Change> State<C> {
                 let place = self.log.places();
                 refresh(&mut self.present, &self.log, blocks);
                 let installed = self.log.installed();
-                keep(&mut self.records, &mut self.present, place, change, installed);
+                keep(
+                    &mut self.records,
+                    &mut self.present,
+                    place,
+                    change,
+                    installed,
+                );
                 self.close(number);
                 Commit::Committed(place)
             }

@@ -24,7 +24,9 @@ pub(crate) fn can_pin_each(present: &Residency, objects: &[Object]) -> bool
     ensures { IsTrue result ↔ AreCountable present.now objects.now }
 {
     let more = objects.len();
-    objects.iter().all(|object| present.can_pin(object.addr().block, more))
+    objects
+        .iter()
+        .all(|object| present.can_pin(object.addr().block, more))
 }
 
 // Pins the block of each object once more, all of which are pinned.
@@ -92,11 +94,7 @@ fn forget_one<C: Change>(present: &mut Residency, kept: &Record<C>, installed: S
 }
 
 // Takes the pins off what the records up to a place read.
-fn forget_each<C: Change>(
-    present: &mut Residency,
-    records: &VecDeque<Record<C>>,
-    installed: Seq,
-)
+fn forget_each<C: Change>(present: &mut Residency, records: &VecDeque<Record<C>>, installed: Seq)
     ensures { Unpins present.old (λ at. total (λ kept. if nat_lt installed.0 kept.place.0 then 0
         else objects_in (C.planned kept.change).read at) records.now.items) present.new }
 {

@@ -72,7 +72,11 @@ impl<C: Change> State<C> {
             return Claim::Loading(tx);
         }
         self.holds.lawful();
-        match take(&mut self.holds, &mut self.present, for_writing(tx.number, addr)) {
+        match take(
+            &mut self.holds,
+            &mut self.present,
+            for_writing(tx.number, addr),
+        ) {
             Ok(()) => Claim::Held(tx),
             Err(_) => Claim::NoMemory(tx),
         }
@@ -96,7 +100,11 @@ impl<C: Change> State<C> {
         if let Some(content) = self.present.content_of(addr.block) {
             let bytes = extract(alloc, content, addr)?;
             self.holds.lawful();
-            take(&mut self.holds, &mut self.present, for_reading(transaction, addr, mode))?;
+            take(
+                &mut self.holds,
+                &mut self.present,
+                for_reading(transaction, addr, mode),
+            )?;
             return Ok(Source::Bytes(bytes));
         }
         let mut content = Block::zeros(alloc)?;

@@ -1,4 +1,4 @@
-use Rattle.std.proofs.Common.{◌≡◌, ◌-◌, ◌∙◌, ℕ, if◌then◌else◌, nat_lt, arith, ap, sym, Bool, true}
+use Rattle.std.proofs.Common.{◌≡◌, ◌-◌, ◌∙◌, if◌then◌else◌, nat_lt, arith, ap, sym, Bool, true}
 use Rattle.objects.specs.Pins.{Resident, pins_of}
 use Rattle.objects.proofs.Wanted.{wanted_all}
 use Rattle.txn.specs.Pinned.{objects_in}

@@ -1,10 +1,9 @@
-use Rattle.std.proofs.Common.{◌≡◌, ◌<◌, ◌≤◌, ◌+◌, ◌^◌, ◌∙◌, ℕ, List, length, take, get_or, ap, subst, sym, arith, refl}
+use Rattle.std.proofs.Common.{◌<◌, ◌+◌, ◌^◌, ◌∙◌, List, length, take, ap, subst, sym, arith, refl}
 use Rattle.std.proofs.lemmas.List.{take_all, length-take-le}
-use Rattle.disk.specs.declared.block.BlockNo.{BlockNo}
 use Rattle.objects.specs.Object.{ObjectBytes}
 use Rattle.objects.specs.declared.addr.Addr.{Addr}
 use Rattle.objects.specs.Pins.{Resident, Pins, once_at, pins_of}
-use Rattle.objects.proofs.Wanted.{pins_none, pins_then}
+use Rattle.objects.proofs.Wanted.{pins_then}
 use Rattle.txn.specs.Pinned.{objects_in}
 use Rattle.txn.proofs.Counted.{total_more, objects_most}
 use Rattle.txn.proofs.records.pin_each.Goals as goal

@@ -1,4 +1,4 @@
-use Rattle.std.proofs.Common.{◌≡◌, ◌<◌, ◌+◌, ◌∙◌, ℕ, List, length, take, get_or, ap, subst, sym, arith}
+use Rattle.std.proofs.Common.{◌+◌, ◌∙◌, List, take, ap, subst, sym}
 use Rattle.std.proofs.lemmas.List.{take_all}
 use Rattle.objects.specs.Object.{ObjectBytes}
 use Rattle.objects.specs.declared.addr.Addr.{Addr}

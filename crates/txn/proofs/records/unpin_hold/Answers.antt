@@ -1,4 +1,4 @@
-use Rattle.std.proofs.Common.{◌≡◌, ◌-◌, ◌∙◌, ℕ, if◌then◌else◌, nat_eq, not, arith, ap, sym, Bool, false, ne_eqb}
+use Rattle.std.proofs.Common.{◌≡◌, ◌-◌, if◌then◌else◌, nat_eq, not, arith, ap, sym, Bool, false, ne_eqb}
 use Rattle.objects.specs.Pins.{Resident, once_at, pins_of}
 use Rattle.objects.proofs.Wanted.{wanted_all}
 use Rattle.txn.proofs.records.unpin_hold.Goals as goal

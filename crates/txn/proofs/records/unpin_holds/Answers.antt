@@ -1,4 +1,4 @@
-use Rattle.std.proofs.Common.{◌≡◌, ◌<◌, ◌+◌, ◌∙◌, ℕ, if◌then◌else◌, not, nat_eq, List, length, take, ap, subst, sym, arith}
+use Rattle.std.proofs.Common.{◌≡◌, ◌+◌, ◌∙◌, ℕ, if◌then◌else◌, not, nat_eq, List, take, ap, subst, sym}
 use Rattle.std.proofs.lemmas.List.{take_all}
 use Rattle.disk.specs.declared.block.BlockNo.{BlockNo}
 use Rattle.objects.specs.Pins.{Resident, Unpins, once_at}

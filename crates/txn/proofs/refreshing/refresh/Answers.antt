@@ -1,9 +1,9 @@
-use Rattle.std.proofs.Common.{◌≡◌, ◌∙◌, ◌+◌, List, ap, map, sym, take}
+use Rattle.std.proofs.Common.{◌∙◌, List, ap, map, sym}
 use Rattle.std.proofs.lemmas.List.{take_all}
 use Rattle.disk.specs.declared.block.BlockNo.{BlockNo}
 use Rattle.objects.specs.Pins.{Resident}
 use Rattle.objects.specs.declared.present.Present.{Present}
-use Rattle.txn.specs.Refreshed.{refreshed_among, refreshed_where}
+use Rattle.txn.specs.Refreshed.{refreshed_among}
 use Rattle.txn.proofs.Renewing.{among_none, among_step}
 use Rattle.txn.proofs.refreshing.refresh.Goals as goal
 

@@ -1,4 +1,4 @@
-use Rattle.std.proofs.Common.{◌≡◌, List, ap}
+use Rattle.std.proofs.Common.{List, ap}
 use Rattle.objects.specs.Pins.{Resident}
 use Rattle.objects.specs.declared.present.Present.{Present}
 use Rattle.txn.proofs.Renewing.{where_unlogged}

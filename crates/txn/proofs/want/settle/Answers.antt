@@ -1,6 +1,6 @@
-use Rattle.std.proofs.Common.{◌≡◌, ◌<◌, ◌∙◌, ℕ, arith, refl}
+use Rattle.std.proofs.Common.{◌<◌, ◌∙◌, arith, refl}
 use Rattle.std.proofs.lemmas.Bool.{eq-eqb}
-use Rattle.objects.specs.Pins.{Resident, once_at, pins_of}
+use Rattle.objects.specs.Pins.{Resident, pins_of}
 use Rattle.objects.proofs.Wanted.{wanted_all, unpinned_more, once_here}
 use Rattle.txn.proofs.want.settle.Goals as goal
 

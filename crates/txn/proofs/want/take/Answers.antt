@@ -1,6 +1,6 @@
-use Rattle.std.proofs.Common.{◌≡◌, ◌∙◌, ◌≤◌, ℕ, arith, ap}
+use Rattle.std.proofs.Common.{◌∙◌, ◌≤◌, arith, ap}
 use Rattle.disk.specs.declared.block.BlockNo.{BlockNo}
-use Rattle.objects.specs.Pins.{Resident, once_at, pins_of, wanted}
+use Rattle.objects.specs.Pins.{Resident, pins_of, wanted}
 use Rattle.objects.proofs.Wanted.{wanted_all, wanted_more}
 use Rattle.txn.proofs.want.take.Goals as goal
 

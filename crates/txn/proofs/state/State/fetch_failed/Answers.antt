@@ -1,4 +1,4 @@
-use Rattle.std.proofs.Common.{map, sym, subst, List}
+use Rattle.std.proofs.Common.{map, sym, subst}
 use Rattle.objects.specs.Pins.{Resident}
 use Rattle.txn.proofs.Neat.{neat_failed}
 use Rattle.txn.specs.Neat.{IsNeat}

@@ -1,8 +1,7 @@
-use Rattle.std.proofs.Common.{◌≡◌, ◌≤◌, ◌∙◌, ◌-◌, ℕ, if◌then◌else◌, ap, map, sym, subst, List, All, nat_lt, arith}
-use Rattle.disk.specs.declared.block.BlockNo.{BlockNo}
+use Rattle.std.proofs.Common.{◌≡◌, ◌≤◌, ◌∙◌, ◌-◌, ℕ, if◌then◌else◌, ap, map, sym, subst, List, nat_lt, arith}
 use Rattle.wal_law.specs.Calls.{InstCallComesBack}
 use Rattle.wal_law.specs.Log.{Log, installed_place}
-use Rattle.objects.specs.Pins.{Resident, Unpins, pins_of, wanted}
+use Rattle.objects.specs.Pins.{Resident, Unpins, pins_of}
 use Rattle.objects.proofs.Wanted.{wanted_all}
 use Rattle.txn.proofs.Counted.{swept_is, total-map}
 use Rattle.txn.proofs.Mapped.{map_filter, installed_is}

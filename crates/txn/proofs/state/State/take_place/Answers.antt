@@ -20,7 +20,6 @@ use Rattle.txn.proofs.Logged.{quiet_in, refreshed_is}
 use Rattle.txn.proofs.Neat.{neat_with}
 use Rattle.txn.specs.Neat.{IsNeat}
 use Rattle.txn.specs.Pinned.{AreCountable, objects_in}
-use Rattle.objects.specs.declared.present.Present.{Present}
 use Rattle.txn.proofs.state.State.take_place.Goals as goal
 
 pub keep-requires-clause-pinned : goal.keep-requires-clause-pinned

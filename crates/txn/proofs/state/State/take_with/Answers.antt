@@ -1,4 +1,4 @@
-use Rattle.std.proofs.Common.{◌≡◌, ◌<◌, ◌+◌, ◌-◌, ◌∙◌, ℕ, Bool, true, false, if◌then◌else◌, List, None, Some, ap, map}
+use Rattle.std.proofs.Common.{◌≡◌, ◌+◌, ◌-◌, ◌∙◌, ℕ, Bool, true, false, if◌then◌else◌, List, None, Some, ap, map}
 use Rattle.std.proofs.Common.{subst, sym, refl, arith}
 use Rattle.std.proofs.lemmas.Bool.{eq-eqb}
 use Rattle.disk.specs.Device.{Content}
@@ -15,7 +15,6 @@ use Rattle.txn.specs.Neat.{IsAsLogged, IsNeat}
 use Rattle.txn.specs.Pinned.{newly_in}
 use Rattle.txn_law.specs.Commit.{footprint}
 use Rattle.txn_law.specs.Core.{CoreState}
-use Rattle.txn_law.specs.Holds.{with_hold}
 use Rattle.txn_law.specs.Window.{Footprint}
 use Rattle.txn_law.specs.declared.hold.Hold.{Hold}
 use Rattle.txn.proofs.state.State.take_with.Goals as goal
