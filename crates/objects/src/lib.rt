@@ -8,6 +8,7 @@ mod object;
 mod parts;
 mod present;
 mod residency;
+mod shared;
 
 pub use addr::Addr;
 pub use mode::Mode;
@@ -15,3 +16,4 @@ pub use object::Object;
 pub use parts::{extract, splice};
 pub use present::Present;
 pub use residency::Residency;
+pub use shared::SharedBytes;
