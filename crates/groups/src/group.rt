@@ -55,7 +55,7 @@ fn base_of(
     block: BlockNo,
 ) -> Result<Block, AllocError>
     ensures { IfOk result (λ base. base
-        ≡ base_in (content_in (present_of present.now block)) (newest wal.now block.0)) }
+        ≡ base_in (content_in (present_of present.now.blocks block)) (newest wal.now block.0)) }
 {
     let mut base = Block::zeros(alloc)?;
     if let Some(content) = present.content_of(block) {
@@ -87,7 +87,7 @@ pub fn group_of(
     objects: &[Object],
 ) -> Result<Vec<(BlockNo, Block)>, AllocError>
     ensures blocks { IfOk result (λ group. group_blocks group.items ≡ blocks.now) }
-    ensures contents { IfOk result (λ group. All (IsLaid present.now wal.now objects.now) group.items) }
+    ensures contents { IfOk result (λ group. All (IsLaid present.now.blocks wal.now objects.now) group.items) }
     ensures whole { IfOk result (λ group. All (λ change. length change.1 ≡ BLOCK_BYTES) group.items) }
 {
     let mut group = Vec::with_capacity(alloc, blocks.len())?;

@@ -1,5 +1,5 @@
 //! Looks at what is taken.
-ghost use Rattle.std.specs.Prelude.{◌≡◌, ◌↔◌, ◌&&◌, IsTrue, not, nat_eq};
+ghost use Rattle.std.specs.Prelude.{◌≡◌, ◌↔◌, ◌&&◌, IsTrue, not, nat_eq, is_some};
 ghost use Rattle.std.specs.List.{list_any};
 ghost use Rattle.txn_law.specs.Holds.{KeepsOff, IsFree, is_taken, hold_of, is_read, is_written, released};
 
@@ -76,4 +76,11 @@ pub(crate) fn is_taken_beside(holds: &[Hold], transaction: u64, block: BlockNo) 
     ensures { result ≡ is_taken (released holds.now transaction) block }
 {
     any_beside(holds, transaction, block)
+}
+
+/// Whether the transaction has taken the address.
+pub(crate) fn is_held_by(holds: &[Hold], transaction: u64, addr: Addr) -> bool
+    ensures { result ≡ is_some (hold_of holds.now transaction addr) }
+{
+    hold_of(holds, transaction, addr).is_some()
 }

@@ -1,12 +1,12 @@
 //! The table of what is taken.
-ghost use Rattle.std.specs.Prelude.{◌≡◌, ◌↔◌, IsTrue, Contains, []};
+ghost use Rattle.std.specs.Prelude.{◌≡◌, ◌↔◌, IsTrue, Contains, [], is_some};
 ghost use Rattle.objects.specs.declared.mode.Mode.TheVariants as modes;
 ghost use Rattle.txn_law.specs.Holds.{IsFree, is_taken, hold_of, is_read, is_written, released};
 ghost use Rattle.txn_law.specs.Tidy.{AreApart};
 ghost use Rattle.txn_law.specs.declared.hold.Hold.{Hold};
 ghost use Rattle.locks.specs.Taking.{IsTaking};
 
-use crate::looks::{is_free, is_read_by, is_taken, is_taken_beside, is_written_by};
+use crate::looks::{is_free, is_held_by, is_read_by, is_taken, is_taken_beside, is_written_by};
 use crate::taking::{note, release};
 use disk::BlockNo;
 use objects::{Addr, Mode};
@@ -98,6 +98,13 @@ impl Table {
         ensures { IsTrue result ↔ IsFree self.now transaction addr mode }
     {
         is_free(&self.holds, transaction, addr, mode)
+    }
+
+    /// Whether the transaction has taken the address.
+    pub fn is_held_by(&self, transaction: u64, addr: Addr) -> bool
+        ensures { result ≡ is_some (hold_of self.now transaction addr) }
+    {
+        is_held_by(&self.holds, transaction, addr)
     }
 
     /// Whether the transaction holds the address for reading.

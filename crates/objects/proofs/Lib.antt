@@ -3,3 +3,4 @@ pub mod Found
 pub mod Entries
 pub mod Filled
 pub mod Kept
+pub mod Wanted

@@ -3,3 +3,4 @@ pub mod Mode
 pub mod Spliced
 pub mod Object
 pub mod Present
+pub mod Pins

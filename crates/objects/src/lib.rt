@@ -6,6 +6,7 @@ mod blocks;
 mod mode;
 mod object;
 mod parts;
+mod pins;
 mod present;
 mod residency;
 

@@ -1,56 +1,67 @@
 //! The blocks in memory.
-ghost use Rattle.std.specs.Prelude.{◌≡◌, OnErr, OnOk, [], option_map};
-ghost use Rattle.std.specs.Fn.{CalledAt};
-ghost use Rattle.std.specs.List.Retain.{IsFiltered};
+ghost use Rattle.std.specs.Prelude.{◌≡◌, ◌<◌, ◌+◌, ◌-◌, ◌^◌, ◌↔◌, IsTrue, OnErr, OnOk, [], option_map};
+ghost use Rattle.disk.specs.declared.block.BlockNo.{BlockNo};
+ghost use Rattle.objects.specs.Pins.{AreWanted, Pins, PinsStay, Unpins, once_at, pins_of, wanted};
 ghost use Rattle.objects.specs.Present.{present_of, content_in, is_pending, IsOnce, with_block, filled};
-ghost use Rattle.objects.specs.Present.{without_pending, without_clean, without_block, renewed};
+ghost use Rattle.objects.specs.Present.{without_pending, without_block, renewed};
 
-use crate::Present;
 use crate::blocks::{add, fill, is_there, let_go, present_of, renew_each, take_back, unpin};
+use crate::{Present, pins};
 use disk::{Block, BlockNo};
 use std::alloc::{AllocError, Global};
+use std::collections::HashMap;
 use std::marker::Model;
 
-/// The blocks in memory besides the log's, each with its current content, and those whose fetch is pending. Its
-/// type keeps that a block has one entry, so that at most one fetch of it is pending.
+/// The blocks in memory besides the log's, each with its current content, those whose fetch is pending, and how
+/// often each block is pinned. Its type keeps that a block has one entry, so that at most one fetch of it is
+/// pending, and that nothing is in memory that isn't pinned. A block may be pinned while it isn't in memory.
 #[derive(Drop)]
 pub struct Residency {
     blocks: Vec<Present>,
+    // How often a block is pinned, by its number.
+    pins: HashMap<u32, u64>,
 }
 
 impl Model for Residency {
-    ghost use Rattle.std.specs.Prelude.{List};
-    ghost use Rattle.objects.specs.declared.present.Present.{Present};
+    ghost use Rattle.objects.specs.Pins.{Resident};
 
-    ghost Value = { List Present };
+    ghost Value = { Resident };
 
-    ghost view = { λ residency. residency.blocks.items };
+    ghost view = { λ residency. record {
+      blocks = residency.blocks.items;
+      counts = residency.pins.entries;
+    } };
 
     ghost use Rattle.objects.specs.Present.{IsOnce};
+    ghost use Rattle.objects.specs.Pins.{AreWanted, count_in};
 
-    ghost invariant = { λ residency. IsOnce residency.blocks.items };
+    ghost invariant = { λ residency. IsOnce residency.blocks.items
+        × AreWanted (count_in residency.pins.entries) residency.blocks.items };
 }
 
 impl Residency {
-    /// Nothing is in memory, and no fetch is pending.
+    /// Nothing is in memory, nothing is pinned, and no fetch is pending.
     pub fn new(alloc: Global) -> Residency
-        ensures { result ≡ [] }
+        ensures blocks { result.blocks ≡ [] }
+        ensures pins { (at : BlockNo) → pins_of result at ≡ 0 }
     {
         Residency {
             blocks: Vec::new(alloc),
+            pins: HashMap::new(alloc),
         }
     }
 
-    /// A block has one entry.
+    /// A block has one entry, and is pinned, or its fetch is pending.
     pub fn lawful(&self)
-        ensures { IsOnce self.now }
+        ensures once { IsOnce self.now.blocks }
+        ensures wanted { AreWanted (pins_of self.now) self.now.blocks }
     {
         let _ = &self.blocks;
     }
 
     /// The block's content, if it is there and its fetch isn't pending.
     pub fn content_of(&self, block: BlockNo) -> Option<&Block>
-        ensures { option_map (λ content. content.now) result ≡ content_in (present_of self.now block) }
+        ensures { option_map (λ content. content.now) result ≡ content_in (present_of self.now.blocks block) }
     {
         match present_of(&self.blocks, block) {
             Some(entry) => entry.content.as_ref(),
@@ -60,7 +71,7 @@ impl Residency {
 
     /// Whether a fetch of the block is pending.
     pub fn is_pending(&self, block: BlockNo) -> bool
-        ensures { result ≡ is_pending (present_of self.now block) }
+        ensures { result ≡ is_pending (present_of self.now.blocks block) }
     {
         match present_of(&self.blocks, block) {
             Some(entry) => entry.content.is_none(),
@@ -68,60 +79,91 @@ impl Residency {
         }
     }
 
-    /// Keeps a block in memory from now on, with this content, or with a fetch pending where there is none. One
-    /// that is in memory, or is being fetched, stays as it is. Where there is no room nothing changes.
-    pub fn pin(&mut self, block: BlockNo, content: Option<Block>) -> Result<(), AllocError>
-        ensures pinned { OnOk result (self.new ≡ with_block self.old block content) }
-        ensures refused { OnErr result (self.new ≡ self.old) }
+    /// Pins a block once more, whether it is in memory or not. Where there is no room nothing changes.
+    pub fn pin(&mut self, block: BlockNo) -> Result<(), AllocError>
+        ensures pinned { OnOk result (Pins self.old (once_at block) self.new) }
+        ensures refused { OnErr result (PinsStay self.old self.new) }
+        ensures blocks { self.new.blocks ≡ self.old.blocks }
     {
-        if is_there(&self.blocks, block) {
-            return Ok(());
-        }
+        pins::add(&mut self.pins, block)
+    }
+
+    /// Whether so many pins more of the block can be counted.
+    pub fn can_pin(&self, block: BlockNo, more: usize) -> bool
+        ensures { IsTrue result ↔ (pins_of self.now block + more < 2 ^ 64) }
+    {
+        let count = pins::count_of(&self.pins, block);
+        let more = more as u64;
+        count <= u64::MAX - more
+    }
+
+    /// Pins a block once more that is pinned and whose pins can be counted.
+    pub fn pin_again(&mut self, block: BlockNo)
+        requires there { 0 < pins_of self.old block }
+        requires room { pins_of self.old block + 1 < 2 ^ 64 }
+        ensures { Pins self.old (once_at block) self.new }
+    {
+        pins::add_again(&mut self.pins, block);
+    }
+
+    /// Pins a block once more and brings it into memory with this content, or with a fetch pending where there is
+    /// none. One that is in memory, or is being fetched, stays as it is. Where there is no room nothing changes.
+    pub fn bring(&mut self, block: BlockNo, content: Option<Block>) -> Result<(), AllocError>
+        ensures blocks { OnOk result (self.new.blocks ≡ with_block self.old.blocks block content) }
+        ensures pinned { OnOk result ((at : BlockNo)
+            → pins_of self.new at ≡ pins_of self.old at + once_at block at) }
+        ensures refused { OnErr result (PinsStay self.old self.new) }
+        ensures same { OnErr result (self.new.blocks ≡ self.old.blocks) }
+    {
         self.blocks.reserve(1)?;
-        add(&mut self.blocks, block, content);
+        pins::add(&mut self.pins, block)?;
+        if !is_there(&self.blocks, block) {
+            add(&mut self.blocks, block, content);
+        }
         Ok(())
     }
 
-    /// Lets a block go that nobody needs any more. A fetch that is pending stays so.
+    /// Takes one pin off a block. It goes from memory with the last one, but a fetch that is pending stays so.
     pub fn unpin(&mut self, block: BlockNo)
-        ensures { self.new ≡ without_clean self.old block }
+        ensures { Unpins self.old (once_at block) self.new }
     {
-        unpin(&mut self.blocks, block);
+        if pins::take(&mut self.pins, block) == 0 {
+            unpin(&mut self.blocks, block);
+        }
     }
 
-    /// Lets a block go, whether it is in memory or is being fetched, as one that was pinned in vain.
+    /// Takes one pin off a block and lets it go, whether it is in memory or is being fetched, as one that was
+    /// brought in vain.
     pub fn take_back(&mut self, block: BlockNo)
-        ensures { self.new ≡ without_block self.old block }
+        ensures blocks { self.new.blocks ≡ without_block self.old.blocks block }
+        ensures pins { (at : BlockNo) → pins_of self.new at ≡ pins_of self.old at - once_at block at }
     {
+        let _ = pins::take(&mut self.pins, block);
         take_back(&mut self.blocks, block);
     }
 
-    /// Lets those blocks go that the test refuses.
-    pub fn retain<F: FnMut(&Present) -> bool>(&mut self, keeps: F)
-    where
-        requires { F.IsAlwaysCallable keeps }
-        ensures { IsFiltered (CalledAt F.FnMut) keeps self.old self.new }
-    {
-        self.blocks.retain(keeps);
-    }
-
-    /// Puts the content of a block in its place, where its fetch is pending.
+    /// Puts the content of a block in its place, where its fetch is pending. It goes where nobody has pinned it.
     pub fn fetched(&mut self, block: BlockNo, content: Block)
-        ensures { self.new ≡ filled self.old block content }
+        ensures { self.new ≡ record self.old {
+          blocks = wanted (pins_of self.old) (filled self.old.blocks block content);
+        } }
     {
         fill(&mut self.blocks, block, content);
+        if pins::count_of(&self.pins, block) == 0 {
+            unpin(&mut self.blocks, block);
+        }
     }
 
-    /// Lets go of a block whose fetch is pending.
+    /// Lets go of a block whose fetch is pending. It stays pinned.
     pub fn fetch_failed(&mut self, block: BlockNo)
-        ensures { self.new ≡ without_pending self.old block }
+        ensures { self.new ≡ record self.old { blocks = without_pending self.old.blocks block } }
     {
         let_go(&mut self.blocks, block);
     }
 
     /// Makes the content of a block this one, where it is in memory.
     pub fn renew(&mut self, block: BlockNo, content: &Block)
-        ensures { self.new ≡ renewed self.old block content.now }
+        ensures { self.new ≡ record self.old { blocks = renewed self.old.blocks block content.now } }
     {
         renew_each(&mut self.blocks, block, content);
     }

@@ -1,9 +1,8 @@
 pub mod Mapped
+pub mod Counted
 pub mod Neat
 pub mod Logged
 pub mod Renewing
-pub mod Unneeded
-pub mod Ending
 pub mod Answered
 pub mod FetchedWish
 pub mod LoneTransaction

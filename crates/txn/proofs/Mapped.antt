@@ -1,13 +1,13 @@
 -- Tests of a list's values, and of what is made of them.
-use Rattle.std.proofs.Common.{◌≡◌, refl, ap, sym, Bool, true, false, cond, ◌||◌, List, [], ◌∷◌, map, is_none}
+use Rattle.std.proofs.Common.{◌≡◌, refl, ap, sym, Bool, true, false, cond, List, [], ◌∷◌, map}
 use Rattle.std.proofs.Common.{ℕ, ◌∙◌, ◌++◌, nat_lt, if◌then◌else◌}
 use Rattle.std.proofs.lemmas.List.{map-append}
-use Rattle.std.specs.List.{list_any, filter}
+use Rattle.std.specs.List.{filter}
 use Rattle.wal_law.specs.Log.{Log, installed_place}
 use Rattle.txn_law.specs.Commit.{Planned, footprint, with_record, refreshed, committed}
 use Rattle.txn_law.specs.Core.{CoreState, ended, installed, past, without}
-use Rattle.txn_law.specs.Holds.{is_taken, released}
-use Rattle.txn_law.specs.Records.{lies_in, swept}
+use Rattle.txn_law.specs.Holds.{released}
+use Rattle.txn_law.specs.Records.{swept}
 use Rattle.txn_law.specs.Window.{Footprint}
 use Rattle.txn_law.specs.declared.hold.Hold.{Hold}
 use Rattle.objects.specs.declared.present.Present.{Present}
@@ -22,20 +22,6 @@ map_filter f p (x ∷ xs) =
       | true ↦ ap (λ ys. f x ∷ ys) (map_filter f p xs)
       | false ↦ map_filter f p xs
     ]
-
--- a value passes where what is made of it does
-pub any_of_map : {X Y : Type 0} (f : X → Y) (p : Y → Bool) (xs : List X)
-    → list_any p (map f xs) ≡ list_any (λ x. p (f x)) xs
-any_of_map f p [] = refl
-any_of_map f p (x ∷ xs) = ap (λ b. p (f x) || b) (any_of_map f p xs)
-
--- the blocks that are kept, told by the commits' records and by what is made of them
-pub swept_of_map : {X : Type 0} (f : X → Footprint) (holds : List Hold) (xs : List X) (present : List Present)
-    → filter (λ entry. is_none entry.content || is_taken holds entry.block
-    || list_any (λ x. lies_in (f x).read entry.block) xs) present ≡ swept holds (map f xs) present
-swept_of_map f holds xs present =
-    λ i. filter (λ entry. is_none entry.content || is_taken holds entry.block
-    || sym (any_of_map f (λ kept. lies_in kept.read entry.block) xs) i) present
 
 -- the records with a commit's, told by the commits and by what is made of them
 pub recorded : {X : Type 0} (f : X → Footprint) (log : Log) (plan : Planned) (installed place : ℕ)

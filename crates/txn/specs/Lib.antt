@@ -2,6 +2,7 @@ pub mod Outcomes
 pub mod Exactly
 pub mod Source
 pub mod Claimed
+pub mod Pinned
 pub mod Neat
 pub mod Refreshed
 -- What the contracts here cite, for the crates above.

@@ -8,7 +8,7 @@ ghost use Rattle.txn_law.specs.Commit.{IsOwn, IsReadBy, IsWrittenBy, HasBytes};
 ghost use Rattle.txn_law.specs.Group.{blocks_of};
 
 use crate::outcomes::Commit;
-use crate::records::keep;
+use crate::records::{can_pin_each, keep};
 use crate::refreshing::refresh;
 use crate::state::State;
 use crate::{Change, Object, Tx};
@@ -51,6 +51,9 @@ impl<C: Change> State<C> {
         if self.records.reserve(1).is_err() {
             return Commit::NoMemory(tx, change);
         }
+        if !can_pin_each(&self.present, change.read()) {
+            return Commit::NoMemory(tx, change);
+        }
         let Ok(group) = group_of(alloc, &self.present, &self.log, blocks, change.written()) else {
             return Commit::NoMemory(tx, change);
         };
@@ -59,7 +62,14 @@ impl<C: Change> State<C> {
                 let Tx { number } = tx;
                 let place = self.log.places();
                 refresh(&mut self.present, &self.log, blocks);
-                keep(&mut self.records, place, change, self.log.installed());
+                let installed = self.log.installed();
+                keep(
+                    &mut self.records,
+                    &mut self.present,
+                    place,
+                    change,
+                    installed,
+                );
                 self.close(number);
                 Commit::Committed(place)
             }

@@ -1,13 +1,12 @@
-//! The commits that aren't installed.
-ghost use Rattle.std.specs.Prelude.{◌≡◌, ◌<◌, ◌++◌, ◌∷◌, [], ◌||◌, if◌then◌else◌, is_none, nat_lt};
-ghost use Rattle.std.specs.Prelude.{All, not, nat_eq, true};
-ghost use Rattle.std.specs.List.{filter, list_any};
-ghost use Rattle.txn_law.specs.Holds.{is_taken, released};
-ghost use Rattle.txn_law.specs.Records.{lies_in};
+//! The commits that aren't installed, and the pins of what they read and of what transactions hold.
+ghost use Rattle.std.specs.Prelude.{◌≡◌, ◌<◌, ◌↔◌, ◌++◌, ◌∷◌, [], if◌then◌else◌, nat_eq, nat_lt, not};
+ghost use Rattle.std.specs.Prelude.{All, IsTrue};
+ghost use Rattle.std.specs.List.{filter};
 ghost use Rattle.std.specs.VecDeque.{deque_len, deque_capacity};
+ghost use Rattle.objects.specs.Pins.{Pins, Unpins, once_at, pins_of};
+ghost use Rattle.txn.specs.Pinned.{AreCountable, objects_in, own_in, total};
 
 use crate::{Change, Object};
-use disk::BlockNo;
 use locks::{Hold, Table};
 use objects::Residency;
 use std::collections::VecDeque;
@@ -20,135 +19,123 @@ pub(crate) struct Record<C: Change> {
     pub(crate) change: C,
 }
 
-// Whether one of the objects lies in the block.
-fn lies_in(objects: &[Object], block: BlockNo) -> bool
-    ensures { result ≡ lies_in objects.now block }
+/// Whether the blocks of the objects can be pinned once more for each object.
+pub(crate) fn can_pin_each(present: &Residency, objects: &[Object]) -> bool
+    ensures { IsTrue result ↔ AreCountable present.now objects.now }
 {
-    objects.iter().any(|object| object.addr().block == block)
+    let more = objects.len();
+    objects
+        .iter()
+        .all(|object| present.can_pin(object.addr().block, more))
 }
 
-/// Whether a kept record read a part of the block.
-pub(crate) fn is_kept<C: Change>(records: &VecDeque<Record<C>>, block: BlockNo) -> bool
-    ensures { result ≡ list_any (λ kept. lies_in (C.planned kept.change).read block) records.now.items }
+// Pins the block of each object once more, all of which are pinned.
+fn pin_each(present: &mut Residency, objects: &[Object])
+    requires pinned { All (λ object. 0 < pins_of present.old object.addr.block) objects.now }
+    requires countable { AreCountable present.old objects.now }
+    ensures { Pins present.old (objects_in objects.now) present.new }
 {
-    // The newest first: what a commit read its own record has.
-    let mut i = records.len();
-    while i > 0 {
-        i -= 1;
-        let record = &records[i];
-        if lies_in(record.change.read(), block) {
-            return true;
-        }
+    for object in objects {
+        let block = object.addr().block;
+        present.pin_again(block);
     }
-    false
 }
 
-/// Whether anyone has taken a part of the block, or a kept record read one.
-pub(crate) fn is_used<C: Change>(
-    holds: &Table,
-    records: &VecDeque<Record<C>>,
-    block: BlockNo,
-) -> bool
-    ensures { result ≡ (is_taken holds.now block
-        || list_any (λ kept. lies_in (C.planned kept.change).read block) records.now.items) }
+// Takes one pin off the block of each object.
+fn unpin_each(present: &mut Residency, objects: &[Object])
+    ensures { Unpins present.old (objects_in objects.now) present.new }
 {
-    holds.is_taken(block) || is_kept(records, block)
+    present.lawful();
+    for object in objects {
+        let block = object.addr().block;
+        present.unpin(block);
+    }
 }
 
-/// Keeps the record of a commit, for which there is room, until it is installed.
+/// Keeps the record of a commit, for which there is room, until it is installed, and pins what it read.
 pub(crate) fn keep<C: Change>(
     records: &mut VecDeque<Record<C>>,
+    present: &mut Residency,
     place: Seq,
     change: C,
     installed: Seq,
 )
-    requires { deque_len records.old < deque_capacity records.old }
-    ensures { records.new.items ≡ (if nat_lt installed.0 place.0 then records.old.items
+    requires room { deque_len records.old < deque_capacity records.old }
+    requires pinned { All (λ object. 0 < pins_of present.old object.addr.block) (C.planned change).read }
+    requires countable { AreCountable present.old (C.planned change).read }
+    ensures records { records.new.items ≡ (if nat_lt installed.0 place.0 then records.old.items
         ++ record { place = place; change = change } ∷ [] else records.old.items) }
+    ensures pins { Pins present.old (λ at. if nat_lt installed.0 place.0
+        then objects_in (C.planned change).read at else 0) present.new }
 {
     if place > installed {
+        pin_each(present, change.read());
         records.push_back_reserved(Record { place, change });
     }
 }
 
-/// Lets go of the records up to a place.
-pub(crate) fn forget<C: Change>(records: &mut VecDeque<Record<C>>, installed: Seq)
-    ensures { records.new.items ≡ filter (λ kept. nat_lt installed.0 kept.place.0) records.old.items }
+// Whether the place is further than what is installed.
+fn is_past(place: Seq, installed: Seq) -> bool
+    ensures { result ≡ nat_lt installed.0 place.0 }
 {
+    place > installed
+}
+
+// Takes the pins off what a record read whose place is no further than this.
+fn forget_one<C: Change>(present: &mut Residency, kept: &Record<C>, installed: Seq)
+    ensures { Unpins present.old (λ at. if nat_lt installed.0 kept.now.place.0 then 0
+        else objects_in (C.planned kept.now.change).read at) present.new }
+{
+    if is_past(kept.place, installed) {
+        present.lawful();
+        return;
+    }
+    unpin_each(present, kept.change.read());
+}
+
+// Takes the pins off what the records up to a place read.
+fn forget_each<C: Change>(present: &mut Residency, records: &VecDeque<Record<C>>, installed: Seq)
+    ensures { Unpins present.old (λ at. total (λ kept. if nat_lt installed.0 kept.place.0 then 0
+        else objects_in (C.planned kept.change).read at) records.now.items) present.new }
+{
+    present.lawful();
+    for i in 0..records.len() {
+        forget_one(present, &records[i], installed);
+    }
+}
+
+/// Lets go of the records up to a place, and takes the pins off what they read.
+pub(crate) fn forget<C: Change>(
+    records: &mut VecDeque<Record<C>>,
+    present: &mut Residency,
+    installed: Seq,
+)
+    ensures records { records.new.items ≡ filter (λ kept. nat_lt installed.0 kept.place.0) records.old.items }
+    ensures pins { Unpins present.old (λ at. total (λ kept. if nat_lt installed.0 kept.place.0 then 0
+        else objects_in (C.planned kept.change).read at) records.old.items) present.new }
+{
+    forget_each(present, records, installed);
     records.retain(|record| record.place > installed);
 }
 
-/// Lets go of the blocks that nobody has taken, no kept record read and no fetch is pending of.
-pub(crate) fn sweep<C: Change>(
-    present: &mut Residency,
-    holds: &Table,
-    records: &VecDeque<Record<C>>,
-)
-    ensures { present.new ≡ filter (λ entry. is_none entry.content || is_taken holds.now entry.block
-        || list_any (λ kept. lies_in (C.planned kept.change).read entry.block) records.now.items)
-        present.old }
-{
-    present.retain(|entry| {
-        entry.content.is_none() || holds.is_taken(entry.block) || is_kept(records, entry.block)
-    });
-}
-
-// Whether anyone but the transaction has taken a part of the block, or a kept record read one.
-fn is_used_beside<C: Change>(
-    holds: &Table,
-    records: &VecDeque<Record<C>>,
-    transaction: u64,
-    block: BlockNo,
-) -> bool
-    ensures { result ≡ (is_taken (released holds.now transaction) block
-        || list_any (λ kept. lies_in (C.planned kept.change).read block) records.now.items) }
-{
-    holds.is_taken_beside(transaction, block) || is_kept(records, block)
-}
-
-// Looks at the block that a hold is of, if the transaction has it: lets go of the block, if nobody else has taken
-// a part of it, no kept record read one and no fetch is pending of it.
-fn sweep_hold<C: Change>(
-    present: &mut Residency,
-    holds: &Table,
-    records: &VecDeque<Record<C>>,
-    transaction: u64,
-    hold: &Hold,
-)
-    ensures { present.new ≡ (if nat_eq hold.now.transaction transaction
-        then filter (λ entry. not (nat_eq entry.block.0 hold.now.addr.block.0)
-        || (is_none entry.content || is_taken (released holds.now transaction) entry.block
-        || list_any (λ kept. lies_in (C.planned kept.change).read entry.block) records.now.items))
-        present.old
-        else present.old) }
+// Takes one pin off the block of a hold, if the transaction has it.
+fn unpin_hold(present: &mut Residency, transaction: u64, hold: &Hold)
+    ensures { Unpins present.old (λ at. if not (nat_eq hold.now.transaction transaction) then 0
+        else once_at hold.now.addr.block at) present.new }
 {
     if hold.transaction != transaction {
+        present.lawful();
         return;
     }
-    let block = hold.addr.block;
-    if is_used_beside(holds, records, transaction, block) {
-        return;
-    }
-    present.unpin(block);
+    present.unpin(hold.addr.block);
 }
 
-/// Lets go of the blocks that nobody but the transaction has taken, no kept record read and no fetch is pending
-/// of, where somebody needs each: so only those are looked at that the transaction has taken.
-pub(crate) fn sweep_end<C: Change>(
-    present: &mut Residency,
-    holds: &Table,
-    records: &VecDeque<Record<C>>,
-    transaction: u64,
-)
-    requires { All (λ entry. (is_none entry.content || is_taken holds.now entry.block
-        || list_any (λ kept. lies_in (C.planned kept.change).read entry.block) records.now.items) ≡ true)
-        present.old }
-    ensures { present.new ≡ filter (λ entry. is_none entry.content
-        || is_taken (released holds.now transaction) entry.block
-        || list_any (λ kept. lies_in (C.planned kept.change).read entry.block) records.now.items)
-        present.old }
+/// Takes one pin off the block of each hold that the transaction has.
+pub(crate) fn unpin_holds(present: &mut Residency, holds: &Table, transaction: u64)
+    ensures { Unpins present.old (own_in transaction holds.now) present.new }
 {
+    present.lawful();
     for hold in holds.holds() {
-        sweep_hold(present, holds, records, transaction, hold);
+        unpin_hold(present, transaction, hold);
     }
 }

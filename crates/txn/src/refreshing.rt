@@ -8,7 +8,9 @@ use wal::Wal;
 
 /// Makes each of these blocks that is in memory what the log has.
 pub(crate) fn refresh(present: &mut Residency, log: &Wal, blocks: &[BlockNo])
-    ensures { present.new ≡ map (refreshed_among log.now blocks.now) present.old }
+    ensures { present.new ≡ record present.old {
+      blocks = map (refreshed_among log.now blocks.now) present.old.blocks;
+    } }
 {
     for block in blocks {
         refresh_one(present, log, block);
@@ -17,7 +19,9 @@ pub(crate) fn refresh(present: &mut Residency, log: &Wal, blocks: &[BlockNo])
 
 // The same of one block.
 fn refresh_one(present: &mut Residency, log: &Wal, block: &BlockNo)
-    ensures { present.new ≡ map (refreshed_where log.now block.now) present.old }
+    ensures { present.new ≡ record present.old {
+      blocks = map (refreshed_where log.now block.now) present.old.blocks;
+    } }
 {
     if let Some(newest) = log.latest(*block) {
         present.renew(*block, newest);

@@ -17,7 +17,7 @@ ghost use Rattle.txn_law.specs.Core.{IsOut, with_begun, without, ended, installe
 ghost use Rattle.txn_law.specs.Wishes.{IsInside};
 
 use crate::outcomes::BeginFault;
-use crate::records::{Record, forget, sweep, sweep_end};
+use crate::records::{Record, forget, unpin_holds};
 use crate::{Change, Object, Stable, Tx};
 use disk::BlockNo;
 use groups::blocks_of_objects;
@@ -29,8 +29,8 @@ use std::collections::VecDeque;
 use std::marker::Model;
 use wal::{InstIo, LogIo, Seq, Wal};
 
-/// What a core has. Its type keeps that nothing is in memory that nobody needs, and that no commit is kept that
-/// is installed: so only what an end or an installation changes is looked through.
+/// What a core has. Its type keeps that each block is pinned once for each hold of a part of it and once for each
+/// object that a kept record read in it, and that no commit is kept that is installed.
 #[derive(Drop)]
 pub(crate) struct State<C: Change> {
     pub(crate) log: Wal,
@@ -40,8 +40,8 @@ pub(crate) struct State<C: Change> {
     // The transactions that are out.
     pub(crate) out: Vec<u64>,
     pub(crate) holds: Table,
-    // Each block that is held or that a kept record read, with its current content, and those that are being
-    // fetched.
+    // Each block that is held or that a kept record read, with its current content, those that are being fetched,
+    // and how often each is pinned.
     pub(crate) present: Residency,
     // The commits that aren't installed, oldest first.
     pub(crate) records: VecDeque<Record<C>>,
@@ -60,7 +60,7 @@ impl<C: Change> Model for State<C> {
       begun = c.begun;
       out = c.out.items;
       holds = c.holds;
-      present = c.present;
+      present = c.present.blocks;
       records = map (λ r. footprint r.place.0 (C.planned r.change)) c.records.items;
     } };
 
@@ -161,7 +161,7 @@ impl<C: Change> State<C> {
         ensures { self.new ≡ ended self.old transaction }
     {
         leave(&mut self.out, transaction);
-        sweep_end(&mut self.present, &self.holds, &self.records, transaction);
+        unpin_holds(&mut self.present, &self.holds, transaction);
         self.holds.release_all(transaction);
     }
 
@@ -274,10 +274,10 @@ impl<C: Change> State<C> {
         self.log.inst_done(io, ok);
         let installed = self.log.installed();
         if is_at_most(installed, before) {
+            self.present.lawful();
             return;
         }
-        forget(&mut self.records, installed);
-        sweep(&mut self.present, &self.holds, &self.records);
+        forget(&mut self.records, &mut self.present, installed);
     }
 }
 

@@ -1,5 +1,8 @@
 //! Reading and claiming what a transaction works on.
-ghost use Rattle.std.specs.Prelude.{◌≡◌, IfOk, OnOk, OnErr, None, Some, false};
+ghost use Rattle.std.specs.Prelude.{◌≡◌, ◌<◌, ◌-◌, if◌then◌else◌, IfOk, OnOk, OnErr, None, Some, false, true};
+ghost use Rattle.disk.specs.declared.block.BlockNo.{BlockNo as BlockNumber};
+ghost use Rattle.objects.specs.Pins.{Pins, PinsStay, once_at, pins_of};
+ghost use Rattle.txn.specs.Pinned.{newly_in};
 ghost use Rattle.disk.specs.Device.{Content};
 ghost use Rattle.wal_law.specs.Log.{newest};
 ghost use Rattle.objects.specs.declared.addr.Addr.{Addr};
@@ -13,12 +16,11 @@ ghost use Rattle.txn_law.specs.Fetched.{fetched, fetch_failed};
 ghost use Rattle.txn.specs.Source.{IsSource, IsSourceWithin};
 
 use crate::outcomes::{Claim, Want};
-use crate::records::is_used;
 use crate::state::State;
 use crate::{Change, FetchIo, Tx};
 use disk::{Block, BlockNo};
 use locks::{Hold, Table, Take, for_fetching, for_reading, for_writing};
-use objects::{Addr, Mode, extract};
+use objects::{Addr, Mode, Residency, extract};
 use std::alloc::{AllocError, Global};
 
 // What want found, before the transaction is handed back.
@@ -69,15 +71,19 @@ impl<C: Change> State<C> {
         if self.present.is_pending(addr.block) {
             return Claim::Loading(tx);
         }
-        match self.holds.take(for_writing(tx.number, addr)) {
-            Take::Held => Claim::Held(tx),
-            Take::Busy => Claim::Busy(tx),
-            Take::NoMemory => Claim::NoMemory(tx),
+        self.holds.lawful();
+        match take(
+            &mut self.holds,
+            &mut self.present,
+            for_writing(tx.number, addr),
+        ) {
+            Ok(()) => Claim::Held(tx),
+            Err(_) => Claim::NoMemory(tx),
         }
     }
 
-    // Takes the object, which is free, and its block's place in memory where it has none. All room is made
-    // before anything changes.
+    // Takes the object, which is free, and its block's place in memory where it has none. Where there is no room
+    // nothing changes.
     fn take_for_reading(
         &mut self,
         alloc: Global,
@@ -93,7 +99,12 @@ impl<C: Change> State<C> {
     {
         if let Some(content) = self.present.content_of(addr.block) {
             let bytes = extract(alloc, content, addr)?;
-            take(&mut self.holds, for_reading(transaction, addr, mode))?;
+            self.holds.lawful();
+            take(
+                &mut self.holds,
+                &mut self.present,
+                for_reading(transaction, addr, mode),
+            )?;
             return Ok(Source::Bytes(bytes));
         }
         let mut content = Block::zeros(alloc)?;
@@ -120,12 +131,15 @@ impl<C: Change> State<C> {
         ensures taken { OnOk result (self.new ≡ taken self.old hold content) }
         ensures refused { OnErr result (self.new ≡ self.old) }
     {
+        self.holds.lawful();
         let block = hold.addr.block;
-        self.present.pin(block, content)?;
-        if let Err(none) = take(&mut self.holds, hold) {
+        let again = self.holds.is_held_by(hold.transaction, hold.addr);
+        self.present.bring(block, content)?;
+        if let Err(none) = note(&mut self.holds, hold) {
             self.present.take_back(block);
             return Err(none);
         }
+        settle(&mut self.present, block, again);
         Ok(())
     }
 
@@ -135,9 +149,6 @@ impl<C: Change> State<C> {
     {
         let FetchIo { block, buffer } = io;
         self.present.fetched(block, buffer);
-        if !is_used(&self.holds, &self.records, block) {
-            self.present.unpin(block);
-        }
     }
 
     /// Gives a fetch back that failed. The next want of the block asks for it again.
@@ -149,8 +160,44 @@ impl<C: Change> State<C> {
     }
 }
 
-// Takes what a wish is for that nothing keeps off.
-fn take(holds: &mut Table, hold: Hold) -> Result<(), AllocError>
+// Takes one pin off again, where the block was pinned for a hold that there was before and is pinned for it still.
+fn settle(present: &mut Residency, block: BlockNo, again: bool)
+    requires { again ≡ true → 1 < pins_of present.old block }
+    ensures pins { (at : BlockNumber) → pins_of present.new at
+        ≡ pins_of present.old at - (if again then once_at block at else 0) }
+    ensures blocks { present.new.blocks ≡ present.old.blocks }
+{
+    if again {
+        present.lawful();
+        present.unpin(block);
+    }
+}
+
+// Takes what a wish is for that nothing keeps off, and pins its block for it, where the transaction hadn't taken
+// the address.
+fn take(holds: &mut Table, present: &mut Residency, hold: Hold) -> Result<(), AllocError>
+    requires { IsFree holds.old hold.transaction hold.addr hold.mode }
+    ensures taken { OnOk result (holds.new ≡ with_hold holds.old hold) }
+    ensures pinned { OnOk result (Pins present.old (newly_in holds.old hold) present.new) }
+    ensures refused { OnErr result (holds.new ≡ holds.old) }
+    ensures same { OnErr result (PinsStay present.old present.new) }
+    ensures blocks { present.new.blocks ≡ present.old.blocks }
+{
+    if holds.is_held_by(hold.transaction, hold.addr) {
+        return note(holds, hold);
+    }
+    present.lawful();
+    let block = hold.addr.block;
+    present.pin(block)?;
+    if let Err(none) = note(holds, hold) {
+        present.unpin(block);
+        return Err(none);
+    }
+    Ok(())
+}
+
+// Notes what a wish is for that nothing keeps off.
+fn note(holds: &mut Table, hold: Hold) -> Result<(), AllocError>
     requires { IsFree holds.old hold.transaction hold.addr hold.mode }
     ensures taken { OnOk result (holds.new ≡ with_hold holds.old hold) }
     ensures refused { OnErr result (holds.new ≡ holds.old) }

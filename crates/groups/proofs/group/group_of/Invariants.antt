@@ -7,5 +7,5 @@ use Rattle.groups.proofs.group.group_of.Given as goal
 
 abbrev pub invariant-loop-block : goal.invariant-loop-block
 invariant-loop-block l = (blocks_of l.group.items ≡ take l.block-index l.blocks)
-    × All (IsLaid l.present l.wal l.objects) l.group.items
+    × All (IsLaid l.present.blocks l.wal l.objects) l.group.items
     × All (λ change. length change.1 ≡ BLOCK_BYTES) l.group.items

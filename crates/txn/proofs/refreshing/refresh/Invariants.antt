@@ -5,4 +5,6 @@ use Rattle.txn.proofs.refreshing.refresh.Given as goal
 
 abbrev pub invariant-loop-block : goal.invariant-loop-block
 invariant-loop-block l =
-    l.present ≡ map (refreshed_among l.log (take l.block-index l.blocks)) l.initial.present
+    l.present ≡ record l.initial.present {
+      blocks = map (refreshed_among l.log (take l.block-index l.blocks)) l.initial.present.blocks;
+    }

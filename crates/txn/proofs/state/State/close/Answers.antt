@@ -1,38 +1,26 @@
 use Rattle.std.proofs.Common.{◌≡◌, ◌∙◌, ap, map, sym, subst, List}
-use Rattle.txn.proofs.Mapped.{swept_of_map, ended_is}
-use Rattle.txn.proofs.Neat.{neat_swept, needed_of_map}
+use Rattle.txn.proofs.Counted.{swept_is}
+use Rattle.txn.proofs.Mapped.{ended_is}
+use Rattle.txn.proofs.Neat.{neat_ended}
 use Rattle.txn.specs.Neat.{IsNeat}
+use Rattle.objects.specs.Pins.{Resident, pins_of}
 use Rattle.txn_law.specs.Commit.{footprint}
 use Rattle.txn_law.specs.Core.{CoreState, ended}
 use Rattle.txn_law.specs.Holds.{released}
 use Rattle.txn_law.specs.Records.{swept}
 use Rattle.txn_law.specs.Window.{Footprint}
 use Rattle.txn_law.specs.declared.hold.Hold.{Hold}
-use Rattle.objects.specs.declared.present.Present.{Present}
 use Rattle.txn.proofs.state.State.close.Goals as goal
-
-pub sweep_end-requires : goal.sweep_end-requires
-sweep_end-requires g c =
-    needed_of_map (λ kept. footprint kept.place.0 (g.C.Change.planned kept.change)) c.self.inside.holds
-    c.self.inside.records.items c.self.inside.present c.self.invariant.needed
 
 pub invariant_of-self : goal.invariant_of-self
 invariant_of-self g c =
     let core = c.self.inside in
-    let tx = c.args.transaction in
     let records : List Footprint =
     map (λ kept. footprint kept.place.0 (g.C.Change.planned kept.change)) core.records.items in
-    let swept_is : c.sweep_end.new.present
-    ≡ swept (released core.holds tx) records core.present =
-    c.sweep_end.ensures
-    ∙ swept_of_map (λ kept. footprint kept.place.0 (g.C.Change.planned kept.change))
-    (released core.holds tx) core.records.items core.present in
-    subst (λ (holds : List Hold). IsNeat core.log holds records c.sweep_end.new.present)
-    (sym c.release_all.ensures)
-    (subst (λ (present : List Present). IsNeat core.log (released core.holds tx) records present)
-    (sym swept_is)
-    (neat_swept core.log (released core.holds tx) records core.present c.self.invariant.logged
-    c.self.invariant.kept))
+    let old : Resident = core.present in
+    let new : Resident = c.unpin_holds.new.present in
+    subst (λ (holds : List Hold). IsNeat core.log holds records new) (sym c.release_all.ensures)
+    (neat_ended core.log core.holds c.args.transaction records old new c.unpin_holds.ensures c.self.invariant)
 
 pub returns : goal.returns
 returns g c =
@@ -40,20 +28,22 @@ returns g c =
     let tx = c.args.transaction in
     let records : List Footprint =
     map (λ kept. footprint kept.place.0 (g.C.Change.planned kept.change)) core.records.items in
-    let swept_is : c.sweep_end.new.present
-    ≡ swept (released core.holds tx) records core.present =
-    c.sweep_end.ensures
-    ∙ swept_of_map (λ kept. footprint kept.place.0 (g.C.Change.planned kept.change))
-    (released core.holds tx) core.records.items core.present in
+    let old : Resident = core.present in
+    let new : Resident = c.unpin_holds.new.present in
+    let neat : IsNeat core.log (released core.holds tx) records new =
+    neat_ended core.log core.holds tx records old new c.unpin_holds.ensures c.self.invariant in
+    let left : new.blocks ≡ swept (released core.holds tx) records old.blocks =
+    c.unpin_holds.ensures.1
+    ∙ swept_is (released core.holds tx) records (pins_of new) old.blocks neat.counted in
     let seen : CoreState = record {
       log = core.log;
       inodes = core.inodes;
       begun = core.begun;
       out = core.out.items;
       holds = core.holds;
-      present = core.present;
+      present = old.blocks;
       records = records;
     } in
-    ended_is seen tx c.leave.new.out.items c.release_all.new.self c.sweep_end.new.present
-    c.leave.ensures c.release_all.ensures swept_is
+    ended_is seen tx c.leave.new.out.items c.release_all.new.self new.blocks
+    c.leave.ensures c.release_all.ensures left
     ∙ ap (λ (seen : CoreState). ended seen tx) c.self.view_is

@@ -1,15 +1,15 @@
-use Rattle.std.proofs.Common.{map, sym, subst, List}
+use Rattle.std.proofs.Common.{map, sym, subst}
+use Rattle.objects.specs.Pins.{Resident}
 use Rattle.txn.proofs.Neat.{neat_failed}
 use Rattle.txn.specs.Neat.{IsNeat}
 use Rattle.txn_law.specs.Commit.{footprint}
-use Rattle.objects.specs.declared.present.Present.{Present}
 use Rattle.txn.proofs.state.State.fetch_failed.Goals as goal
 
 pub invariant_of-self : goal.invariant_of-self
 invariant_of-self g c =
     let core = c.self.inside in
-    subst (λ (present : List Present). IsNeat core.log core.holds
-    (map (λ kept. footprint kept.place.0 (g.C.Change.planned kept.change)) core.records.items) present)
+    subst (λ (resident : Resident). IsNeat core.log core.holds
+    (map (λ kept. footprint kept.place.0 (g.C.Change.planned kept.change)) core.records.items) resident)
     (sym c.fetch_failed.ensures)
     (neat_failed core.log core.holds
     (map (λ kept. footprint kept.place.0 (g.C.Change.planned kept.change)) core.records.items)

@@ -1,15 +1,17 @@
-use Rattle.std.proofs.Common.{◌≡◌, ◌≤◌, ◌∙◌, ap, map, sym, subst, List, All, nat_lt, arith}
+use Rattle.std.proofs.Common.{◌≡◌, ◌≤◌, ◌∙◌, ◌-◌, ℕ, if◌then◌else◌, ap, map, sym, subst, List, nat_lt, arith}
 use Rattle.wal_law.specs.Calls.{InstCallComesBack}
 use Rattle.wal_law.specs.Log.{Log, installed_place}
-use Rattle.txn.proofs.Mapped.{map_filter, swept_of_map, installed_is}
-use Rattle.txn.proofs.Neat.{neat_swept, neat_on, swept_same, past_same, kept_past}
-use Rattle.txn.proofs.Logged.{logged_on}
-use Rattle.txn.specs.Neat.{IsToInstall, IsNeat}
+use Rattle.objects.specs.Pins.{Resident, Unpins, pins_of}
+use Rattle.objects.proofs.Wanted.{wanted_all}
+use Rattle.txn.proofs.Counted.{swept_is, total-map}
+use Rattle.txn.proofs.Mapped.{map_filter, installed_is}
+use Rattle.txn.proofs.Neat.{neat_installed, neat_on, past_same}
+use Rattle.txn.specs.Neat.{IsNeat}
+use Rattle.txn.specs.Pinned.{objects_in, total}
 use Rattle.txn_law.specs.Commit.{footprint}
 use Rattle.txn_law.specs.Core.{CoreState, past, installed}
 use Rattle.txn_law.specs.Records.{swept}
 use Rattle.txn_law.specs.Window.{Footprint}
-use Rattle.objects.specs.declared.present.Present.{Present}
 use Rattle.txn.proofs.state.State.inst_done.Goals as goal
 
 pub invariant_of-self : goal.invariant_of-self
@@ -29,29 +31,46 @@ returns-then-is_at_most-clause-others g c =
     let log : Log = c.inst_done.new.self in
     let records : List Footprint =
     map (λ kept. footprint kept.place.0 (g.C.Change.planned kept.change)) core.records.items in
+    let resident : Resident = core.present in
     let le : installed_place log ≤ installed_place core.log =
     let at = c.is_at_most.ensures.0 c.if-is_at_most.true in
     omega (arith, at, c.installed-installed.ensures, c.installed-before.ensures) in
     let past_is : past (installed_place log) records ≡ records =
     past_same (installed_place log) core.log records le c.self.invariant.kept in
+    let all : swept core.holds records resident.blocks ≡ resident.blocks =
+    sym (swept_is core.holds records (pins_of resident) resident.blocks c.self.invariant.counted)
+    ∙ wanted_all (pins_of resident) resident.blocks c.lawful.ensures.wanted in
     let seen : CoreState = record {
       log = core.log;
       inodes = core.inodes;
       begun = core.begun;
       out = core.out.items;
       holds = core.holds;
-      present = core.present;
+      present = resident.blocks;
       records = records;
     } in
-    installed_is seen log records core.present (sym past_is)
-    (sym (ap (λ (rs : List Footprint). swept core.holds rs core.present) past_is
-    ∙ swept_same core.log core.holds records core.present c.self.invariant))
+    installed_is seen log records resident.blocks (sym past_is)
+    (sym (ap (λ (rs : List Footprint). swept core.holds rs resident.blocks) past_is ∙ all))
     ∙ ap (λ (old : CoreState). installed old log) c.self.view_is
 
 pub returns-then-is_at_most-clause-law : goal.returns-then-is_at_most-clause-law
 returns-then-is_at_most-clause-law g c =
     subst (λ (old : CoreState). InstCallComesBack old.log c.args.io c.args.ok c.inst_done.new.self)
     c.self.view_is c.inst_done.ensures.law
+
+-- what the records that go have read, told by what is made of them
+dropped : {X : Type 0} (f : X → Footprint) (xs : List X) (place other : ℕ) → place ≡ other
+    → (old new : Resident)
+    → Unpins old (λ at. total (λ x. if nat_lt place (f x).place then 0 else objects_in (f x).read at) xs) new
+    → Unpins old (λ at. total (λ kept. if nat_lt other kept.place then 0 else objects_in kept.read at)
+    (map f xs)) new
+dropped f xs place other same old new unpins = (
+  (λ at. unpins.0 at ∙ ap (λ n. pins_of old at - n)
+      (ap (λ (p : ℕ). total (λ x. if nat_lt p (f x).place then 0 else objects_in (f x).read at) xs) same
+      ∙ sym (total-map f (λ (kept : Footprint). if nat_lt other kept.place then 0
+      else objects_in kept.read at) xs))),
+  unpins.1,
+)
 
 pub invariant_of-self-2 : goal.invariant_of-self-2
 invariant_of-self-2 g c =
@@ -62,19 +81,17 @@ invariant_of-self-2 g c =
     let records : List Footprint =
     map (λ kept. footprint kept.place.0 (g.C.Change.planned kept.change)) c.forget.new.records.items in
     let kept_is : records ≡ past (installed_place log) before =
-    ap (map (λ kept. footprint kept.place.0 (g.C.Change.planned kept.change))) c.forget.ensures
+    ap (map (λ kept. footprint kept.place.0 (g.C.Change.planned kept.change))) c.forget.ensures.records
     ∙ map_filter (λ kept. footprint kept.place.0 (g.C.Change.planned kept.change))
     (λ (kept : Footprint). nat_lt c.installed-installed.result.0 kept.place) core.records.items
     ∙ ap (λ place. past place before) c.installed-installed.ensures in
-    let swept_is : c.sweep.new.present ≡ swept core.holds records core.present =
-    c.sweep.ensures
-    ∙ swept_of_map (λ kept. footprint kept.place.0 (g.C.Change.planned kept.change)) core.holds
-    c.forget.new.records.items core.present in
-    subst (λ (present : List Present). IsNeat log core.holds records present) (sym swept_is)
-    (neat_swept log core.holds records core.present
-    (logged_on core.log log c.inst_done.ensures.seen core.present c.self.invariant.logged)
-    (subst (λ (rs : List Footprint). All (IsToInstall log) rs) (sym kept_is)
-    (kept_past core.log log before c.inst_done.ensures.seen.places c.self.invariant.kept)))
+    let old : Resident = core.present in
+    let new : Resident = c.forget.new.present in
+    subst (λ (rs : List Footprint). IsNeat log core.holds rs new) (sym kept_is)
+    (neat_installed core.log log core.holds before old new c.inst_done.ensures.seen
+    (dropped (λ kept. footprint kept.place.0 (g.C.Change.planned kept.change)) core.records.items
+    c.installed-installed.result.0 (installed_place log) c.installed-installed.ensures old new
+    c.forget.ensures.pins) c.self.invariant)
 
 pub returns-clause-others : goal.returns-clause-others
 returns-clause-others g c =
@@ -85,26 +102,31 @@ returns-clause-others g c =
     let records : List Footprint =
     map (λ kept. footprint kept.place.0 (g.C.Change.planned kept.change)) c.forget.new.records.items in
     let kept_is : records ≡ past (installed_place log) before =
-    ap (map (λ kept. footprint kept.place.0 (g.C.Change.planned kept.change))) c.forget.ensures
+    ap (map (λ kept. footprint kept.place.0 (g.C.Change.planned kept.change))) c.forget.ensures.records
     ∙ map_filter (λ kept. footprint kept.place.0 (g.C.Change.planned kept.change))
     (λ (kept : Footprint). nat_lt c.installed-installed.result.0 kept.place) core.records.items
     ∙ ap (λ place. past place before) c.installed-installed.ensures in
-    let swept_is : c.sweep.new.present ≡ swept core.holds records core.present =
-    c.sweep.ensures
-    ∙ swept_of_map (λ kept. footprint kept.place.0 (g.C.Change.planned kept.change)) core.holds
-    c.forget.new.records.items core.present in
+    let old : Resident = core.present in
+    let new : Resident = c.forget.new.present in
+    let neat : IsNeat log core.holds (past (installed_place log) before) new =
+    neat_installed core.log log core.holds before old new c.inst_done.ensures.seen
+    (dropped (λ kept. footprint kept.place.0 (g.C.Change.planned kept.change)) core.records.items
+    c.installed-installed.result.0 (installed_place log) c.installed-installed.ensures old new
+    c.forget.ensures.pins) c.self.invariant in
+    let left : new.blocks ≡ swept core.holds (past (installed_place log) before) old.blocks =
+    c.forget.ensures.pins.1
+    ∙ swept_is core.holds (past (installed_place log) before) (pins_of new) old.blocks neat.counted in
     let seen : CoreState = record {
       log = core.log;
       inodes = core.inodes;
       begun = core.begun;
       out = core.out.items;
       holds = core.holds;
-      present = core.present;
+      present = old.blocks;
       records = before;
     } in
-    installed_is seen log records c.sweep.new.present kept_is
-    (swept_is ∙ ap (λ (rs : List Footprint). swept core.holds rs core.present) kept_is)
-    ∙ ap (λ (old : CoreState). installed old log) c.self.view_is
+    installed_is seen log records new.blocks kept_is left
+    ∙ ap (λ (before : CoreState). installed before log) c.self.view_is
 
 pub returns-clause-law : goal.returns-clause-law
 returns-clause-law g c =

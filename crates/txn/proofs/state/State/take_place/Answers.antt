@@ -1,21 +1,58 @@
-use Rattle.std.proofs.Common.{◌≡◌, All, length, rules, ap, subst, sym, ◌∙◌, List, map, refl}
+use Rattle.std.proofs.Common.{◌≡◌, ◌<◌, ◌+◌, ℕ, if◌then◌else◌, nat_lt, All, length, rules, ap, subst, sym, ◌∙◌, List, map}
+use Rattle.std.proofs.Common.{refl, arith}
+use Rattle.std.proofs.lemmas.List.Elements.{All-weaker}
 use Rattle.wal_law.specs.Calls.{KeepsAgreement}
 use Rattle.wal_law.specs.Effects.{HasAppended}
 use Rattle.wal_law.specs.Grows.{GrowsBy}
 use Rattle.txn_law.specs.Group.{IsLaid}
 use Rattle.objects.specs.Object.{ObjectBytes}
-use Rattle.wal_law.specs.Log.{Log}
+use Rattle.objects.specs.Pins.{Resident, pins_of}
+use Rattle.wal_law.specs.Log.{Log, installed_place}
 use Rattle.disk.specs.Device.{Content}
 use Rattle.disk.specs.declared.block.BlockNo.{BlockNo}
-use Rattle.txn_law.specs.Commit.{IsOwn, Planned, footprint, with_record, refreshed}
+use Rattle.txn_law.specs.Commit.{IsOwn, IsReadBy, Planned, footprint, with_record, refreshed}
 use Rattle.txn_law.specs.Core.{CoreState, ended}
+use Rattle.txn_law.specs.Holds.{hold_of}
 use Rattle.txn_law.specs.Window.{Footprint}
+use Rattle.txn.proofs.Counted.{held_pinned, read_is_held}
 use Rattle.txn.proofs.Mapped.{recorded, committed_is}
 use Rattle.txn.proofs.Logged.{quiet_in, refreshed_is}
 use Rattle.txn.proofs.Neat.{neat_with}
 use Rattle.txn.specs.Neat.{IsNeat}
-use Rattle.objects.specs.declared.present.Present.{Present}
+use Rattle.txn.specs.Pinned.{AreCountable, objects_in}
 use Rattle.txn.proofs.state.State.take_place.Goals as goal
+
+pub keep-requires-clause-pinned : goal.keep-requires-clause-pinned
+keep-requires-clause-pinned g c =
+    let core = c.self.inside in
+    let plan : Planned = g.C.Change.planned c.args.change in
+    let there : Resident = c.refresh.new.present in
+    let seen : CoreState = record {
+      log = core.log;
+      inodes = core.inodes;
+      begun = core.begun;
+      out = core.out.items;
+      holds = core.holds;
+      present = core.present.blocks;
+      records = map (λ kept. footprint kept.place.0 (g.C.Change.planned kept.change)) core.records.items;
+    } in
+    let own : IsOwn seen c.args.tx plan =
+    subst (λ (old : CoreState). IsOwn old c.args.tx plan) (sym c.self.view_is) c.requires.own in
+    All-weaker (IsReadBy seen c.args.tx) (λ (object : ObjectBytes). 0 < pins_of there object.addr.block)
+    (λ object read.
+    let some = held_pinned c.args.tx object.addr object.addr.block core.holds
+    (read_is_held (hold_of core.holds c.args.tx object.addr) read.held) in
+    let counted = c.self.invariant.counted object.addr.block in
+    let same = ap (λ (r : Resident). pins_of r object.addr.block) c.refresh.ensures in
+    omega (arith, some, counted, same)) plan.read own.read
+
+pub keep-requires-clause-countable : goal.keep-requires-clause-countable
+keep-requires-clause-countable g c =
+    let core = c.self.inside in
+    let plan : Planned = g.C.Change.planned c.args.change in
+    subst (λ (r : Resident). AreCountable r plan.read) (sym c.refresh.ensures)
+    (subst (λ (read : List ObjectBytes). AreCountable core.present read) c.read.ensures
+    (c.can_pin_each.ensures.0 c.if-not-can_pin_each.false))
 
 pub invariant_of-self-in-Appended : goal.invariant_of-self-in-Appended
 invariant_of-self-in-Appended g c =
@@ -26,49 +63,62 @@ invariant_of-self-in-Appended g c =
     map (λ kept. footprint kept.place.0 (g.C.Change.planned kept.change)) core.records.items in
     let kept : map (λ kept. footprint kept.place.0 (g.C.Change.planned kept.change)) c.keep.new.records.items
     ≡ with_record log log.places plan before =
-    ap (map (λ kept. footprint kept.place.0 (g.C.Change.planned kept.change))) c.keep.ensures
+    ap (map (λ kept. footprint kept.place.0 (g.C.Change.planned kept.change))) c.keep.ensures.records
     ∙ recorded (λ kept. footprint kept.place.0 (g.C.Change.planned kept.change)) log plan
-    c.installed.result.0 c.places-place.result.0 c.reserve.new.self.items
-    (record { place = c.places-place.result; change = c.args.change }) c.installed.ensures
+    c.installed-installed.result.0 c.places-place.result.0 c.reserve.new.self.items
+    (record { place = c.places-place.result; change = c.args.change }) c.installed-installed.ensures
     c.places-place.ensures refl
     ∙ ap (λ xs. with_record log log.places plan
     (map (λ kept. footprint kept.place.0 (g.C.Change.planned kept.change)) xs)) c.reserve.ensures.items in
     let group : List (BlockNo × Content) = c.in-Ok.group.items in
     let appended : HasAppended core.log group log = c.append.ensures.seen (search rules) in
+    let old : Resident = core.present in
+    let there : Resident = c.keep.new.present in
     let seen : CoreState = record {
       log = core.log;
       inodes = core.inodes;
       begun = core.begun;
       out = core.out.items;
       holds = core.holds;
-      present = core.present;
+      present = old.blocks;
       records = before;
     } in
     let own : IsOwn seen c.args.tx plan =
     subst (λ (old : CoreState). IsOwn old c.args.tx plan) (sym c.self.view_is) c.requires.own in
-    subst (λ (rs : List Footprint). IsNeat log core.holds rs c.refresh.new.present) (sym kept)
-    (subst (λ (ps : List Present). IsNeat log core.holds (with_record log log.places plan before) ps)
-    (sym (c.refresh.ensures
-    ∙ refreshed_is core.log log group appended c.args.blocks.now c.in-Ok.ensures.blocks core.present
-    c.self.invariant.logged))
-    (neat_with core.log log group plan before appended core.holds core.present
-    (quiet_in seen c.args.tx plan group own (c.in-Ok.ensures.blocks ∙ c.requires.blocks) c.lawful.ensures)
-    c.self.invariant))
+    let is : there.blocks ≡ refreshed log old.blocks =
+    c.keep.ensures.pins.1 ∙ ap (λ (r : Resident). r.blocks) c.refresh.ensures
+    ∙ refreshed_is core.log log group appended c.args.blocks.now c.in-Ok.ensures.blocks old.blocks
+    c.self.invariant.logged in
+    let pins : (at : BlockNo) → pins_of there at ≡ pins_of old at
+    + (if nat_lt (installed_place log) log.places then objects_in plan.read at else 0) =
+    λ at. c.keep.ensures.pins.0 at
+    ∙ ap (λ (r : Resident). pins_of r at + (if nat_lt c.installed-installed.result.0 c.places-place.result.0
+    then objects_in plan.read at else 0)) c.refresh.ensures
+    ∙ ap (λ (n : ℕ). pins_of old at + (if nat_lt n c.places-place.result.0
+    then objects_in plan.read at else 0)) c.installed-installed.ensures
+    ∙ ap (λ (n : ℕ). pins_of old at + (if nat_lt (installed_place log) n
+    then objects_in plan.read at else 0)) c.places-place.ensures in
+    subst (λ (rs : List Footprint). IsNeat log core.holds rs there) (sym kept)
+    (neat_with core.log log group plan before appended core.holds old there
+    (quiet_in seen c.args.tx plan group own (c.in-Ok.ensures.blocks ∙ c.requires.blocks) c.lawful.ensures.once)
+    pins is c.self.invariant)
 
 pub returns-in-Appended : goal.returns-in-Appended
 returns-in-Appended g c =
     let core = c.self.inside in
     let log : Log = c.append.new.self in
     let plan : Planned = g.C.Change.planned c.args.change in
+    let resident : Resident = core.present in
+    let there : Resident = c.keep.new.present in
     let seen = ap (λ (old : CoreState). old.log) c.self.view_is in
     let records : List Footprint =
     map (λ kept. footprint kept.place.0 (g.C.Change.planned kept.change)) c.keep.new.records.items in
     let kept : records ≡ with_record log log.places plan
     (map (λ kept. footprint kept.place.0 (g.C.Change.planned kept.change)) core.records.items) =
-    ap (map (λ kept. footprint kept.place.0 (g.C.Change.planned kept.change))) c.keep.ensures
+    ap (map (λ kept. footprint kept.place.0 (g.C.Change.planned kept.change))) c.keep.ensures.records
     ∙ recorded (λ kept. footprint kept.place.0 (g.C.Change.planned kept.change)) log plan
-    c.installed.result.0 c.places-place.result.0 c.reserve.new.self.items
-    (record { place = c.places-place.result; change = c.args.change }) c.installed.ensures
+    c.installed-installed.result.0 c.places-place.result.0 c.reserve.new.self.items
+    (record { place = c.places-place.result; change = c.args.change }) c.installed-installed.ensures
     c.places-place.ensures refl
     ∙ ap (λ xs. with_record log log.places plan
     (map (λ kept. footprint kept.place.0 (g.C.Change.planned kept.change)) xs)) c.reserve.ensures.items in
@@ -81,7 +131,7 @@ returns-in-Appended g c =
         contents = subst (λ (old : CoreState). All (IsLaid old.present old.log plan.written) c.in-Ok.group.items)
             c.self.view_is
             (subst (λ (written : List ObjectBytes).
-            All (IsLaid core.present core.log written) c.in-Ok.group.items) c.written-2.ensures
+            All (IsLaid resident.blocks core.log written) c.in-Ok.group.items) c.written-2.ensures
             c.in-Ok.ensures.contents);
         whole = c.in-Ok.ensures.whole;
         sizes = subst (λ (written : List ObjectBytes).
@@ -95,21 +145,21 @@ returns-in-Appended g c =
       };
       still = search rules;
       places = search rules;
-      core = committed_is c.args.self.now c.close.new.self c.args.tx plan log c.refresh.new.present
+      core = committed_is c.args.self.now c.close.new.self c.args.tx plan log there.blocks
           records (c.close.ensures
           ∙ ap (λ (old : CoreState). ended (record old {
             log = log;
-            present = c.refresh.new.present;
+            present = there.blocks;
             records = records;
           }) c.tx.inside.number) c.self.view_is
           ∙ ap (λ tx. ended (record c.args.self.now {
             log = log;
-            present = c.refresh.new.present;
+            present = there.blocks;
             records = records;
           }) tx) c.tx.view_is)
-          (c.refresh.ensures
+          (c.keep.ensures.pins.1 ∙ ap (λ (r : Resident). r.blocks) c.refresh.ensures
           ∙ refreshed_is core.log log c.in-Ok.group.items (c.append.ensures.seen (search rules))
-          c.args.blocks.now c.in-Ok.ensures.blocks core.present c.self.invariant.logged
+          c.args.blocks.now c.in-Ok.ensures.blocks resident.blocks c.self.invariant.logged
           ∙ ap (λ (old : CoreState). refreshed log old.present) c.self.view_is)
           (kept ∙ ap (λ (old : CoreState). with_record log log.places plan old.records) c.self.view_is);
       law = subst (λ (l : Log). KeepsAgreement l c.close.new.self.log) seen

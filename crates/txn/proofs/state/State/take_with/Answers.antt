@@ -1,14 +1,20 @@
-use Rattle.std.proofs.Common.{◌≡◌, ◌∙◌, List, None, Some, ap, map, subst, sym}
+use Rattle.std.proofs.Common.{◌≡◌, ◌+◌, ◌-◌, ◌∙◌, ℕ, Bool, true, false, if◌then◌else◌, List, None, Some, ap, map}
+use Rattle.std.proofs.Common.{subst, sym, refl, arith}
+use Rattle.std.proofs.lemmas.Bool.{eq-eqb}
 use Rattle.disk.specs.Device.{Content}
+use Rattle.disk.specs.declared.block.BlockNo.{BlockNo}
+use Rattle.objects.specs.Pins.{Resident, PinsStay, once_at, pins_of}
 use Rattle.objects.specs.Present.{present_of, without_block}
 use Rattle.objects.specs.declared.present.Present.{Present}
 use Rattle.objects.proofs.Kept.{back_as_before}
+use Rattle.objects.proofs.Wanted.{once_here}
 use Rattle.wal_law.specs.Log.{newest}
-use Rattle.txn.proofs.Neat.{neat_taken_with}
+use Rattle.txn.proofs.Counted.{held_pinned}
+use Rattle.txn.proofs.Neat.{neat_stay, neat_brought}
 use Rattle.txn.specs.Neat.{IsAsLogged, IsNeat}
+use Rattle.txn.specs.Pinned.{newly_in}
 use Rattle.txn_law.specs.Commit.{footprint}
 use Rattle.txn_law.specs.Core.{CoreState}
-use Rattle.txn_law.specs.Holds.{with_hold}
 use Rattle.txn_law.specs.Window.{Footprint}
 use Rattle.txn_law.specs.declared.hold.Hold.{Hold}
 use Rattle.txn.proofs.state.State.take_with.Goals as goal
@@ -18,29 +24,35 @@ invariant_of-self-in-Err g c =
     let core = c.self.inside in
     let records : List Footprint =
     map (λ kept. footprint kept.place.0 (g.C.Change.planned kept.change)) core.records.items in
-    let absent : present_of core.present c.args.hold.addr.block ≡ None =
-    subst (λ (old : CoreState). present_of old.present c.args.hold.addr.block ≡ None) (sym c.self.view_is)
+    let old : Resident = core.present in
+    let new : Resident = c.take_back.new.self in
+    let absent : present_of old.blocks c.args.hold.addr.block ≡ None =
+    subst (λ (before : CoreState). present_of before.present c.args.hold.addr.block ≡ None) (sym c.self.view_is)
     c.requires.absent in
-    let back : c.take_back.new.self ≡ core.present =
-    c.take_back.ensures
-    ∙ ap (λ (present : List Present). without_block present c.args.hold.addr.block) c.in_ok-pin.ensures.pinned
-    ∙ back_as_before core.present c.args.hold.addr.block c.args.content absent in
-    subst (λ (holds : List Hold). IsNeat core.log holds records c.take_back.new.self)
-    (sym c.in-Err.ensures.refused)
-    (subst (λ (present : List Present). IsNeat core.log core.holds records present) (sym back) c.self.invariant)
+    let back : new.blocks ≡ old.blocks =
+    c.take_back.ensures.blocks
+    ∙ ap (λ (present : List Present). without_block present c.args.hold.addr.block) c.in_ok-bring.ensures.blocks
+    ∙ back_as_before old.blocks c.args.hold.addr.block c.args.content absent in
+    let stay : PinsStay old new =
+    λ at. let more = c.in_ok-bring.ensures.pinned at in let less = c.take_back.ensures.pins at in
+    omega (arith, more, less) in
+    subst (λ (holds : List Hold). IsNeat core.log holds records new) (sym c.in-Err.ensures.refused)
+    (neat_stay core.log core.holds records old new stay back c.self.invariant)
 
 pub returns-in-Err-clause-refused : goal.returns-in-Err-clause-refused
 returns-in-Err-clause-refused g c =
     let core = c.self.inside in
     let records : List Footprint =
     map (λ kept. footprint kept.place.0 (g.C.Change.planned kept.change)) core.records.items in
-    let absent : present_of core.present c.args.hold.addr.block ≡ None =
-    subst (λ (old : CoreState). present_of old.present c.args.hold.addr.block ≡ None) (sym c.self.view_is)
+    let old : Resident = core.present in
+    let new : Resident = c.take_back.new.self in
+    let absent : present_of old.blocks c.args.hold.addr.block ≡ None =
+    subst (λ (before : CoreState). present_of before.present c.args.hold.addr.block ≡ None) (sym c.self.view_is)
     c.requires.absent in
-    let back : c.take_back.new.self ≡ core.present =
-    c.take_back.ensures
-    ∙ ap (λ (present : List Present). without_block present c.args.hold.addr.block) c.in_ok-pin.ensures.pinned
-    ∙ back_as_before core.present c.args.hold.addr.block c.args.content absent in
+    let back : new.blocks ≡ old.blocks =
+    c.take_back.ensures.blocks
+    ∙ ap (λ (present : List Present). without_block present c.args.hold.addr.block) c.in_ok-bring.ensures.blocks
+    ∙ back_as_before old.blocks c.args.hold.addr.block c.args.content absent in
     let seen : List Hold → List Present → CoreState = λ holds present. record {
       log = core.log;
       inodes = core.inodes;
@@ -50,22 +62,48 @@ returns-in-Err-clause-refused g c =
       present = present;
       records = records;
     } in
-    ap (λ (holds : List Hold). seen holds c.take_back.new.self) c.in-Err.ensures.refused
+    ap (λ (holds : List Hold). seen holds new.blocks) c.in-Err.ensures.refused
     ∙ ap (λ (present : List Present). seen core.holds present) back ∙ c.self.view_is
 
-pub invariant_of-self-in_default : goal.invariant_of-self-in_default
-invariant_of-self-in_default g c =
+pub settle-requires : goal.settle-requires
+settle-requires g c = λ e.
+    let core = c.self.inside in
+    let block : BlockNo = c.args.hold.addr.block in
+    let some = held_pinned c.args.hold.transaction c.args.hold.addr block core.holds
+    (sym c.is_held_by-again.ensures ∙ e) in
+    let counted = c.self.invariant.counted block in
+    let more = c.in_ok-bring.ensures.pinned block in
+    let one = once_here block block (eq-eqb block.0 block.0 refl) in
+    omega (arith, some, counted, more, one)
+
+-- the pin that was for a hold that there was is taken off again
+settled : (t again : Bool) (old brought new one : ℕ) → again ≡ t → brought ≡ old + one
+    → new ≡ brought - (if again then one else 0) → new ≡ old + (if t then 0 else one)
+settled t again old brought new one same more less =
+    go t (less ∙ ap (λ (b : Bool). brought - (if b then one else 0)) same)
+  where
+    go : (t : Bool) → new ≡ brought - (if t then one else 0) → new ≡ old + (if t then 0 else one)
+    go true e = omega (arith, more, e)
+    go false e = omega (arith, more, e)
+
+pub invariant_of-self-2 : goal.invariant_of-self-2
+invariant_of-self-2 g c =
     let core = c.self.inside in
     let records : List Footprint =
     map (λ kept. footprint kept.place.0 (g.C.Change.planned kept.change)) core.records.items in
-    let absent : present_of core.present c.args.hold.addr.block ≡ None =
-    subst (λ (old : CoreState). present_of old.present c.args.hold.addr.block ≡ None) (sym c.self.view_is)
+    let old : Resident = core.present in
+    let brought : Resident = c.bring.new.self in
+    let new : Resident = c.settle.new.present in
+    let absent : present_of old.blocks c.args.hold.addr.block ≡ None =
+    subst (λ (before : CoreState). present_of before.present c.args.hold.addr.block ≡ None) (sym c.self.view_is)
     c.requires.absent in
     let logged : IsAsLogged core.log (record { block = c.args.hold.addr.block; content = c.args.content }) =
-    subst (λ (old : CoreState). (newer : Content) → newest old.log c.args.hold.addr.block.0 ≡ Some newer
+    subst (λ (before : CoreState). (newer : Content) → newest before.log c.args.hold.addr.block.0 ≡ Some newer
     → c.args.content ≡ Some newer) (sym c.self.view_is) c.requires.logged in
-    subst (λ (holds : List Hold). IsNeat core.log holds records c.pin.new.self) (sym c.in_default.ensures.taken)
-    (subst (λ (present : List Present). IsNeat core.log (with_hold core.holds c.args.hold) records present)
-    (sym c.in_ok-pin.ensures.pinned)
-    (neat_taken_with core.log core.holds c.args.hold records core.present c.args.content absent logged
-    c.self.invariant))
+    let pins : (at : BlockNo) → pins_of new at ≡ pins_of old at + newly_in core.holds c.args.hold at =
+    λ at. settled _ c.is_held_by-again.result (pins_of old at) (pins_of brought at) (pins_of new at)
+    (once_at c.args.hold.addr.block at) c.is_held_by-again.ensures (c.in_ok-bring.ensures.pinned at)
+    (c.settle.ensures.pins at) in
+    subst (λ (holds : List Hold). IsNeat core.log holds records new) (sym c.in_default.ensures.taken)
+    (neat_brought core.log core.holds c.args.hold records old new c.args.content c.lawful.ensures.apart absent
+    logged pins (c.settle.ensures.blocks ∙ c.in_ok-bring.ensures.blocks) c.self.invariant)

@@ -1,0 +1,50 @@
+-- The blocks that are in memory besides the log's, and how often each block is pinned.
+use Rattle.std.specs.Prelude.{◌≡◌, ℕ, ◌+◌, ◌-◌, Bool, ◌||◌, true, if◌then◌else◌, List, All, is_none, nat_eq, nat_lt}
+use Rattle.std.specs.List.{filter}
+use Rattle.std.specs.Map.{lookup}
+use Rattle.std.specs.Option.{unwrap_or}
+use Rattle.disk.specs.declared.block.BlockNo.{BlockNo}
+use Rattle.objects.specs.declared.present.Present.{Present}
+
+-- The blocks in memory, and the counts of pins by the blocks' numbers. A block may be pinned while it isn't in
+-- memory.
+pub record Resident : Type 0 where
+  pub blocks : List Present
+  pub counts : List (ℕ × ℕ)
+
+-- a block's count: none where it isn't listed
+abbrev pub count_in : List (ℕ × ℕ) → BlockNo → ℕ
+count_in counts block = unwrap_or (lookup (nat_eq block.0) counts) 0
+
+-- how often the block is pinned
+abbrev pub pins_of : Resident → BlockNo → ℕ
+pins_of resident block = count_in resident.counts block
+
+-- one at this block
+abbrev pub once_at : BlockNo → BlockNo → ℕ
+once_at block at = if nat_eq at.0 block.0 then 1 else 0
+
+-- whether the block is pinned, or its fetch is pending
+abbrev pub is_wanted : (BlockNo → ℕ) → Present → Bool
+is_wanted pins entry = is_none entry.content || nat_lt 0 (pins entry.block)
+
+-- each block in memory is pinned, or its fetch is pending
+abbrev pub AreWanted : (BlockNo → ℕ) → List Present → Type 0
+AreWanted pins blocks = All (λ entry. is_wanted pins entry ≡ true) blocks
+
+-- the blocks that are pinned, or whose fetch is pending
+abbrev pub wanted : (BlockNo → ℕ) → List Present → List Present
+wanted pins blocks = filter (is_wanted pins) blocks
+
+-- each block is pinned so many times as before
+abbrev pub PinsStay : Resident → Resident → Type 0
+PinsStay old new = (at : BlockNo) → pins_of new at ≡ pins_of old at
+
+-- each block is pinned so many times more, and nothing else changes
+abbrev pub Pins : Resident → (BlockNo → ℕ) → Resident → Type 0
+Pins old more new = ((at : BlockNo) → pins_of new at ≡ pins_of old at + more at) × (new.blocks ≡ old.blocks)
+
+-- each block is pinned so many times less, and those go that nobody wants then
+abbrev pub Unpins : Resident → (BlockNo → ℕ) → Resident → Type 0
+Unpins old less new =
+    ((at : BlockNo) → pins_of new at ≡ pins_of old at - less at) × (new.blocks ≡ wanted (pins_of new) old.blocks)

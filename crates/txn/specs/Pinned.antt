@@ -1,0 +1,42 @@
+-- How often each block is pinned: once for each hold of a part of it, and once for each object that a kept commit
+-- read in it.
+use Rattle.std.specs.Prelude.{ℕ, ◌+◌, ◌<◌, ◌^◌, if◌then◌else◌, List, [], ◌∷◌, All, length, nat_eq, not}
+use Rattle.std.specs.Prelude.{is_some}
+use Rattle.disk.specs.declared.block.BlockNo.{BlockNo}
+use Rattle.objects.specs.Object.{ObjectBytes}
+use Rattle.objects.specs.Pins.{Resident, once_at, pins_of}
+use Rattle.txn_law.specs.Holds.{hold_of}
+use Rattle.txn_law.specs.Window.{Footprint}
+use Rattle.txn_law.specs.declared.hold.Hold.{Hold}
+
+-- the sum of what each counts for
+abbrev pub total : {X : Type 0} → (X → ℕ) → List X → ℕ
+total count [] = 0
+total count (x ∷ xs) = count x + total count xs
+
+-- how many holds are of a part of the block
+abbrev pub holds_in : List Hold → BlockNo → ℕ
+holds_in holds at = total (λ hold. once_at hold.addr.block at) holds
+
+-- how many of them are this transaction's
+abbrev pub own_in : ℕ → List Hold → BlockNo → ℕ
+own_in tx holds at =
+    total (λ hold. if not (nat_eq hold.transaction tx) then 0 else once_at hold.addr.block at) holds
+
+-- one more, where the transaction hadn't taken the address
+abbrev pub newly_in : List Hold → Hold → BlockNo → ℕ
+newly_in holds hold at =
+    if is_some (hold_of holds hold.transaction hold.addr) then 0 else once_at hold.addr.block at
+
+-- how many of the objects lie in the block
+abbrev pub objects_in : List ObjectBytes → BlockNo → ℕ
+objects_in objects at = total (λ object. once_at object.addr.block at) objects
+
+-- how many objects the kept commits read in the block
+abbrev pub reads_in : List Footprint → BlockNo → ℕ
+reads_in records at = total (λ kept. objects_in kept.read at) records
+
+-- for each object, so many pins more of its block as there are objects can be counted
+abbrev pub AreCountable : Resident → List ObjectBytes → Type 0
+AreCountable resident objects =
+    All (λ object. pins_of resident object.addr.block + length objects < 2 ^ 64) objects
