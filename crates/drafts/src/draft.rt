@@ -22,7 +22,7 @@ use inode::{Snap, Stop};
 use layout::Geometry;
 use layout_records::is_on_grid;
 use limits::BLOCK_BYTES;
-use objects::Addr;
+use objects::{Addr, SharedBytes};
 use std::alloc::{AllocError, Global};
 use std::marker::Model;
 use txn::Object;
@@ -91,7 +91,9 @@ impl<'a> Draft<'a> {
         if !is_given(self.seen, addr) {
             return Err(Stop::Need(addr));
         }
-        let object = Object::new(addr, bytes);
+        let alloc = *bytes.allocator();
+        let shared = SharedBytes::new(alloc, bytes)?;
+        let object = Object::new(addr, shared);
         let copy = object.clone()?;
         self.there.objects.reserve(1)?;
         match self.written.push(object) {

@@ -4,7 +4,7 @@ ghost use Rattle.inode.specs.Snap.{HasRoom, is_claimed, is_seen, same_addr};
 
 use disk::BlockNo;
 use layout::Geometry;
-use objects::Addr;
+use objects::{Addr, SharedBytes};
 use std::alloc::{AllocError, Global};
 use txn::Object;
 
@@ -43,11 +43,11 @@ impl Snap {
     }
 
     /// Adds an object that was read, for which there is room.
-    pub fn add(&mut self, addr: Addr, bytes: Vec<u8>)
-        requires len { length bytes.items ≡ addr.len }
+    pub fn add(&mut self, addr: Addr, bytes: SharedBytes)
+        requires len { length bytes ≡ addr.len }
         requires room { HasRoom self.old }
         ensures objects { self.new.objects.items ≡ self.old.objects.items
-            ++ record { addr = addr; bytes = bytes.items } ∷ [] }
+            ++ record { addr = addr; bytes = bytes } ∷ [] }
         ensures geometry { self.new.geometry ≡ self.old.geometry }
         ensures claims { self.new.claims.items ≡ self.old.claims.items }
     {

@@ -9,6 +9,7 @@ mod parts;
 mod pins;
 mod present;
 mod residency;
+mod shared;
 
 pub use addr::Addr;
 pub use mode::Mode;
@@ -16,3 +17,4 @@ pub use object::Object;
 pub use parts::{extract, splice};
 pub use present::Present;
 pub use residency::Residency;
+pub use shared::SharedBytes;

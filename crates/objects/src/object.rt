@@ -2,7 +2,7 @@
 ghost use Rattle.std.specs.Prelude.{◌≡◌, length};
 ghost use Rattle.objects.specs.declared.addr.Addr.{Addr as Address};
 
-use crate::Addr;
+use crate::{Addr, SharedBytes};
 use std::alloc::AllocError;
 use std::marker::Model;
 
@@ -10,7 +10,7 @@ use std::marker::Model;
 #[derive(Drop)]
 pub struct Object {
     addr: Addr,
-    bytes: Vec<u8>,
+    bytes: SharedBytes,
 }
 
 impl Model for Object {
@@ -19,17 +19,17 @@ impl Model for Object {
 
     ghost Value = { ObjectBytes };
 
-    ghost view = { λ o. record { addr = o.addr; bytes = o.bytes.items } };
+    ghost view = { λ o. record { addr = o.addr; bytes = o.bytes } };
 
-    ghost invariant = { λ o. length o.bytes.items ≡ o.addr.len };
+    ghost invariant = { λ o. length o.bytes ≡ o.addr.len };
 }
 
 impl Object {
     /// The bytes at an address, one for each that it names.
-    pub fn new(addr: Addr, bytes: Vec<u8>) -> Object
-        requires { length bytes.items ≡ addr.len }
+    pub fn new(addr: Addr, bytes: SharedBytes) -> Object
+        requires { length bytes ≡ addr.len }
         ensures addr { result.addr ≡ addr }
-        ensures bytes { result.bytes ≡ bytes.items }
+        ensures bytes { result.bytes ≡ bytes }
     {
         Object { addr, bytes }
     }
@@ -46,7 +46,7 @@ impl Object {
         ensures bytes { result.now ≡ self.now.bytes }
         ensures len { length result.now ≡ self.now.addr.len }
     {
-        &self.bytes
+        self.bytes.as_slice()
     }
 }
 

@@ -3,16 +3,17 @@ ghost use Rattle.std.specs.Prelude.{◌≡◌, ◌+◌, ◌≤◌, ◌⊎◌, �
 ghost use Rattle.limits.specs.declared.TheConstants.{BLOCK_BYTES};
 ghost use Rattle.objects.specs.Spliced.{extracted, spliced};
 
-use crate::{Addr, Object};
+use crate::{Addr, Object, SharedBytes};
 use disk::Block;
 use std::alloc::{AllocError, Global};
 
 /// The bytes that lie at an address of a block.
-pub fn extract(alloc: Global, content: &Block, addr: Addr) -> Result<Vec<u8>, AllocError>
-    ensures bytes { IfOk result (λ bytes. bytes.items ≡ extracted content.now addr.offset addr.len) }
-    ensures len { IfOk result (λ bytes. length bytes.items ≡ addr.len) }
+pub fn extract(alloc: Global, content: &Block, addr: Addr) -> Result<SharedBytes, AllocError>
+    ensures bytes { IfOk result (λ bytes. bytes ≡ extracted content.now addr.offset addr.len) }
+    ensures len { IfOk result (λ bytes. length bytes ≡ addr.len) }
 {
-    content.as_slice()[addr.offset..addr.offset + addr.len].to_vec(alloc)
+    let bytes = content.as_slice()[addr.offset..addr.offset + addr.len].to_vec(alloc)?;
+    SharedBytes::new(alloc, bytes)
 }
 
 /// Lays an object's bytes into a block at its address. Extracted again, there are just these; and what lies

@@ -305,7 +305,7 @@ module _ (old new : Side) (addr : Addr) (job : Job) (tx : ℕ) (snap : Snap)
       → new.worker.work.entry ≡ old.worker.work.entry → new.worker.work.answer ≡ old.worker.work.answer
       → Came Planning old (Some made) new
   wanted made free (want.Held back bytes) made_is core phase got seen entry answer =
-      goes_by Planning old made _ new (held bytes.items phase (ap (λ (c : CoreState). c.log) core.2.only) seen)
+      goes_by Planning old made _ new (held bytes phase (ap (λ (c : CoreState). c.log) core.2.only) seen)
       made_is refl refl
   wanted made free (want.Fetch back io) made_is core phase got seen entry answer =
       reads (record {

@@ -123,9 +123,9 @@ module _ (old new : Side) where
   wanted_loads tx addr room (want.Held back bytes) is loaded =
       subst (λ (n : ℕ). All (IsAimLoaded new.core n) (inserted (object addr) taken)) (sym is.0)
       (all_more (object addr) (IsAimLoaded new.core tx) taken
-      (now_held old.core new.core tx [] addr bytes.items is.2)
+      (now_held old.core new.core tx [] addr bytes is.2)
       (All-weaker (IsAimLoaded old.core tx) (IsAimLoaded new.core tx)
-      (more_loaded tx (one_held old.core new.core tx [] addr bytes.items is.2)) taken loaded))
+      (more_loaded tx (one_held old.core new.core tx [] addr bytes is.2)) taken loaded))
   wanted_loads tx addr room (want.Fetch back io) is loaded =
       subst (λ (n : ℕ). All (IsLoadedBut (Some addr) new.core n) (inserted (object addr) taken)
       × (has_taken new.core n addr ≡ true)) (sym is.0) (

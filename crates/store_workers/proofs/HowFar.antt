@@ -141,9 +141,9 @@ module _ (broken : Bool) (job : Job) (tx : ℕ) (seen : Seen) (asked : Asking) (
         ≡ progress_after broken (Some (step.Wanted addr modes.Exclusive (wish_of answer)))
         (progress_as Planning (Some job) (Some tx) (Some seen) asked knowing)
     wanted_told old new addr (want.Held back bytes) is =
-        back_is back is.0 Planning (seen_held knowing.left addr bytes.items (Some seen)) asked
+        back_is back is.0 Planning (seen_held knowing.left addr bytes (Some seen)) asked
         (with_aim (object addr) knows)
-        ∙ ap (λ begun. told.At (handed job) (told.Planning begun)) (held_by addr bytes.items knowing.left)
+        ∙ ap (λ begun. told.At (handed job) (told.Planning begun)) (held_by addr bytes knowing.left)
     wanted_told old new addr (want.Fetch back io) is =
         back_is back is.0 Reading (Some seen) (record asked { wish = Some addr }) (with_aim (object addr) knows)
     wanted_told old new addr (want.Busy back) is =

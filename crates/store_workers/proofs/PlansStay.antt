@@ -304,7 +304,7 @@ module _ (old new : Side) (keeps : KeepsReadsOf old new) (beyond : NoneTakenBeyo
         ≡ seen_wanted old.worker.known.left addr answer (seen_in old.worker.work.snap)
         → PlansAlone (phase_wanted addr answer old.worker.known) new.worker new.core
     wants addr (want.Held back bytes) asks new_to_it is got then_seen =
-        held back is.0 (ap (λ (b : Begun). b.tx) got) addr bytes.items asks new_to_it is.2 then_seen
+        held back is.0 (ap (λ (b : Begun). b.tx) got) addr bytes asks new_to_it is.2 then_seen
     wants addr (want.Fetch back io) asks new_to_it is got then_seen =
         fetched back is.0 (ap (λ (b : Begun). b.tx) got) addr io asks is.2 then_seen
     wants addr (want.Busy back) asks new_to_it is got then_seen =

@@ -392,9 +392,9 @@ module _ (old new : Side) (tidy : AreTidy old.core) (alone : IsOutAlone old.work
                 alone_by (Some made) new.worker new.core Planning None phase (ap (λ (b : Begun). b.io) got)
                 (λ block. is.2.leaves.fetches block ∙ none block)
                 (λ room. has_so new.worker new.core job tx _ new_job new_tx
-                (seen ∙ ap (λ l. seen_held l addr bytes.items (seen_in old.worker.work.snap)) left
-                ∙ ap (with_object addr bytes.items) snap_is)
-                (read_one old.core new.core tx snap addr has is_plan (reads new_tx) bytes.items is.2))
+                (seen ∙ ap (λ l. seen_held l addr bytes (seen_in old.worker.work.snap)) left
+                ∙ ap (with_object addr bytes) snap_is)
+                (read_one old.core new.core tx snap addr has is_plan (reads new_tx) bytes is.2))
             by (want.Fetch back io) is phase got seen =
                 let new_tx : new.worker.begun.tx ≡ Some tx =
                 ap (λ (b : Begun). b.tx) got ∙ ap (λ t. Some t) is.0 in

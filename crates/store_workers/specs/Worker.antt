@@ -63,7 +63,7 @@ HasRoomFor plan.NoMemory state = Unit {0}
 
 -- an object that is held has as many bytes as were asked for
 abbrev pub HasBytes : ℕ → Want → Type 0
-HasBytes len (want.Held back bytes) = length bytes.items ≡ len
+HasBytes len (want.Held back bytes) = length bytes ≡ len
 HasBytes len (want.Busy back) = Unit {0}
 HasBytes len (want.Fetch back io) = Unit {0}
 HasBytes len (want.Loading back) = Unit {0}

@@ -88,7 +88,7 @@ seen_held [] addr bytes seen = with_object addr bytes seen
 seen_held (next ∷ later) addr bytes seen = seen
 
 abbrev pub seen_wanted : List Aim → Addr → Want → Option Seen → Option Seen
-seen_wanted left addr (want.Held back bytes) seen = seen_held left addr bytes.items seen
+seen_wanted left addr (want.Held back bytes) seen = seen_held left addr bytes seen
 seen_wanted left addr (want.Busy back) seen = seen
 seen_wanted left addr (want.Fetch back io) seen = seen
 seen_wanted left addr (want.Loading back) seen = seen

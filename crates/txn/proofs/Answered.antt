@@ -93,7 +93,7 @@ same_home old new e base h = subst (λ (core : CoreState). IsHomeOf base core) (
 
 pub wanted_home : (old new : CoreState) (tx : ℕ) (addr : Addr) (mode : Mode) (answer : Want)
     → IsWantedExactly old tx addr mode answer new → KeepsHome old new
-wanted_home old new tx addr mode (want.Held back bytes) h = home_held old new tx addr mode bytes.items h.2
+wanted_home old new tx addr mode (want.Held back bytes) h = home_held old new tx addr mode bytes h.2
 wanted_home old new tx addr mode (want.Fetch back io) h = home_fetch old new tx addr mode io h.2
 wanted_home old new tx addr mode (want.Busy back) h = same_home old new h.2
 wanted_home old new tx addr mode (want.Loading back) h = same_home old new h.2
@@ -116,7 +116,7 @@ module _ (P : ℕ → ℕ → List ObjectBytes → List ObjectBytes → Type 0) 
   pub wanted_law : (old new : CoreState) (tx : ℕ) (addr : Addr) (mode : Mode) (answer : Want)
       → IsWantedExactly old tx addr mode answer new → IsLawfulCore P old → IsLawfulCore P new
   wanted_law old new tx addr mode (want.Held back bytes) h =
-      lawful_held P old new tx addr mode bytes.items h.1 h.2
+      lawful_held P old new tx addr mode bytes h.1 h.2
   wanted_law old new tx addr mode (want.Fetch back io) h =
       lawful_fetch P old new tx addr mode io h.1 h.2
   wanted_law old new tx addr mode (want.Busy back) h = same_law old new h.2
@@ -224,7 +224,7 @@ same_reads old new e other = subst (λ (core : CoreState). KeepsReads old core o
 pub wanted_reads : (old new : CoreState) (tx : ℕ) (addr : Addr) (mode : Mode) (answer : Want)
     → IsWantedExactly old tx addr mode answer new → (other : ℕ) → KeepsReads old new other
 wanted_reads old new tx addr mode (want.Held back bytes) h other =
-    reads_held old new tx addr mode bytes.items other h.2
+    reads_held old new tx addr mode bytes other h.2
 wanted_reads old new tx addr mode (want.Fetch back io) h other = reads_fetch old new tx addr mode io other h.2
 wanted_reads old new tx addr mode (want.Busy back) h other = same_reads old new h.2 other
 wanted_reads old new tx addr mode (want.Loading back) h other = same_reads old new h.2 other
@@ -282,7 +282,7 @@ commit_reads P old new tx plan change (commit.Spent back same) core h other diff
 pub wanted_leaves : (old new : CoreState) (tx : ℕ) (addr : Addr) (mode : Mode) (answer : Want)
     → IsWantedExactly old tx addr mode answer new → IsWanted old tx addr mode answer new
 wanted_leaves old new tx addr mode (want.Held back bytes) h =
-    (h.0, h.1, leaves_held old new tx addr mode bytes.items h.1 h.2)
+    (h.0, h.1, leaves_held old new tx addr mode bytes h.1 h.2)
 wanted_leaves old new tx addr mode (want.Fetch back io) h = (h.0, h.1, leaves_fetch old new tx addr mode io h.2)
 wanted_leaves old new tx addr mode (want.Busy back) h = h
 wanted_leaves old new tx addr mode (want.Loading back) h = h

@@ -111,7 +111,7 @@ module _ (old new : CoreState) (tx t : ℕ) (differ : t ≡ tx → ⊥) (reads :
 
   pub by_want : (addr : Addr) (mode : Mode) (answer : Want) → IsWanted old tx addr mode answer new
       → KeepsTaken old new t
-  by_want addr mode (want.Held back bytes) is = by_held addr mode bytes.items is.2
+  by_want addr mode (want.Held back bytes) is = by_held addr mode bytes is.2
   by_want addr mode (want.Fetch back io) is = by_fetch addr mode io is.2
   by_want addr mode (want.Busy back) is = keeps_same old new t is.2
   by_want addr mode (want.Loading back) is = keeps_same old new t is.2

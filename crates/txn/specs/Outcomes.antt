@@ -32,7 +32,7 @@ use Rattle.txn.specs.declared.outcomes.Commit.TheVariants as commit
 abbrev pub IsWantedWith : (List ℕ → Type 0) → (Fetch → Type 0) → CoreState → ℕ → Addr → Mode → Want → CoreState
     → Type 0
 IsWantedWith held fetch old tx addr mode (want.Held back bytes) new = (back ≡ tx) × IsOpen old tx addr mode
-    × held bytes.items
+    × held bytes
 IsWantedWith held fetch old tx addr mode (want.Busy back) new = (back ≡ tx) × IsBusy old tx addr mode
     × (new ≡ old)
 IsWantedWith held fetch old tx addr mode (want.Fetch back io) new = (back ≡ tx) × IsOpen old tx addr mode
@@ -60,7 +60,7 @@ IsMet (want.Outside back) = ⊥
 
 -- the bytes are as many as asked for, and what is to be fetched is a block of the image
 abbrev pub IsWithin : ℕ → ℕ → Want → Type 0
-IsWithin blocks len (want.Held back bytes) = length bytes.items ≡ len
+IsWithin blocks len (want.Held back bytes) = length bytes ≡ len
 IsWithin blocks len (want.Fetch back io) = io.block.0 < blocks
 IsWithin blocks len (want.Busy back) = Unit {0}
 IsWithin blocks len (want.Loading back) = Unit {0}

@@ -9,10 +9,10 @@ use Rattle.txn.specs.declared.want.Source.TheVariants as found
 
 -- the object's current bytes, or a fetch of its block, which is nowhere in memory
 abbrev pub IsSource : CoreState → ℕ → Addr → Mode → Source → CoreState → Type 0
-IsSource old tx addr mode (found.Bytes bytes) new = IsHeldExactly old tx addr mode bytes.items new
+IsSource old tx addr mode (found.Bytes bytes) new = IsHeldExactly old tx addr mode bytes new
 IsSource old tx addr mode (found.Fetch io) new = IsFetchedExactly old tx addr mode io new
 
 -- the bytes are as many as asked for
 abbrev pub IsSourceWithin : ℕ → Source → Type 0
-IsSourceWithin len (found.Bytes bytes) = length bytes.items ≡ len
+IsSourceWithin len (found.Bytes bytes) = length bytes ≡ len
 IsSourceWithin len (found.Fetch io) = Unit {0}

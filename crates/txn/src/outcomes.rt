@@ -1,6 +1,7 @@
 //! What the core answers.
 
 use crate::{FetchIo, Tx};
+use objects::SharedBytes;
 use thiserror::Error;
 use wal::Seq;
 
@@ -17,7 +18,7 @@ pub enum BeginFault {
 
 /// What came of a wish to read an object. The bytes are the object's current ones.
 pub enum Want {
-    Held(Tx, Vec<u8>),
+    Held(Tx, SharedBytes),
     Busy(Tx),
     Fetch(Tx, FetchIo),
     Loading(Tx),

@@ -20,12 +20,12 @@ use crate::state::State;
 use crate::{Change, FetchIo, Tx};
 use disk::{Block, BlockNo};
 use locks::{Hold, Table, Take, for_fetching, for_reading, for_writing};
-use objects::{Addr, Mode, Residency, extract};
+use objects::{Addr, Mode, Residency, SharedBytes, extract};
 use std::alloc::{AllocError, Global};
 
 // What want found, before the transaction is handed back.
 enum Source {
-    Bytes(Vec<u8>),
+    Bytes(SharedBytes),
     Fetch(FetchIo),
 }
 

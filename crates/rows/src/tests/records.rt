@@ -8,7 +8,7 @@ use disk::BlockNo;
 use layout::{Inode, InodeKind, Super};
 use limits::{BLOCK_BYTES, INODE_BYTES, INODES_PER_BLOCK};
 use nfs_types::{Moment, Stamp};
-use objects::Addr;
+use objects::{Addr, SharedBytes};
 use procs::Snap;
 use std::alloc::{AllocError, Global};
 use std::test::Fail;
@@ -91,7 +91,7 @@ fn add(alloc: Global, snap: &mut Snap, number: u32) -> Result<(), Fail> {
     let mut bytes = Vec::new(alloc);
     bytes.resize(addr.len, 0)?;
     snap.make_room()?;
-    snap.add(addr, bytes);
+    snap.add(addr, SharedBytes::new(alloc, bytes)?);
     snap.make_room()?;
     snap.claimed(BlockNo(number));
     Ok(())

@@ -6,7 +6,7 @@ ghost use Rattle.store_promise.specs.declared.aims.Aim.TheVariants as aim;
 use super::parts::{Phase, State};
 use crate::options::put;
 use disk::BlockNo;
-use objects::{Addr, Mode};
+use objects::{Addr, Mode, SharedBytes};
 use procs::{Done, Plan, plan};
 use std::alloc::Global;
 use store_promise::{Aim, Cause, Ending, Step, Verdict, Wish};
@@ -207,14 +207,14 @@ impl State {
     }
 
     // Keeps what was read. What is taken again isn't looked at.
-    fn keep(&mut self, addr: Addr, bytes: Vec<u8>)
+    fn keep(&mut self, addr: Addr, bytes: SharedBytes)
         requires planned { is_planned self.old.work ≡ true }
         requires room { self.old.known.left ≡ [] → HasRoom self.old }
-        requires len { length bytes.items ≡ addr.len }
+        requires len { length bytes ≡ addr.len }
         ensures rest { self.new ≡ with_snap self.new self.old }
         ensures known { self.new.known ≡ self.old.known }
         ensures seen { seen_in self.new.work.snap
-            ≡ seen_held self.old.known.left addr bytes.items (seen_in self.old.work.snap) }
+            ≡ seen_held self.old.known.left addr bytes (seen_in self.old.work.snap) }
         ensures planned { is_planned self.new.work ≡ true }
     {
         if self.known.next().is_some() {

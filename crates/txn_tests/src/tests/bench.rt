@@ -234,7 +234,7 @@ impl<D: CrashDisk> Bench<D> {
 
     fn want_once(&mut self, tx: Tx, at: At) -> (Tx, Seen) {
         match self.core.want(self.alloc, tx, at.addr()) {
-            Want::Held(tx, bytes) => (tx, Seen::Bytes(first(&bytes))),
+            Want::Held(tx, bytes) => (tx, Seen::Bytes(first(bytes.as_slice()))),
             Want::Busy(tx) => (tx, Seen::Busy),
             Want::Fetch(tx, io) => (tx, self.fetch(io)),
             Want::Loading(tx) => (tx, Seen::Loading),

@@ -6,7 +6,7 @@ ghost use Rattle.txn_tests.specs.declared.tests.toys.TheConstants.{BLOCKS};
 
 use disk::BlockNo;
 use limits::{CHANGED_BLOCKS, FIRST_HOME_BLOCK};
-use objects::Addr;
+use objects::{Addr, SharedBytes};
 use std::alloc::{AllocError, Global};
 use std::test::Fail;
 use txn::{Change, Object};
@@ -89,7 +89,8 @@ fn objects(alloc: Global, told: &[(At, u8)]) -> Result<Vec<Object>, AllocError> 
 }
 
 fn object(alloc: Global, addr: Addr, byte: u8) -> Result<Object, AllocError> {
-    Ok(Object::new(addr, vec![in alloc; byte; addr.len]?))
+    let bytes = SharedBytes::new(alloc, vec![in alloc; byte; addr.len]?)?;
+    Ok(Object::new(addr, bytes))
 }
 
 // A home block, counted from the first one.

@@ -65,7 +65,7 @@ returns-clause-shows c = λ image shows.
     (ap (λ (d : Drafted). d.there.geometry) c.self.view_is)
     (c.lay.ensures ∙ ap (λ (l : List ObjectBytes). laid l c.in_ok-copy.copy) c.in_ok-reserve.ensures.items
     ∙ ap (laid c.self.inside.there.objects.items) (c.in_ok-copy.ensures.cases
-    ∙ (λ i. record { addr = c.new-object.ensures.addr i; bytes = c.new-object.ensures.bytes i }))
+    ∙ (λ i. record { addr = c.new-object.ensures.addr i; bytes = (c.new-object.ensures.bytes ∙ c.in_ok-shared.ensures) i }))
     ∙ ap (λ (d : Drafted). laid d.there.objects.items
     (record { addr = c.args.addr; bytes = c.args.bytes.items }))
     c.self.view_is)
@@ -77,7 +77,7 @@ returns-clause-image c = λ blocks.
     ∙ behind_others blocks c.self.inside.written.items c.new-object.result
     ∙ (λ i. with_bytes (with_objects blocks c.self.inside.written.items) (block i)
     (c.new-object.ensures.addr i).offset
-    (c.new-object.ensures.bytes i))
+    ((c.new-object.ensures.bytes ∙ c.in_ok-shared.ensures) i))
     ∙ ap (λ (d : Drafted). with_bytes
     (image_of blocks d) c.args.addr.block.0 c.args.addr.offset c.args.bytes.items)
     c.self.view_is
