@@ -50,10 +50,14 @@ impl Wal {
         ensures call { IfSome result (IsNextInstCall self.new) }
         ensures within { IfSome result (λ io. IsCallWithin self.new.blocks io.call) }
     {
-        if self.broken || !self.begin_installation() {
+        if self.broken || self.logged == 0 {
             return None;
         }
         let buffer = self.inst_buffer.take()?;
+        if self.installing == 0 {
+            self.installing = self.logged;
+            self.inst_step = next_newest(&self.changes, 0, self.installing);
+        }
         Some(self.inst_io(buffer))
     }
 
@@ -86,29 +90,6 @@ impl Wal {
         } else {
             self.end_installation();
         }
-    }
-
-    // Takes the logged changes where none are taken. Answers whether there are any.
-    fn begin_installation(&mut self) -> bool
-        ensures causes { result ≡ (nat_lt 0 self.old.installing || nat_lt 0 self.old.logged) }
-        ensures none { result ≡ false → self.new ≡ self.old }
-        ensures same { 0 < self.old.installing → self.new ≡ self.old }
-        ensures begun { result ≡ true → self.old.installing ≡ 0
-            → self.new ≡ record self.old {
-              installing = self.old.logged;
-              inst_step = next_home self.old.changes self.old.logged 0;
-            } }
-        ensures taken { result ≡ true → 0 < self.new.installing }
-    {
-        if self.installing > 0 {
-            return true;
-        }
-        if self.logged == 0 {
-            return false;
-        }
-        self.installing = self.logged;
-        self.inst_step = next_newest(&self.changes, 0, self.installing);
-        true
     }
 
     // Lets the installed changes go.

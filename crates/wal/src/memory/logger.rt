@@ -49,10 +49,13 @@ impl Wal {
         ensures call { IfSome result (IsNextLogCall self.new) }
         ensures within { IfSome result (λ io. IsCallWithin self.new.blocks io.call) }
     {
-        if self.broken || !self.begin_group() {
+        if self.broken || !self.has_group() {
             return None;
         }
         let buffer = self.log_buffer.take()?;
+        if self.taken == 0 {
+            self.taken = self.changes.len() - self.logged;
+        }
         Some(self.log_io(buffer))
     }
 
@@ -87,22 +90,11 @@ impl Wal {
         }
     }
 
-    // Takes the tail as a group where none is taken, it isn't empty and its positions fit behind the settled
-    // start. Answers whether a group is taken.
-    fn begin_group(&mut self) -> bool
-        ensures causes { result ≡ has_group self.old }
-        ensures none { result ≡ false → self.new ≡ self.old }
-        ensures group { result ≡ true → self.new ≡ record self.old { taken = group_size self.old } }
-        ensures taken { result ≡ true → 0 < self.new.taken }
+    // Whether a group is taken, or the tail isn't empty and its positions fit behind the settled start.
+    fn has_group(&self) -> bool
+        ensures { result ≡ has_group self.now }
     {
-        if self.taken > 0 {
-            return true;
-        }
-        if self.logged == self.changes.len() || self.changes.len() as u64 > LOG_SLOTS {
-            return false;
-        }
-        self.taken = self.changes.len() - self.logged;
-        true
+        self.taken > 0 || self.logged < self.changes.len() && self.changes.len() as u64 <= LOG_SLOTS
     }
 
     // The group's next call, in a buffer.
