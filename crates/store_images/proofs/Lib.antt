@@ -14,7 +14,6 @@ pub mod OutCalls
 pub mod Raising
 pub mod Refusing
 pub mod SameNumbers
-pub mod SetOut
 pub mod SettlingCalls
 pub mod Staying
 pub mod StillOpen

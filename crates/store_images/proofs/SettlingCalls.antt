@@ -16,7 +16,7 @@ use Rattle.wal_law.specs.Installer.{with_inst_back, with_inst_made, with_inst_ou
 use Rattle.store_images.proofs.CallsLeft as CallsLeft
 use Rattle.store_images.proofs.CallsLeft.{given_back, made_left, last_left, may_is}
 use Rattle.store_images.proofs.OutCalls.{inst_is_out, inst_out_sound, its_is_out}
-use Rattle.store_images.specs.Settling.{HaveSetOut, IsQuiet, SpendsSettling, group_left, most_of_settling}
+use Rattle.store_images.specs.Settling.{IsQuiet, SpendsSettling, group_left, most_of_settling}
 use Rattle.store_images.specs.Settling.{settling_calls, settling_left}
 
 -- ---- a group
@@ -293,18 +293,18 @@ most_of all logged taken log_step installing inst_step within home first second 
     let d = most_left (all - (logged + taken)) 0 in
     omega (arith, a, b, c, d, within, home, none)
 
-calls_at_most : (log : Log) → IsLawful log → IsQuiet log → HaveSetOut log → (b : Bool) → log.broken ≡ b
+calls_at_most : (log : Log) → IsLawful log → IsQuiet log → (b : Bool) → log.broken ≡ b
     → (if b then 0 else settling_left log) ≤ most_of_settling log
-calls_at_most log lawful quiet set_out true is = omega arith
-calls_at_most log lawful quiet set_out false is =
+calls_at_most log lawful quiet true is = omega arith
+calls_at_most log lawful quiet false is =
     most_of (length log.changes) log.logged log.taken log.log_step log.installing log.inst_step
-    lawful.taken_within lawful.installing (set_out.logger is quiet.logging)
-    (set_out.installer is quiet.installing) (nat_lt 0 log.taken) (nat_lt 0 log.installing) refl refl
+    lawful.taken_within lawful.installing (lawful.log_begun is quiet.logging)
+    (lawful.inst_begun is quiet.installing) (nat_lt 0 log.taken) (nat_lt 0 log.installing) refl refl
 
 -- so many were made
-pub settled_by : (before later : Device) (old new : Log) → IsLawful old → IsQuiet old → HaveSetOut old
+pub settled_by : (before later : Device) (old new : Log) → IsLawful old → IsQuiet old
     → SpendsSettling before old later new → later.clock ≤ before.clock + most_of_settling old
-settled_by before later old new lawful quiet set_out spends =
+settled_by before later old new lawful quiet spends =
     let few = spends.few in
-    let most = calls_at_most old lawful quiet set_out old.broken refl in
+    let most = calls_at_most old lawful quiet old.broken refl in
     omega (arith, few, most)

@@ -72,12 +72,6 @@ HasFailed log before after = (log.broken ≡ true) ⊎ (before.failures < after.
 
 -- ---- at most twice the blocks in the log, and twelve
 
--- A side of the log that has taken blocks, and has no call out, has made a call for them, unless the log is
--- broken: it takes them as it hands out the first.
-pub record HaveSetOut (log : Log) : Type 0 where
-  pub logger : log.broken ≡ false → log.log_out ≡ false → 0 < log.taken → 0 < log.log_step
-  pub installer : log.broken ≡ false → log.inst_out ≡ false → 0 < log.installing → 0 < log.inst_step
-
 -- The most device calls that a settling has before it, group by group: what is left of the logger's group and
 -- of what the installer has taken; what stands behind that, brought home at once; and the tail, logged at once
 -- and brought home at once.

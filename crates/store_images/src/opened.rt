@@ -8,7 +8,7 @@ ghost use Rattle.store_images.specs.Fetches.{KeepsFetches};
 ghost use Rattle.store_images.specs.Further.{LeavesOpen};
 ghost use Rattle.store_images.specs.Opening.{IsSettled};
 ghost use Rattle.store_images.specs.Settling.{HasBroken, HasCalled, IsQuiet, SameNumbers};
-ghost use Rattle.store_images.specs.Settling.{HaveSetOut, SpendsCalls, SpendsSettling, most_calls};
+ghost use Rattle.store_images.specs.Settling.{SpendsCalls, SpendsSettling, most_calls};
 ghost use Rattle.store_images.specs.Settling.{most_of_settling};
 ghost use Rattle.store_images.specs.SettlingStops.{KeepsPrefixes, StayOpen};
 ghost use Rattle.wal_law.specs.Installer.{may_install};
@@ -34,7 +34,6 @@ pub struct Store<D: CrashDisk> {
     pub boot: u64,
     pub ghost size: { (D.device disk).size ≡ core.log.blocks },
     pub ghost lawful: { IsLawful core.log.blocks core.inodes },
-    pub ghost set_out: { HaveSetOut core.log },
 }
 
 impl<D: CrashDisk> Store<D> {
@@ -118,7 +117,7 @@ pub fn keeps_too_many<D: CrashDisk>(store: &Store<D>) -> bool
 }
 
 // Makes the next device call of the log, if there is one.
-#[tactic(auto, using(crate::proofs::Made::made_size, crate::proofs::CallsLeft::log_called, crate::proofs::SetOut::log_handed, crate::proofs::SetOut::log_given))]
+#[tactic(auto, using(crate::proofs::Made::made_size, crate::proofs::CallsLeft::log_called))]
 fn log_one<D: CrashDisk>(store: &mut Store<D>) -> bool
     requires { IsQuiet store.old.core.log }
     ensures out { store.new.core.out ≡ store.old.core.out }
@@ -158,7 +157,7 @@ fn log_one<D: CrashDisk>(store: &mut Store<D>) -> bool
 }
 
 // Makes the next device call of the installer, if there is one.
-#[tactic(auto, using(crate::proofs::Made::made_size, crate::proofs::CallsLeft::inst_called, crate::proofs::SetOut::inst_handed, crate::proofs::SetOut::inst_given))]
+#[tactic(auto, using(crate::proofs::Made::made_size, crate::proofs::CallsLeft::inst_called))]
 fn install_one<D: CrashDisk>(store: &mut Store<D>) -> bool
     requires { IsQuiet store.old.core.log }
     ensures out { store.new.core.out ≡ store.old.core.out }

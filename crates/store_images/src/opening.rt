@@ -15,7 +15,7 @@ ghost use Rattle.store_promise.specs.Openings.{IsAnsweredFor, IsLater, IsRefused
 ghost use Rattle.store_images.specs.BringingHome.{BringsHome, CountsCause, HasNoSuper, HasRaised};
 ghost use Rattle.store_images.specs.BringingHome.{HasNoLog, IsFound, IsFoundLog, KeepsBlocks};
 ghost use Rattle.store_images.specs.Opening.{HasOpened, HoldsTree, Opens, store_of};
-ghost use Rattle.store_images.specs.Settling.{HasCalled, HaveSetOut, IsIdle, IsQuiet};
+ghost use Rattle.store_images.specs.Settling.{HasCalled, IsIdle, IsQuiet};
 
 use crate::opened::Store;
 use circ::LogFault;
@@ -67,7 +67,6 @@ fn recover<D: CrashDisk>(alloc: Global, disk: &mut D) -> Result<(Core<Done>, u64
     ensures size { IfOk result (λ opened. (D.device disk.new).size ≡ opened.0.log.blocks) }
     ensures lawful { IfOk result (λ opened. IsLawful opened.0.log.blocks opened.0.inodes) }
     ensures idle { IfOk result (λ opened. IsIdle opened.0) }
-    ensures set_out { IfOk result (λ opened. HaveSetOut opened.0.log) }
     ensures answered { MatchResult result
         (λ _. IsAnsweredFor (D.keeps_model disk.new) None (D.device disk.old) (D.device disk.new))
         (λ cause. IsAnsweredFor (D.keeps_model disk.new) (Some cause) (D.device disk.old) (D.device disk.new)) }

@@ -15,4 +15,3 @@ pub mod PlansStay
 pub mod LeavesOthers
 pub mod NotesAll
 pub mod ShareCore
-pub mod KeepsSetOut

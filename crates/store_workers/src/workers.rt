@@ -44,7 +44,6 @@ impl Worker {
     ghost use Rattle.store_workers.specs.Alone.{IsOutAlone};
     ghost use Rattle.store_workers.specs.Ended.{GivesAllBack};
     ghost use Rattle.store_images.specs.Fetches.{FetchesOnly};
-    ghost use Rattle.store_images.specs.Settling.{HaveSetOut};
     ghost use Rattle.layout.specs.Geometry.{IsLawful};
     ghost use Rattle.store_workers.specs.Knowing.{nothing_known};
     ghost use Rattle.store_workers.specs.Phases.{block_due};
@@ -146,7 +145,6 @@ impl Worker {
             (side self.new.state core.new) }
         ensures home { KeepsHomeOf (side self.old.state core.old) (side self.new.state core.new) }
         ensures stays { KeepsReadsOf (side self.old.state core.old) (side self.new.state core.new) }
-        ensures set_out { HaveSetOut core.old.log → HaveSetOut core.new.log }
     {
         self.state.step(alloc, core)
     }

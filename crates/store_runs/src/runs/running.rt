@@ -10,7 +10,7 @@ ghost use Rattle.store_runs.specs.Going.{KeepsCore, LeavesGoing, run_side};
 ghost use Rattle.store_runs.specs.Running.{DoesItsStep, IsAtRest, KeepsFits, MovesOne, RunsWell, counted};
 ghost use Rattle.store_runs.specs.Running.{one_more, side_of};
 ghost use Rattle.store_images.specs.Counts.{SameFrame};
-ghost use Rattle.store_images.specs.Settling.{HaveSetOut, IsIdle};
+ghost use Rattle.store_images.specs.Settling.{IsIdle};
 ghost use Rattle.store_workers.specs.Telling.{HasWorked, TakesCall, TellsWork, answers_told};
 ghost use Rattle.store_workers.specs.Telling.{entries_told, told};
 ghost use Rattle.store_workers.specs.Worker.{ReadsWithin, ctx_of};
@@ -245,7 +245,6 @@ impl<D: CrashDisk> Running<D> {
 
 impl<D: CrashDisk> Running<D> {
     // Gives back the log's device call that was made, or takes the next.
-    #[tactic(auto, using(store_images::proofs::SetOut::log_handed, store_images::proofs::SetOut::log_given))]
     fn log(&mut self) -> Option<Step>
         requires { RunsWell self.old.workers.items self.old.store.core self.old.calls }
         ensures well { RunsWell self.new.workers.items self.new.store.core self.new.calls }
@@ -312,7 +311,6 @@ impl<D: CrashDisk> Running<D> {
     }
 
     // Gives back the installer's device call that was made, or takes the next.
-    #[tactic(auto, using(store_images::proofs::SetOut::inst_handed, store_images::proofs::SetOut::inst_given))]
     fn install(&mut self) -> Option<Step>
         requires { RunsWell self.old.workers.items self.old.store.core self.old.calls }
         ensures well { RunsWell self.new.workers.items self.new.store.core self.new.calls }
@@ -425,7 +423,6 @@ fn work_of(
     ensures step { HasWorked number clock (side one.old.state core.old) result (side one.new.state core.new)
         run.old run.new }
     ensures core { KeepsCore (side one.old.state core.old) (side one.new.state core.new) }
-    ensures set_out { HaveSetOut core.old.log → HaveSetOut core.new.log }
 {
     let step = one.step(alloc, core);
     tell(one, number, clock, run);
@@ -449,7 +446,6 @@ fn tell(one: &mut Worker, number: usize, clock: u64, run: &mut Run)
 // Gives back what workers have begun.
 fn end_workers(workers: Vec<Worker>, core: &mut Core<Done>)
     ensures frame { SameFrame core.old core.new }
-    ensures set_out { HaveSetOut core.old.log → HaveSetOut core.new.log }
 {
     let mut rest = workers;
     'each: for _ in 0..rest.len() {
@@ -462,11 +458,9 @@ fn end_workers(workers: Vec<Worker>, core: &mut Core<Done>)
 
 impl Calls {
     // Gives back what is out.
-    #[tactic(auto, using(store_images::proofs::SetOut::log_given, store_images::proofs::SetOut::inst_given))]
     fn end(self, core: &mut Core<Done>)
         ensures blocks { core.new.log.blocks ≡ core.old.log.blocks }
         ensures inodes { core.new.inodes ≡ core.old.inodes }
-        ensures set_out { HaveSetOut core.old.log → HaveSetOut core.new.log }
     {
         let Calls {
             log,

@@ -36,7 +36,7 @@ pub returns-then-broken-clause-bound : goal.returns-then-broken-clause-bound
 returns-then-broken-clause-bound g c =
     settled_by (g.D.CrashDisk.device c.args.store.now.disk) (g.D.CrashDisk.device c.calls.store.disk)
     c.args.store.now.core.log c.calls.store.core.log c.lawful.ensures.log c.requires
-    c.args.store.now.set_out c.calls.invariant.9
+    c.calls.invariant.9
 
 pub returns-then-broken-clause-keeps : goal.returns-then-broken-clause-keeps
 returns-then-broken-clause-keeps g c = λ keeps.
@@ -53,7 +53,7 @@ pub returns-then-not-keeps_too_many-clause-bound : goal.returns-then-not-keeps_t
 returns-then-not-keeps_too_many-clause-bound g c =
     settled_by (g.D.CrashDisk.device c.args.store.now.disk) (g.D.CrashDisk.device c.calls.store.disk)
     c.args.store.now.core.log c.calls.store.core.log c.lawful.ensures.log c.requires
-    c.args.store.now.set_out c.calls.invariant.9
+    c.calls.invariant.9
 
 pub returns-then-not-keeps_too_many-clause-keeps : goal.returns-then-not-keeps_too_many-clause-keeps
 returns-then-not-keeps_too_many-clause-keeps g c = λ keeps.

@@ -13,8 +13,6 @@ use Rattle.store_images.proofs.Opens.{begins, is_new, is_opened, later_refused, 
 use Rattle.store_images.proofs.Opens.{none_home, read_refused}
 use Rattle.wal_law.proofs.OnlyRead.{no_read}
 use Rattle.txn.specs.Core.{CoreState}
-use Rattle.store_images.proofs.SetOut.{brought_home}
-use Rattle.store_images.specs.Settling.{HaveSetOut}
 use Rattle.store_images.proofs.opening.recover.Goals as goal
 
 full : (super : Super) → length (super_bytes super) ≡ BLOCK_BYTES
@@ -124,10 +122,3 @@ returns-clause-keeps g c = λ tree first holds kept.
       over.0,
       over.1,
     )
-
-pub returns-clause-set_out : goal.returns-clause-set_out
-returns-clause-set_out g c =
-    let none = c.in_default-install.ensures.none in
-    subst (λ (core : CoreState). HaveSetOut core.log) (sym c.new-core.ensures)
-    (brought_home c.install.new.wal c.lawful-2.ensures c.install.ensures.fresh.places none.0
-    c.install.ensures.quiet.installing none.1)

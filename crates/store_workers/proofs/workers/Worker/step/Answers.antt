@@ -1,5 +1,4 @@
 use Rattle.store_workers.specs.WorkerSteps.{side}
-use Rattle.store_workers.proofs.KeepsSetOut.{keeps_set_out}
 use Rattle.store_workers.proofs.StillFits.{still_fits}
 use Rattle.store_workers.proofs.workers.Worker.step.Goals as goal
 
@@ -7,8 +6,3 @@ pub returns-clause-fits : goal.returns-clause-fits
 returns-clause-fits c = λ fits. still_fits (side c.args.self.now.state c.args.core.now)
     (side c.step.new.self c.step.new.core) c.step.ensures.frame fits c.args.self.now.state.phase c.step.result
     c.step.ensures.step
-
-pub returns-clause-set_out : goal.returns-clause-set_out
-returns-clause-set_out c =
-    keeps_set_out (side c.args.self.now.state c.args.core.now) (side c.step.new.self c.step.new.core)
-    c.args.self.now.state.phase c.step.result c.step.ensures.step
