@@ -1,4 +1,4 @@
--- What is filled in is the first entry of its block.
+-- What is filled in is the first resident of its block.
 use Rattle.std.proofs.Common.{◌≡◌, ◌<◌, ◌≤◌, ℕ, ◌+◌, Bool, true, false, not, cond, if◌then◌else◌, nat_eq}
 use Rattle.std.proofs.Common.{nat_lt}
 use Rattle.std.proofs.Common.{List}
@@ -14,10 +14,10 @@ use Rattle.objects.specs.declared.present.Present.{Present}
 
 module _ (block : BlockNo) (content : Content) where
   abbrev pub is_it : Present → Bool
-  is_it entry = nat_eq entry.block.0 block.0
+  is_it resident = nat_eq resident.block.0 block.0
 
   abbrev pub with_content : Present → Present
-  with_content entry = record { block = entry.block; content = filled_in entry.content content }
+  with_content resident = record { block = resident.block; content = filled_in resident.content content }
 
   there : (xs : List Present) (d : Present) → position_or_len is_it xs < length xs
       → set xs (position_or_len is_it xs) (with_content (get_or xs (position_or_len is_it xs) d))
@@ -46,7 +46,7 @@ module _ (block : BlockNo) (content : Content) where
       go true rest le = absurd (omega (arith, le))
       go false rest le = ap (λ ys. x ∷ ys) (rest (omega (arith, le)))
 
-  -- where no entry is of the block, nothing is filled in
+  -- where no resident is of the block, nothing is filled in
   pub filled_none : (xs : List Present) → None ≡ position is_it xs → xs ≡ filled xs block content
   filled_none xs e = go (nat_lt (position_or_len is_it xs) (length xs)) refl e
     where

@@ -1,4 +1,4 @@
--- A block has one entry still, whatever is let go, added or renewed.
+-- A block has one resident still, whatever is let go, added or renewed.
 use Rattle.std.proofs.Common.{◌≡◌, Bool, true, false, not, cond, nat_eq, List, [], ◌∷◌, ◌++◌, Some, None}
 use Rattle.std.proofs.Common.{ℕ, if◌then◌else◌, Option, refl, ap, option_map, ◌∙◌}
 use Rattle.std.proofs.lemmas.Bool.{eq-eqb}
@@ -6,9 +6,9 @@ use Rattle.std.specs.List.{find, items_where_true}
 use Rattle.disk.specs.Device.{Content}
 use Rattle.disk.specs.declared.block.BlockNo.{BlockNo}
 use Rattle.std.specs.Prelude.{is_some}
-use Rattle.objects.specs.Present.{present_of, IsOnce, renewed_entry, renewed, with_block, without_block}
+use Rattle.objects.specs.Present.{present_of, IsOnce, renewed_resident, renewed, with_block, without_block}
 use Rattle.objects.specs.declared.present.Present.{Present}
-use Rattle.objects.proofs.Entries.{is_of}
+use Rattle.objects.proofs.Residents.{is_of}
 
 -- nothing is found where it wasn't, once some are let go
 none_kept : {X : Type 0} (p : X → Bool) (bs : List Bool) (xs : List X) → find p xs ≡ None
@@ -36,20 +36,20 @@ once_kept (false ∷ bs) (x ∷ xs) h = once_kept bs xs h.1
 
 module _ (block : BlockNo) (content : Content) where
   present_of-renewed : (xs : List Present) (at : BlockNo)
-      → present_of (renewed xs block content) at ≡ option_map (renewed_entry block content) (present_of xs at)
+      → present_of (renewed xs block content) at ≡ option_map (renewed_resident block content) (present_of xs at)
   present_of-renewed [] at = refl
   present_of-renewed (x ∷ xs) at = go (present_of-renewed xs at) (nat_eq x.block.0 at.0)
     where
-      go : present_of (renewed xs block content) at ≡ option_map (renewed_entry block content) (present_of xs at)
-          → (t : Bool) → cond t (Some (renewed_entry block content x)) (present_of (renewed xs block content) at)
-          ≡ option_map (renewed_entry block content) (cond t (Some x) (present_of xs at))
+      go : present_of (renewed xs block content) at ≡ option_map (renewed_resident block content) (present_of xs at)
+          → (t : Bool) → cond t (Some (renewed_resident block content x)) (present_of (renewed xs block content) at)
+          ≡ option_map (renewed_resident block content) (cond t (Some x) (present_of xs at))
       go rest true = refl
       go rest false = rest
 
   pub once_renewed : (xs : List Present) → IsOnce xs → IsOnce (renewed xs block content)
   once_renewed [] h = tt
   once_renewed (x ∷ xs) h = (
-    present_of-renewed xs x.block ∙ ap (option_map (renewed_entry block content)) h.0,
+    present_of-renewed xs x.block ∙ ap (option_map (renewed_resident block content)) h.0,
     once_renewed xs h.1,
   )
 
@@ -74,7 +74,7 @@ taken_back (x ∷ xs) block content absent =
         (without_block (xs ++ record { block = block; content = content } ∷ []) block)) is
         ∙ ap (λ ys. x ∷ ys) (rest e)
 
-pub none_of : (entry : Option Present) → is_some entry ≡ false → entry ≡ None
+pub none_of : (resident : Option Present) → is_some resident ≡ false → resident ≡ None
 none_of None e = refl
 none_of (Some there) e = absurd (cc)
 

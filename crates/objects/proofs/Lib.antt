@@ -1,6 +1,6 @@
-pub mod Splices
-pub mod Found
-pub mod Entries
 pub mod Filled
+pub mod Found
 pub mod Kept
+pub mod Residents
+pub mod Splices
 pub mod Wanted

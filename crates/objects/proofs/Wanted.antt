@@ -10,9 +10,9 @@ use Rattle.disk.specs.Device.{Content}
 use Rattle.disk.specs.declared.block.BlockNo.{BlockNo}
 use Rattle.objects.specs.Pins.{Resident, AreWanted, Pins, Unpins, is_wanted, once_at, pins_of, wanted}
 use Rattle.objects.specs.Present.{filled, filled_in, without_block, without_clean}
-use Rattle.objects.specs.Present.{renewed, renewed_content, renewed_entry}
+use Rattle.objects.specs.Present.{renewed, renewed_content, renewed_resident}
 use Rattle.objects.specs.declared.present.Present.{Present}
-use Rattle.objects.proofs.Entries.{same_block, filled_one}
+use Rattle.objects.proofs.Residents.{same_block, filled_one}
 
 -- a filter by what all pass keeps the list
 pub filter_all : {X : Type 0} (p : X → Bool) (xs : List X) → All (λ x. p x ≡ true) xs → filter p xs ≡ xs
@@ -52,14 +52,14 @@ or_more true a b le h = refl
 or_more false a b le h = let some = ltb-true 0 a h in lt-ltb 0 b (omega (arith, le, some))
 
 -- what is wanted stays so by more pins
-pub still_wanted : (few many : BlockNo → ℕ) (entry : Present) → few entry.block ≤ many entry.block
-    → is_wanted few entry ≡ true → is_wanted many entry ≡ true
-still_wanted few many entry le h = or_more (is_none entry.content) (few entry.block) (many entry.block) le h
+pub still_wanted : (few many : BlockNo → ℕ) (resident : Present) → few resident.block ≤ many resident.block
+    → is_wanted few resident ≡ true → is_wanted many resident ≡ true
+still_wanted few many resident le h = or_more (is_none resident.content) (few resident.block) (many resident.block) le h
 
 -- by as many pins the same is wanted
 pub wanted_alike : (one other : BlockNo → ℕ) → ((at : BlockNo) → one at ≡ other at) → (blocks : List Present)
     → wanted one blocks ≡ wanted other blocks
-wanted_alike one other same blocks = λ i. filter (λ entry. is_none entry.content || nat_lt 0 (same entry.block i)) blocks
+wanted_alike one other same blocks = λ i. filter (λ resident. is_none resident.content || nat_lt 0 (same resident.block i)) blocks
 
 -- where all is wanted nothing goes
 pub wanted_all : (pins : BlockNo → ℕ) (blocks : List Present) → AreWanted pins blocks
@@ -73,15 +73,15 @@ are_wanted pins blocks = filter_passes (is_wanted pins) blocks
 pub wanted_more : (few many : BlockNo → ℕ) (blocks : List Present)
     → ((at : BlockNo) → few at ≤ many at) → AreWanted few blocks → AreWanted many blocks
 wanted_more few many blocks le h =
-    All-weaker (λ entry. is_wanted few entry ≡ true) (λ entry. is_wanted many entry ≡ true)
-    (λ entry w. still_wanted few many entry (le entry.block) w) blocks h
+    All-weaker (λ resident. is_wanted few resident ≡ true) (λ resident. is_wanted many resident ≡ true)
+    (λ resident w. still_wanted few many resident (le resident.block) w) blocks h
 
 -- one after the other
 pub wanted_then : (few many : BlockNo → ℕ) (blocks : List Present) → ((at : BlockNo) → few at ≤ many at)
     → wanted few (wanted many blocks) ≡ wanted few blocks
 wanted_then few many blocks le =
     filter_filter (is_wanted few) (is_wanted many) blocks
-    (λ entry w. still_wanted few many entry (le entry.block) w)
+    (λ resident w. still_wanted few many resident (le resident.block) w)
 
 pub unpins_none : (resident : Resident) → AreWanted (pins_of resident) resident.blocks
     → Unpins resident (λ at. 0) resident
@@ -131,128 +131,128 @@ pub wanted_push : (few many : BlockNo → ℕ) (blocks : List Present) (block : 
     → ((at : BlockNo) → many at ≡ few at + once_at block at) → AreWanted few blocks
     → AreWanted many (blocks ++ record { block = block; content = content } ∷ [])
 wanted_push few many blocks block content more h =
-    All-append (λ entry. is_wanted many entry ≡ true) blocks (record { block = block; content = content } ∷ [])
+    All-append (λ resident. is_wanted many resident ≡ true) blocks (record { block = block; content = content } ∷ [])
     (wanted_more few many blocks (λ at. let m = more at in omega (arith, m)) h)
-    (All-cons (λ entry. is_wanted many entry ≡ true) (record { block = block; content = content }) []
+    (All-cons (λ resident. is_wanted many resident ≡ true) (record { block = block; content = content }) []
     (or_pinned (is_none content) (many block)
     (let m = more block in let one = once_here block block (eq-eqb block.0 block.0 refl) in omega (arith, m, one)))
-    (All-nil (λ entry. is_wanted many entry ≡ true)))
+    (All-nil (λ resident. is_wanted many resident ≡ true)))
 
 module _ (old new : BlockNo → ℕ) (block : BlockNo) (less : (at : BlockNo) → new at ≡ old at - once_at block at) where
   elsewhere : (at : BlockNo) → nat_eq at.0 block.0 ≡ false → new at ≡ old at
   elsewhere at e = let l = less at in let none = once_elsewhere block at e in omega (arith, l, none)
 
-  moved : (entry : Present) → nat_eq entry.block.0 block.0 ≡ false → is_wanted old entry ≡ true
-      → is_wanted new entry ≡ true
-  moved entry e h = ap (λ n. is_none entry.content || nat_lt 0 n) (elsewhere entry.block e) ∙ h
+  moved : (resident : Present) → nat_eq resident.block.0 block.0 ≡ false → is_wanted old resident ≡ true
+      → is_wanted new resident ≡ true
+  moved resident e h = ap (λ n. is_none resident.content || nat_lt 0 n) (elsewhere resident.block e) ∙ h
 
   -- the last pin goes
   pub unpinned_last : new block ≡ 0 → (blocks : List Present) → AreWanted old blocks
       → without_clean blocks block ≡ wanted new blocks
   unpinned_last none blocks h =
-      filter_equal (λ (entry : Present). not (nat_eq entry.block.0 block.0) || is_none entry.content)
+      filter_equal (λ (resident : Present). not (nat_eq resident.block.0 block.0) || is_none resident.content)
       (is_wanted new) blocks
-      (All-weaker (λ entry. is_wanted old entry ≡ true)
-      (λ (entry : Present). (not (nat_eq entry.block.0 block.0) || is_none entry.content) ≡ is_wanted new entry)
-      (λ entry w. each entry w (nat_eq entry.block.0 block.0) refl) blocks h)
+      (All-weaker (λ resident. is_wanted old resident ≡ true)
+      (λ (resident : Present). (not (nat_eq resident.block.0 block.0) || is_none resident.content) ≡ is_wanted new resident)
+      (λ resident w. each resident w (nat_eq resident.block.0 block.0) refl) blocks h)
     where
-      each : (entry : Present) → is_wanted old entry ≡ true → (t : Bool) → nat_eq entry.block.0 block.0 ≡ t
-          → (not t || is_none entry.content) ≡ is_wanted new entry
-      each entry w true e = or_free (is_none entry.content) (new entry.block) (here new block entry.block e ∙ none)
-      each entry w false e = sym (moved entry e w)
+      each : (resident : Present) → is_wanted old resident ≡ true → (t : Bool) → nat_eq resident.block.0 block.0 ≡ t
+          → (not t || is_none resident.content) ≡ is_wanted new resident
+      each resident w true e = or_free (is_none resident.content) (new resident.block) (here new block resident.block e ∙ none)
+      each resident w false e = sym (moved resident e w)
 
   -- another is left
   pub unpinned_more : 0 < new block → (blocks : List Present) → AreWanted old blocks → AreWanted new blocks
   unpinned_more some blocks h =
-      All-weaker (λ entry. is_wanted old entry ≡ true) (λ entry. is_wanted new entry ≡ true)
-      (λ entry w. each entry w (nat_eq entry.block.0 block.0) refl) blocks h
+      All-weaker (λ resident. is_wanted old resident ≡ true) (λ resident. is_wanted new resident ≡ true)
+      (λ resident w. each resident w (nat_eq resident.block.0 block.0) refl) blocks h
     where
-      each : (entry : Present) → is_wanted old entry ≡ true → (t : Bool) → nat_eq entry.block.0 block.0 ≡ t
-          → is_wanted new entry ≡ true
-      each entry w true e =
-          or_pinned (is_none entry.content) (new entry.block)
-          (let at = here new block entry.block e in omega (arith, at, some))
-      each entry w false e = moved entry e w
+      each : (resident : Present) → is_wanted old resident ≡ true → (t : Bool) → nat_eq resident.block.0 block.0 ≡ t
+          → is_wanted new resident ≡ true
+      each resident w true e =
+          or_pinned (is_none resident.content) (new resident.block)
+          (let at = here new block resident.block e in omega (arith, at, some))
+      each resident w false e = moved resident e w
 
   -- the block itself goes
   pub wanted_without : (blocks : List Present) → AreWanted old blocks → AreWanted new (without_block blocks block)
   wanted_without blocks h =
-      all_both (λ (entry : Present). not (nat_eq entry.block.0 block.0) ≡ true)
-      (λ entry. is_wanted old entry ≡ true) (λ entry. is_wanted new entry ≡ true)
-      (λ entry other w. each entry w (nat_eq entry.block.0 block.0) refl other)
+      all_both (λ (resident : Present). not (nat_eq resident.block.0 block.0) ≡ true)
+      (λ resident. is_wanted old resident ≡ true) (λ resident. is_wanted new resident ≡ true)
+      (λ resident other w. each resident w (nat_eq resident.block.0 block.0) refl other)
       (without_block blocks block)
-      (filter_passes (λ (entry : Present). not (nat_eq entry.block.0 block.0)) blocks)
-      (All-filter (λ (entry : Present). not (nat_eq entry.block.0 block.0))
-      (λ entry. is_wanted old entry ≡ true) blocks h)
+      (filter_passes (λ (resident : Present). not (nat_eq resident.block.0 block.0)) blocks)
+      (All-filter (λ (resident : Present). not (nat_eq resident.block.0 block.0))
+      (λ resident. is_wanted old resident ≡ true) blocks h)
     where
-      each : (entry : Present) → is_wanted old entry ≡ true → (t : Bool) → nat_eq entry.block.0 block.0 ≡ t
-          → not t ≡ true → is_wanted new entry ≡ true
-      each entry w true e other = absurd cc
-      each entry w false e other = moved entry e w
+      each : (resident : Present) → is_wanted old resident ≡ true → (t : Bool) → nat_eq resident.block.0 block.0 ≡ t
+          → not t ≡ true → is_wanted new resident ≡ true
+      each resident w true e other = absurd cc
+      each resident w false e other = moved resident e w
 
 module _ (pins : BlockNo → ℕ) (block : BlockNo) (content : Content) where
   -- wanted, but for the block
   abbrev pub IsWantedElsewhere : Present → Type 0
-  IsWantedElsewhere entry = nat_eq entry.block.0 block.0 ≡ false → is_wanted pins entry ≡ true
+  IsWantedElsewhere resident = nat_eq resident.block.0 block.0 ≡ false → is_wanted pins resident ≡ true
 
   filled_elsewhere : (blocks : List Present) → AreWanted pins blocks
       → All IsWantedElsewhere (filled blocks block content)
   filled_elsewhere [] h = All-nil IsWantedElsewhere
-  filled_elsewhere (entry ∷ later) h =
-      go (filled_elsewhere later (All-tail (λ x. is_wanted pins x ≡ true) entry later h))
-      (nat_eq entry.block.0 block.0) refl
+  filled_elsewhere (resident ∷ later) h =
+      go (filled_elsewhere later (All-tail (λ x. is_wanted pins x ≡ true) resident later h))
+      (nat_eq resident.block.0 block.0) refl
     where
-      go : All IsWantedElsewhere (filled later block content) → (t : Bool) → nat_eq entry.block.0 block.0 ≡ t
+      go : All IsWantedElsewhere (filled later block content) → (t : Bool) → nat_eq resident.block.0 block.0 ≡ t
           → All IsWantedElsewhere (if t then record {
-            block = entry.block;
-            content = filled_in entry.content content;
-          } ∷ later else entry ∷ filled later block content)
-      go rest true e = All-cons IsWantedElsewhere (filled_one block content entry) later
+            block = resident.block;
+            content = filled_in resident.content content;
+          } ∷ later else resident ∷ filled later block content)
+      go rest true e = All-cons IsWantedElsewhere (filled_one block content resident) later
           (λ other. absurd (let no : true ≡ false = sym e ∙ other in cc))
           (All-weaker (λ x. is_wanted pins x ≡ true) IsWantedElsewhere (λ x w other. w) later
-          (All-tail (λ x. is_wanted pins x ≡ true) entry later h))
-      go rest false e = All-cons IsWantedElsewhere entry (filled later block content)
-          (λ other. All-head (λ x. is_wanted pins x ≡ true) entry later h) rest
+          (All-tail (λ x. is_wanted pins x ≡ true) resident later h))
+      go rest false e = All-cons IsWantedElsewhere resident (filled later block content)
+          (λ other. All-head (λ x. is_wanted pins x ≡ true) resident later h) rest
 
   -- a content came of a block that is pinned
   pub filled_pinned : 0 < pins block → (blocks : List Present) → AreWanted pins blocks
       → AreWanted pins (filled blocks block content)
   filled_pinned some blocks h =
-      All-weaker IsWantedElsewhere (λ entry. is_wanted pins entry ≡ true)
-      (λ entry w. each entry w (nat_eq entry.block.0 block.0) refl) (filled blocks block content)
+      All-weaker IsWantedElsewhere (λ resident. is_wanted pins resident ≡ true)
+      (λ resident w. each resident w (nat_eq resident.block.0 block.0) refl) (filled blocks block content)
       (filled_elsewhere blocks h)
     where
-      each : (entry : Present) → IsWantedElsewhere entry → (t : Bool) → nat_eq entry.block.0 block.0 ≡ t
-          → is_wanted pins entry ≡ true
-      each entry w true e =
-          or_pinned (is_none entry.content) (pins entry.block)
-          (let at = here pins block entry.block e in omega (arith, at, some))
-      each entry w false e = w e
+      each : (resident : Present) → IsWantedElsewhere resident → (t : Bool) → nat_eq resident.block.0 block.0 ≡ t
+          → is_wanted pins resident ≡ true
+      each resident w true e =
+          or_pinned (is_none resident.content) (pins resident.block)
+          (let at = here pins block resident.block e in omega (arith, at, some))
+      each resident w false e = w e
 
   -- a content came of one that isn't
   pub filled_free : pins block ≡ 0 → (blocks : List Present) → AreWanted pins blocks
       → without_clean (filled blocks block content) block ≡ wanted pins (filled blocks block content)
   filled_free none blocks h =
-      filter_equal (λ (entry : Present). not (nat_eq entry.block.0 block.0) || is_none entry.content)
+      filter_equal (λ (resident : Present). not (nat_eq resident.block.0 block.0) || is_none resident.content)
       (is_wanted pins) (filled blocks block content)
       (All-weaker IsWantedElsewhere
-      (λ (entry : Present). (not (nat_eq entry.block.0 block.0) || is_none entry.content) ≡ is_wanted pins entry)
-      (λ entry w. each entry w (nat_eq entry.block.0 block.0) refl) (filled blocks block content)
+      (λ (resident : Present). (not (nat_eq resident.block.0 block.0) || is_none resident.content) ≡ is_wanted pins resident)
+      (λ resident w. each resident w (nat_eq resident.block.0 block.0) refl) (filled blocks block content)
       (filled_elsewhere blocks h))
     where
-      each : (entry : Present) → IsWantedElsewhere entry → (t : Bool) → nat_eq entry.block.0 block.0 ≡ t
-          → (not t || is_none entry.content) ≡ is_wanted pins entry
-      each entry w true e = or_free (is_none entry.content) (pins entry.block) (here pins block entry.block e ∙ none)
-      each entry w false e = sym (w e)
+      each : (resident : Present) → IsWantedElsewhere resident → (t : Bool) → nat_eq resident.block.0 block.0 ≡ t
+          → (not t || is_none resident.content) ≡ is_wanted pins resident
+      each resident w true e = or_free (is_none resident.content) (pins resident.block) (here pins block resident.block e ∙ none)
+      each resident w false e = sym (w e)
 
 -- another content changes nothing of it
 pub wanted_renewed : (pins : BlockNo → ℕ) (block : BlockNo) (content : Content) (blocks : List Present)
     → AreWanted pins blocks → AreWanted pins (renewed blocks block content)
 wanted_renewed pins block content blocks h =
-    All-map (λ entry. is_wanted pins entry ≡ true) (renewed_entry block content) blocks
-    (All-weaker (λ entry. is_wanted pins entry ≡ true)
-    (λ entry. is_wanted pins (renewed_entry block content entry) ≡ true)
-    (λ entry w. ap (λ t. t || nat_lt 0 (pins entry.block)) (same entry.content (nat_eq entry.block.0 block.0)) ∙ w)
+    All-map (λ resident. is_wanted pins resident ≡ true) (renewed_resident block content) blocks
+    (All-weaker (λ resident. is_wanted pins resident ≡ true)
+    (λ resident. is_wanted pins (renewed_resident block content resident) ≡ true)
+    (λ resident w. ap (λ t. t || nat_lt 0 (pins resident.block)) (same resident.content (nat_eq resident.block.0 block.0)) ∙ w)
     blocks h)
   where
     same : (there : Option Content) (t : Bool)

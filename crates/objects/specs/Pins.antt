@@ -26,11 +26,11 @@ once_at block at = if nat_eq at.0 block.0 then 1 else 0
 
 -- whether the block is pinned, or its fetch is pending
 abbrev pub is_wanted : (BlockNo → ℕ) → Present → Bool
-is_wanted pins entry = is_none entry.content || nat_lt 0 (pins entry.block)
+is_wanted pins resident = is_none resident.content || nat_lt 0 (pins resident.block)
 
 -- each block in memory is pinned, or its fetch is pending
 abbrev pub AreWanted : (BlockNo → ℕ) → List Present → Type 0
-AreWanted pins blocks = All (λ entry. is_wanted pins entry ≡ true) blocks
+AreWanted pins blocks = All (λ resident. is_wanted pins resident ≡ true) blocks
 
 -- the blocks that are pinned, or whose fetch is pending
 abbrev pub wanted : (BlockNo → ℕ) → List Present → List Present

@@ -2,26 +2,26 @@
 ghost use Rattle.std.specs.Prelude.{◌≡◌, ◌<◌, ◌++◌, ◌∷◌, [], option_map, vec_len, vec_capacity};
 ghost use Rattle.std.specs.Prelude.{is_some, nat_eq, position};
 ghost use Rattle.objects.specs.Present.{present_of, filled, without_pending, without_clean};
-ghost use Rattle.objects.specs.Present.{renewed_entry, renewed, without_block};
+ghost use Rattle.objects.specs.Present.{renewed_resident, renewed, without_block};
 
 use crate::Present;
 use disk::{Block, BlockNo};
 
 // Where the block stands, if it is there.
 fn index_of(present: &[Present], block: BlockNo) -> Option<usize>
-    ensures { result ≡ position (λ entry. nat_eq entry.block.0 block.0) present.now }
+    ensures { result ≡ position (λ resident. nat_eq resident.block.0 block.0) present.now }
 {
-    present.iter().position(|entry| entry.block == block)
+    present.iter().position(|resident| resident.block == block)
 }
 
-/// The block's entry, if it has one.
+/// The block's resident, if it has one.
 pub(crate) fn present_of(present: &[Present], block: BlockNo) -> Option<&Present>
-    ensures { option_map (λ entry. entry.now) result ≡ present_of present.now block }
+    ensures { option_map (λ resident. resident.now) result ≡ present_of present.now block }
 {
-    present.iter().find(|entry| entry.block == block)
+    present.iter().find(|resident| resident.block == block)
 }
 
-/// Whether the block has an entry.
+/// Whether the block has a resident.
 pub(crate) fn is_there(present: &[Present], block: BlockNo) -> bool
     ensures { result ≡ is_some (present_of present.now block) }
 {
@@ -56,9 +56,9 @@ fn fill_in(present: &mut [Present], block: BlockNo, content: Block)
     let Some(i) = index_of(present, block) else {
         return;
     };
-    let entry = &mut present[i];
-    if entry.content.is_none() {
-        entry.content = Some(content);
+    let resident = &mut present[i];
+    if resident.content.is_none() {
+        resident.content = Some(content);
     }
 }
 
@@ -66,21 +66,21 @@ fn fill_in(present: &mut [Present], block: BlockNo, content: Block)
 pub(crate) fn let_go(present: &mut Vec<Present>, block: BlockNo)
     ensures { present.new.items ≡ without_pending present.old.items block }
 {
-    present.retain(|entry| entry.block != block || entry.content.is_some());
+    present.retain(|resident| resident.block != block || resident.content.is_some());
 }
 
 /// Lets go of the block where no fetch of it is pending.
 pub(crate) fn unpin(present: &mut Vec<Present>, block: BlockNo)
     ensures { present.new.items ≡ without_clean present.old.items block }
 {
-    present.retain(|entry| entry.block != block || entry.content.is_none());
+    present.retain(|resident| resident.block != block || resident.content.is_none());
 }
 
 /// Lets go of the block.
 pub(crate) fn take_back(present: &mut Vec<Present>, block: BlockNo)
     ensures { present.new.items ≡ without_block present.old.items block }
 {
-    present.retain(|entry| entry.block != block);
+    present.retain(|resident| resident.block != block);
 }
 
 /// Makes the content of a block this one, where it is in memory.
@@ -94,19 +94,19 @@ pub(crate) fn renew_each(present: &mut Vec<Present>, block: BlockNo, content: &B
 fn renew_list(present: &mut [Present], block: BlockNo, content: &Block)
     ensures { present.new ≡ renewed present.old block content.now }
 {
-    for entry in present.iter_mut() {
-        renew(entry, block, content);
+    for resident in present.iter_mut() {
+        renew(resident, block, content);
     }
 }
 
-// The same of one entry.
-fn renew(entry: &mut Present, block: BlockNo, content: &Block)
-    ensures { entry.new ≡ renewed_entry block content.now entry.old }
+// The same of one resident.
+fn renew(resident: &mut Present, block: BlockNo, content: &Block)
+    ensures { resident.new ≡ renewed_resident block content.now resident.old }
 {
-    if entry.block != block {
+    if resident.block != block {
         return;
     }
-    if let Some(there) = entry.content.as_mut() {
+    if let Some(there) = resident.content.as_mut() {
         there.copy_from(content);
     }
 }

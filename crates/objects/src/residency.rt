@@ -13,7 +13,7 @@ use std::collections::HashMap;
 use std::marker::Model;
 
 /// The blocks in memory besides the log's, each with its current content, those whose fetch is pending, and how
-/// often each block is pinned. Its type keeps that a block has one entry, so that at most one fetch of it is
+/// often each block is pinned. Its type keeps that a block has one resident, so that at most one fetch of it is
 /// pending, and that nothing is in memory that isn't pinned. A block may be pinned while it isn't in memory.
 #[derive(Drop)]
 pub struct Residency {
@@ -51,7 +51,7 @@ impl Residency {
         }
     }
 
-    /// A block has one entry, and is pinned, or its fetch is pending.
+    /// A block has one resident, and is pinned, or its fetch is pending.
     pub fn lawful(&self)
         ensures once { IsOnce self.now.blocks }
         ensures wanted { AreWanted (pins_of self.now) self.now.blocks }
@@ -64,7 +64,7 @@ impl Residency {
         ensures { option_map (λ content. content.now) result ≡ content_in (present_of self.now.blocks block) }
     {
         match present_of(&self.blocks, block) {
-            Some(entry) => entry.content.as_ref(),
+            Some(resident) => resident.content.as_ref(),
             None => None,
         }
     }
@@ -74,7 +74,7 @@ impl Residency {
         ensures { result ≡ is_pending (present_of self.now.blocks block) }
     {
         match present_of(&self.blocks, block) {
-            Some(entry) => entry.content.is_none(),
+            Some(resident) => resident.content.is_none(),
             None => false,
         }
     }

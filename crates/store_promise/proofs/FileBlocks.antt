@@ -25,7 +25,7 @@ use Rattle.txn_law.specs.Window.{IsAsRead, IsCurrent, now_of, opening, part}
 use Rattle.objects.specs.declared.present.Present.{Present}
 use Rattle.txn_law.proofs.Claims.{found_by}
 use Rattle.txn_law.proofs.CoreCommits.{found_in}
-use Rattle.objects.proofs.Entries.{is_of, same_block}
+use Rattle.objects.proofs.Residents.{is_of, same_block}
 use Rattle.store_promise.specs.OpenSince.{HasFileBlocks, IsOpenSince, file_blocks}
 use Rattle.store_promise.proofs.Chains.{chain_end}
 use Rattle.store_promise.proofs.Stopped.{after_same}

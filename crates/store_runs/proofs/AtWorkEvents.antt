@@ -22,7 +22,7 @@ use Rattle.txn_law.specs.Present.{is_pending, present_of}
 use Rattle.txn_law.specs.Tidy.{AreTidy, IsPlaced}
 use Rattle.objects.specs.declared.present.Present.{Present}
 use Rattle.txn_law.proofs.Claims.{found_by}
-use Rattle.objects.proofs.Entries.{is_of, same_block}
+use Rattle.objects.proofs.Residents.{is_of, same_block}
 use Rattle.txn_law.proofs.HomeReads.{read_home}
 use Rattle.txn_law.proofs.Homes.{unlogged_block}
 use Rattle.wal_law.specs.Log.{IsHomeOn}

@@ -41,7 +41,7 @@ use Rattle.txn_law.specs.Fetch.{Fetch}
 use Rattle.txn_law.specs.Group.{blocks_of}
 use Rattle.txn_law.specs.Leaves.{in_memory}
 use Rattle.txn_law.specs.Object.{ObjectBytes}
-use Rattle.objects.proofs.Entries.{same_block}
+use Rattle.objects.proofs.Residents.{same_block}
 use Rattle.wal_law.specs.Log.{IsHomeOn, added_blocks, settled_place}
 use Rattle.wal_law.specs.Room.{HasPlaces}
 use Rattle.wal_law.specs.declared.outcomes.Seq.{Seq}

@@ -25,7 +25,7 @@ use Rattle.txn.specs.declared.outcomes.Want.{Want}
 use Rattle.txn.specs.declared.outcomes.Want.TheVariants as want
 use Rattle.txn.proofs.OtherSteps.{by_begin, by_claimed, by_commit, by_end, by_failed, by_fetched, by_want}
 use Rattle.txn.proofs.OtherSteps.{keeps_same}
-use Rattle.objects.proofs.Entries.{same_block}
+use Rattle.objects.proofs.Residents.{same_block}
 use Rattle.txn_law.specs.Others.{KeepsTaken}
 use Rattle.store_promise.specs.declared.answers.Verdict.TheVariants as verdict
 use Rattle.store_promise.specs.declared.events.Step.{Step}

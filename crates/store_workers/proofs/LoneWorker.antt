@@ -36,7 +36,7 @@ use Rattle.txn.proofs.LoneTransaction.{never_busy, never_loading}
 use Rattle.txn.proofs.OwnChange.{is_own}
 use Rattle.txn_law.proofs.Alone.{alone_is_out}
 use Rattle.txn_law.proofs.Again as again
-use Rattle.objects.proofs.Entries.{same_block}
+use Rattle.objects.proofs.Residents.{same_block}
 use Rattle.txn_law.proofs.Swept.{in_first, in_more}
 use Rattle.wal_law.specs.Log.{added_blocks}
 use Rattle.txn.specs.Group.{blocks_of}

@@ -13,7 +13,7 @@ use Rattle.objects.specs.Object.{ObjectBytes}
 use Rattle.objects.specs.Pins.{once_at, wanted}
 use Rattle.objects.specs.declared.addr.Addr.{Addr}
 use Rattle.objects.specs.declared.present.Present.{Present}
-use Rattle.objects.proofs.Entries.{same_block}
+use Rattle.objects.proofs.Residents.{same_block}
 use Rattle.wal_law.specs.Log.{Log, installed_place}
 use Rattle.txn_law.specs.Commit.{Planned, footprint, with_record}
 use Rattle.txn_law.specs.Core.{past}
@@ -92,7 +92,7 @@ pub swept_is : (holds : List Hold) (records : List Footprint) (pins : BlockNo �
     → ((at : BlockNo) → pins at ≡ holds_in holds at + reads_in records at)
     → wanted pins blocks ≡ swept holds records blocks
 swept_is holds records pins blocks counted =
-    λ i. filter (λ entry. one entry i) blocks
+    λ i. filter (λ resident. one resident i) blocks
   where
     or_assoc : (u a b : Bool) → (u || (a || b)) ≡ ((u || a) || b)
     or_assoc true a b = refl
@@ -104,11 +104,11 @@ swept_is holds records pins blocks counted =
         ∙ ap (λ t. t || nat_lt 0 (reads_in records at)) (sym (taken_is holds at))
         ∙ ap (λ t. is_taken holds at || t) (sym (kept_is records at))
 
-    one : (entry : Present) → (is_none entry.content || nat_lt 0 (pins entry.block))
-        ≡ ((is_none entry.content || is_taken holds entry.block) || is_kept records entry.block)
-    one entry =
-        ap (λ t. is_none entry.content || t) (each entry.block)
-        ∙ or_assoc (is_none entry.content) (is_taken holds entry.block) (is_kept records entry.block)
+    one : (resident : Present) → (is_none resident.content || nat_lt 0 (pins resident.block))
+        ≡ ((is_none resident.content || is_taken holds resident.block) || is_kept records resident.block)
+    one resident =
+        ap (λ t. is_none resident.content || t) (each resident.block)
+        ∙ or_assoc (is_none resident.content) (is_taken holds resident.block) (is_kept records resident.block)
 
 -- A hold more.
 joined_addr : (had : Option Hold) (hold : Hold) → (joined had hold).addr ≡ hold.addr

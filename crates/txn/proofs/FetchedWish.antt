@@ -15,7 +15,7 @@ use Rattle.txn_law.specs.Wishes.{IsOpen}
 use Rattle.txn_law.specs.declared.hold.Hold.{Hold}
 use Rattle.txn_law.proofs.Again.{open_again}
 use Rattle.txn_law.proofs.Claims.{found_by, all_four}
-use Rattle.objects.proofs.Entries.{same_block}
+use Rattle.objects.proofs.Residents.{same_block}
 use Rattle.txn_law.proofs.Tidied.{taken_one}
 use Rattle.txn.specs.Outcomes.{IsMet, IsWanted}
 use Rattle.txn.specs.declared.outcomes.Want.{Want}

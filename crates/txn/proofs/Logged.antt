@@ -6,10 +6,10 @@ use Rattle.disk.specs.Device.{Content}
 use Rattle.disk.specs.declared.block.BlockNo.{BlockNo}
 use Rattle.objects.specs.Present.{present_of, is_pending, IsOnce, filled_in, filled}
 use Rattle.objects.specs.declared.present.Present.{Present}
-use Rattle.objects.proofs.Entries.{each_filled}
+use Rattle.objects.proofs.Residents.{each_filled}
 use Rattle.wal_law.specs.Effects.{HasAppended, HasGoneOn, newest_in, brought_home}
 use Rattle.wal_law.specs.Log.{Log, newest, or_else, blocks_of as group_blocks}
-use Rattle.txn_law.specs.Commit.{IsOwn, IsWrittenBy, Planned, refreshed_content, refreshed_entry, refreshed}
+use Rattle.txn_law.specs.Commit.{IsOwn, IsWrittenBy, Planned, refreshed_content, refreshed_resident, refreshed}
 use Rattle.txn_law.specs.Core.{CoreState}
 use Rattle.txn_law.specs.Group.{blocks_of, is_among}
 use Rattle.txn_law.proofs.Laid.{among_group, among_after}
@@ -23,34 +23,34 @@ pub logged_on : (old new : Log) → HasGoneOn old new → (present : List Presen
     → All (IsAsLogged new) present
 logged_on old new on present h =
     All-weaker (IsAsLogged old) (IsAsLogged new)
-    (λ entry fits content e. fits content (on.newest_content entry.block.0
-    ∙ ap (λ (o : Option Content). or_else o (brought_home old entry.block.0)) e)) present h
+    (λ resident fits content e. fits content (on.newest_content resident.block.0
+    ∙ ap (λ (o : Option Content). or_else o (brought_home old resident.block.0)) e)) present h
 
 -- a fetch was given back
 pub logged_filled : (log : Log) (block : BlockNo) (content : Content) (present : List Present)
     → All (IsAsLogged log) present → All (IsAsLogged log) (filled present block content)
 logged_filled log block content present h =
     each_filled block content (IsAsLogged log)
-    (λ entry fits newer e. ap (λ (there : Option Content). filled_in there content) (fits newer e)) present h
+    (λ resident fits newer e. ap (λ (there : Option Content). filled_in there content) (fits newer e)) present h
 
 -- a block whose fetch is pending isn't in the group
 abbrev pub IsQuiet : List (BlockNo × Content) → Present → Type 0
-IsQuiet group entry = entry.content ≡ None → newest_in group entry.block.0 ≡ None
+IsQuiet group resident = resident.content ≡ None → newest_in group resident.block.0 ≡ None
 
 -- no group of a change that is a transaction's own has such a block
 pub quiet_in : (core : CoreState) (tx : ℕ) (plan : Planned) (group : List (BlockNo × Content))
     → IsOwn core tx plan → group_blocks group ≡ blocks_of plan.written → IsOnce core.present
     → All (IsQuiet group) core.present
 quiet_in core tx plan group own blocks once =
-    All-weaker (λ entry. present_of core.present entry.block ≡ Some entry) (IsQuiet group) quiet core.present
+    All-weaker (λ resident. present_of core.present resident.block ≡ Some resident) (IsQuiet group) quiet core.present
     (once_is core.present once)
   where
-    quiet : (entry : Present) → present_of core.present entry.block ≡ Some entry → IsQuiet group entry
-    quiet entry is e =
-        let waits : is_pending (present_of core.present entry.block) ≡ true = ap is_pending is ∙ ap is_none e in
-        nothing (newest_in group entry.block.0) (sym (among_group group entry.block)
-        ∙ ap (is_among entry.block) blocks ∙ among_after entry.block [] plan.written
-        ∙ none_lies core.present plan.written entry.block
+    quiet : (resident : Present) → present_of core.present resident.block ≡ Some resident → IsQuiet group resident
+    quiet resident is e =
+        let waits : is_pending (present_of core.present resident.block) ≡ true = ap is_pending is ∙ ap is_none e in
+        nothing (newest_in group resident.block.0) (sym (among_group group resident.block)
+        ∙ ap (is_among resident.block) blocks ∙ among_after resident.block [] plan.written
+        ∙ none_lies core.present plan.written resident.block
         (All-weaker (λ object. IsWrittenBy core tx object.addr)
         (λ object. is_pending (present_of core.present object.addr.block) ≡ false) (λ object w. w.loaded)
         plan.written own.written) waits)
@@ -60,55 +60,55 @@ module _ (old new : Log) (group : List (BlockNo × Content)) (seen : HasAppended
   pub logged_with : (present : List Present) → All (IsQuiet group) present → All (IsAsLogged old) present
       → All (IsAsLogged new) (refreshed new present)
   logged_with present quiet h =
-      All-map (IsAsLogged new) (refreshed_entry new) present
+      All-map (IsAsLogged new) (refreshed_resident new) present
       (λ k d lt. each (get_or present k d) (quiet k d lt) (h k d lt))
     where
-      each : (entry : Present) → IsQuiet group entry → IsAsLogged old entry
-          → IsAsLogged new (refreshed_entry new entry)
-      each entry silent fits content e = go entry.content refl
+      each : (resident : Present) → IsQuiet group resident → IsAsLogged old resident
+          → IsAsLogged new (refreshed_resident new resident)
+      each resident silent fits content e = go resident.content refl
         where
-          there : (o : Option Content) → newest old entry.block.0 ≡ o → entry.content ≡ None → o ≡ None
+          there : (o : Option Content) → newest old resident.block.0 ≡ o → resident.content ≡ None → o ≡ None
           there None is none = refl
           there (Some c) is none = absurd (let no : None ≡ Some c = sym none ∙ fits c is in cc)
 
-          go : (o : Option Content) → entry.content ≡ o
-              → refreshed_content entry.content (newest new entry.block.0) ≡ Some content
+          go : (o : Option Content) → resident.content ≡ o
+              → refreshed_content resident.content (newest new resident.block.0) ≡ Some content
           go (Some c) is =
-              ap (λ (o : Option Content). refreshed_content o (newest new entry.block.0)) is
+              ap (λ (o : Option Content). refreshed_content o (newest new resident.block.0)) is
               ∙ ap (refreshed_content (Some c)) e
           go None none = absurd (let no : None ≡ Some content =
-              sym (seen.newest_content entry.block.0
-              ∙ ap (λ (o : Option Content). or_else o (newest old entry.block.0)) (silent none)
-              ∙ there (newest old entry.block.0) refl none) ∙ e in cc)
+              sym (seen.newest_content resident.block.0
+              ∙ ap (λ (o : Option Content). or_else o (newest old resident.block.0)) (silent none)
+              ∙ there (newest old resident.block.0) refl none) ∙ e in cc)
 
   -- and only those of the group aren't yet
   pub refreshed_is : (blocks : List BlockNo) → group_blocks group ≡ blocks → (present : List Present)
       → All (IsAsLogged old) present → map (refreshed_among new blocks) present ≡ refreshed new present
   refreshed_is blocks same present h =
-      map_equal (refreshed_among new blocks) (refreshed_entry new) present
-      (All-weaker (IsAsLogged old) (λ entry. refreshed_among new blocks entry ≡ refreshed_entry new entry)
-      (λ entry fits. each entry fits (is_among entry.block blocks) refl) present h)
+      map_equal (refreshed_among new blocks) (refreshed_resident new) present
+      (All-weaker (IsAsLogged old) (λ resident. refreshed_among new blocks resident ≡ refreshed_resident new resident)
+      (λ resident fits. each resident fits (is_among resident.block blocks) refl) present h)
     where
-      as_it_was : (entry : Present) → IsAsLogged old entry → (o : Option Content)
-          → newest old entry.block.0 ≡ o → entry.content ≡ refreshed_content entry.content o
-      as_it_was entry fits None is = unlogged entry.content
+      as_it_was : (resident : Present) → IsAsLogged old resident → (o : Option Content)
+          → newest old resident.block.0 ≡ o → resident.content ≡ refreshed_content resident.content o
+      as_it_was resident fits None is = unlogged resident.content
         where
           unlogged : (there : Option Content) → there ≡ refreshed_content there None
           unlogged None = refl
           unlogged (Some c) = refl
-      as_it_was entry fits (Some c) is =
+      as_it_was resident fits (Some c) is =
           fits c is ∙ sym (ap (λ (there : Option Content). refreshed_content there (Some c)) (fits c is))
 
-      each : (entry : Present) → IsAsLogged old entry → (t : Bool) → is_among entry.block blocks ≡ t
-          → (if t then refreshed_entry new entry else entry) ≡ refreshed_entry new entry
-      each entry fits true e = refl
-      each entry fits false e =
-          let absent : newest_in group entry.block.0 ≡ None =
-          nothing (newest_in group entry.block.0) (sym (among_group group entry.block)
-          ∙ ap (is_among entry.block) same ∙ e) in
-          let unchanged : newest new entry.block.0 ≡ newest old entry.block.0 =
-          seen.newest_content entry.block.0
-          ∙ ap (λ (o : Option Content). or_else o (newest old entry.block.0)) absent in
-          ap (λ (content : Option Content). record { block = entry.block; content = content })
-          (as_it_was entry fits (newest old entry.block.0) refl
-          ∙ ap (refreshed_content entry.content) (sym unchanged))
+      each : (resident : Present) → IsAsLogged old resident → (t : Bool) → is_among resident.block blocks ≡ t
+          → (if t then refreshed_resident new resident else resident) ≡ refreshed_resident new resident
+      each resident fits true e = refl
+      each resident fits false e =
+          let absent : newest_in group resident.block.0 ≡ None =
+          nothing (newest_in group resident.block.0) (sym (among_group group resident.block)
+          ∙ ap (is_among resident.block) same ∙ e) in
+          let unchanged : newest new resident.block.0 ≡ newest old resident.block.0 =
+          seen.newest_content resident.block.0
+          ∙ ap (λ (o : Option Content). or_else o (newest old resident.block.0)) absent in
+          ap (λ (content : Option Content). record { block = resident.block; content = content })
+          (as_it_was resident fits (newest old resident.block.0) refl
+          ∙ ap (refreshed_content resident.content) (sym unchanged))

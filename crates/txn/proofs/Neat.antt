@@ -110,7 +110,7 @@ pub neat_failed : (log : Log) (holds : List Hold) (records : List Footprint) (ol
     → IsNeat log holds records (record old { blocks = without_pending old.blocks block })
 neat_failed log holds records old block neat = record {
   counted = neat.counted;
-  logged = All-filter (λ (entry : Present). not (nat_eq entry.block.0 block.0) || is_some entry.content)
+  logged = All-filter (λ (resident : Present). not (nat_eq resident.block.0 block.0) || is_some resident.content)
       (IsAsLogged log) old.blocks neat.logged;
   kept = neat.kept;
 }

@@ -8,10 +8,10 @@ use Rattle.std.proofs.lemmas.List.Elements.{All-head, All-tail}
 use Rattle.std.proofs.lemmas.List.Folds.{list_any-append}
 use Rattle.disk.specs.Device.{Content}
 use Rattle.disk.specs.declared.block.BlockNo.{BlockNo}
-use Rattle.objects.specs.Present.{renewed_content, renewed_entry, renewed}
+use Rattle.objects.specs.Present.{renewed_content, renewed_resident, renewed}
 use Rattle.objects.specs.declared.present.Present.{Present}
 use Rattle.wal_law.specs.Log.{Log, newest}
-use Rattle.txn_law.specs.Commit.{refreshed_content, refreshed_entry}
+use Rattle.txn_law.specs.Commit.{refreshed_content, refreshed_resident}
 use Rattle.txn_law.specs.Group.{is_among}
 use Rattle.txn.specs.Refreshed.{refreshed_where, refreshed_among}
 
@@ -47,43 +47,43 @@ as_it_was None = refl
 as_it_was (Some c) = refl
 
 module _ (log : Log) (block : BlockNo) where
-  at_block : (entry : Present) → nat_eq entry.block.0 block.0 ≡ true
-      → newest log entry.block.0 ≡ newest log block.0
-  at_block entry e = ap (newest log) (eqb-true entry.block.0 block.0 e)
+  at_block : (resident : Present) → nat_eq resident.block.0 block.0 ≡ true
+      → newest log resident.block.0 ≡ newest log block.0
+  at_block resident e = ap (newest log) (eqb-true resident.block.0 block.0 e)
 
   pub where_logged : (content : Content) (present : List Present) → newest log block.0 ≡ Some content
       → renewed present block content ≡ map (refreshed_where log block) present
   where_logged content present logged =
-      map_by (renewed_entry block content) (refreshed_where log block)
-      (λ entry. each entry (nat_eq entry.block.0 block.0) refl) present
+      map_by (renewed_resident block content) (refreshed_where log block)
+      (λ resident. each resident (nat_eq resident.block.0 block.0) refl) present
     where
       made : Present → Option Content → Present
-      made entry content = record { block = entry.block; content = content }
+      made resident content = record { block = resident.block; content = content }
 
-      each : (entry : Present) (t : Bool) → nat_eq entry.block.0 block.0 ≡ t
-          → made entry (if t then renewed_content entry.content content else entry.content)
-          ≡ (if t then refreshed_entry log entry else entry)
-      each entry true e =
-          ap (made entry) (as_renewed entry.content content
-          ∙ ap (refreshed_content entry.content) (sym (at_block entry e ∙ logged)))
-      each entry false e = refl
+      each : (resident : Present) (t : Bool) → nat_eq resident.block.0 block.0 ≡ t
+          → made resident (if t then renewed_content resident.content content else resident.content)
+          ≡ (if t then refreshed_resident log resident else resident)
+      each resident true e =
+          ap (made resident) (as_renewed resident.content content
+          ∙ ap (refreshed_content resident.content) (sym (at_block resident e ∙ logged)))
+      each resident false e = refl
 
   pub where_unlogged : (present : List Present) → newest log block.0 ≡ None
       → present ≡ map (refreshed_where log block) present
   where_unlogged present none =
       sym (map_self present)
-      ∙ map_by (λ entry. entry) (refreshed_where log block)
-      (λ entry. each entry (nat_eq entry.block.0 block.0) refl) present
+      ∙ map_by (λ resident. resident) (refreshed_where log block)
+      (λ resident. each resident (nat_eq resident.block.0 block.0) refl) present
     where
       made : Present → Option Content → Present
-      made entry content = record { block = entry.block; content = content }
+      made resident content = record { block = resident.block; content = content }
 
-      each : (entry : Present) (t : Bool) → nat_eq entry.block.0 block.0 ≡ t
-          → entry ≡ (if t then refreshed_entry log entry else entry)
-      each entry true e =
-          ap (made entry) (sym (ap (refreshed_content entry.content) (at_block entry e ∙ none)
-          ∙ as_it_was entry.content))
-      each entry false e = refl
+      each : (resident : Present) (t : Bool) → nat_eq resident.block.0 block.0 ≡ t
+          → resident ≡ (if t then refreshed_resident log resident else resident)
+      each resident true e =
+          ap (made resident) (sym (ap (refreshed_content resident.content) (at_block resident e ∙ none)
+          ∙ as_it_was resident.content))
+      each resident false e = refl
 
 pub among_none : (log : Log) (present : List Present) → map (refreshed_among log []) present ≡ present
 among_none log present = map_self present
@@ -100,43 +100,43 @@ pub among_more : (log : Log) (blocks : List BlockNo) (block : BlockNo) (present 
     ≡ map (refreshed_among log (blocks ++ block ∷ [])) present
 among_more log blocks block present =
     map_map (refreshed_where log block) (refreshed_among log blocks) present
-    ∙ map_by (λ entry. refreshed_where log block (refreshed_among log blocks entry))
+    ∙ map_by (λ resident. refreshed_where log block (refreshed_among log blocks resident))
     (refreshed_among log (blocks ++ block ∷ [])) each present
   where
-    both : (entry : Present) (t u : Bool)
-        → refreshed_where log block (if t then refreshed_entry log entry else entry)
-        ≡ (if u then refreshed_entry log (if t then refreshed_entry log entry else entry)
-        else (if t then refreshed_entry log entry else entry))
-        → refreshed_where log block (if t then refreshed_entry log entry else entry)
-        ≡ (if t || u then refreshed_entry log entry else entry)
-    both entry true true e = e
-        ∙ ap (λ (content : Option Content). record { block = entry.block; content = content })
-        (twice entry.content (newest log entry.block.0))
-    both entry true false e = e
-    both entry false true e = e
-    both entry false false e = e
+    both : (resident : Present) (t u : Bool)
+        → refreshed_where log block (if t then refreshed_resident log resident else resident)
+        ≡ (if u then refreshed_resident log (if t then refreshed_resident log resident else resident)
+        else (if t then refreshed_resident log resident else resident))
+        → refreshed_where log block (if t then refreshed_resident log resident else resident)
+        ≡ (if t || u then refreshed_resident log resident else resident)
+    both resident true true e = e
+        ∙ ap (λ (content : Option Content). record { block = resident.block; content = content })
+        (twice resident.content (newest log resident.block.0))
+    both resident true false e = e
+    both resident false true e = e
+    both resident false false e = e
 
-    same_there : (entry : Present) (t : Bool)
-        → refreshed_where log block (if t then refreshed_entry log entry else entry)
-        ≡ (if nat_eq entry.block.0 block.0
-        then refreshed_entry log (if t then refreshed_entry log entry else entry)
-        else (if t then refreshed_entry log entry else entry))
-    same_there entry true = refl
-    same_there entry false = refl
+    same_there : (resident : Present) (t : Bool)
+        → refreshed_where log block (if t then refreshed_resident log resident else resident)
+        ≡ (if nat_eq resident.block.0 block.0
+        then refreshed_resident log (if t then refreshed_resident log resident else resident)
+        else (if t then refreshed_resident log resident else resident))
+    same_there resident true = refl
+    same_there resident false = refl
 
     last : (u : Bool) → (u || false) ≡ u
     last true = refl
     last false = refl
 
-    each : (entry : Present) → refreshed_where log block (refreshed_among log blocks entry)
-        ≡ refreshed_among log (blocks ++ block ∷ []) entry
-    each entry =
-        both entry (is_among entry.block blocks) (nat_eq entry.block.0 block.0)
-        (same_there entry (is_among entry.block blocks))
-        ∙ ap (λ t. if t then refreshed_entry log entry else entry)
-        (ap (λ t. is_among entry.block blocks || t)
-        (turned entry.block.0 block.0 ∙ sym (last (nat_eq block.0 entry.block.0)))
-        ∙ sym (list_any-append (λ (b : BlockNo). nat_eq b.0 entry.block.0) blocks (block ∷ [])))
+    each : (resident : Present) → refreshed_where log block (refreshed_among log blocks resident)
+        ≡ refreshed_among log (blocks ++ block ∷ []) resident
+    each resident =
+        both resident (is_among resident.block blocks) (nat_eq resident.block.0 block.0)
+        (same_there resident (is_among resident.block blocks))
+        ∙ ap (λ t. if t then refreshed_resident log resident else resident)
+        (ap (λ t. is_among resident.block blocks || t)
+        (turned resident.block.0 block.0 ∙ sym (last (nat_eq block.0 resident.block.0)))
+        ∙ sym (list_any-append (λ (b : BlockNo). nat_eq b.0 resident.block.0) blocks (block ∷ [])))
 
 -- one block more is what the log has
 pub among_step : (log : Log) (blocks : List BlockNo) (i : ℕ) (d : BlockNo) (first before now : List Present)

@@ -13,8 +13,8 @@ use Rattle.txn.specs.Pinned.{holds_in, reads_in}
 
 -- where the log has the block, its content there is in memory, and no fetch of it is pending
 abbrev pub IsAsLogged : Log → Present → Type 0
-IsAsLogged log entry =
-    (content : Content) → newest log entry.block.0 ≡ Some content → entry.content ≡ Some content
+IsAsLogged log resident =
+    (content : Content) → newest log resident.block.0 ≡ Some content → resident.content ≡ Some content
 
 -- the commit's place is past what is installed, and one of the log's
 abbrev pub IsToInstall : Log → Footprint → Type 0

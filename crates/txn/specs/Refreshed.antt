@@ -3,15 +3,15 @@ use Rattle.std.specs.Prelude.{if◌then◌else◌, List, nat_eq}
 use Rattle.disk.specs.declared.block.BlockNo.{BlockNo}
 use Rattle.objects.specs.declared.present.Present.{Present}
 use Rattle.wal_law.specs.Log.{Log}
-use Rattle.txn_law.specs.Commit.{refreshed_entry}
+use Rattle.txn_law.specs.Commit.{refreshed_resident}
 use Rattle.txn_law.specs.Group.{is_among}
 
--- an entry, which is what the log has where it is of this block
+-- a resident, which is what the log has where it is of this block
 abbrev pub refreshed_where : Log → BlockNo → Present → Present
-refreshed_where log block entry =
-    if nat_eq entry.block.0 block.0 then refreshed_entry log entry else entry
+refreshed_where log block resident =
+    if nat_eq resident.block.0 block.0 then refreshed_resident log resident else resident
 
--- an entry, which is what the log has where it is of one of these blocks
+-- a resident, which is what the log has where it is of one of these blocks
 abbrev pub refreshed_among : Log → List BlockNo → Present → Present
-refreshed_among log blocks entry =
-    if is_among entry.block blocks then refreshed_entry log entry else entry
+refreshed_among log blocks resident =
+    if is_among resident.block blocks then refreshed_resident log resident else resident

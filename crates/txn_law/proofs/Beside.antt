@@ -11,7 +11,7 @@ use Rattle.objects.specs.declared.addr.Addr.{Addr}
 use Rattle.objects.proofs.Splices.{spliced-length, ahead, behind}
 use Rattle.objects.specs.Object.{ObjectBytes}
 use Rattle.txn_law.specs.Window.{object_at, with_object, with_objects}
-use Rattle.objects.proofs.Entries.{same_block}
+use Rattle.objects.proofs.Residents.{same_block}
 
 -- an object that shares no byte with those that are laid over a block
 module _ (addr : Addr) where

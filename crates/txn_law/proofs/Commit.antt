@@ -115,7 +115,7 @@ module _ (base : Image) (old new : Log) (commits : List Footprint) (held kept : 
       ∙ ap (λ cs. now_of base old cs block) empty ∙ ap (λ xs. with_changes base (recovered xs) block) none in
       let memory' : All (IsCurrent base) kept =
       All-weaker (IsCurrent (with_objects (now_of base old commits) commit.written)) (IsCurrent base)
-      (λ entry same. same ∙ now entry.0) kept memory in
+      (λ resident same. same ∙ now resident.0) kept memory in
       subst (λ cs. IsWindowOver base new cs kept) (sym kept_out) (none_window base new kept changes memory')
 
   now_new : now_of base new (commits ++ commit ∷ []) ≡ with_objects (now_of base old commits) commit.written

@@ -22,7 +22,7 @@ use Rattle.objects.specs.Present.{present_of, content_in}
 use Rattle.txn_law.specs.Records.{lies_in}
 use Rattle.txn_law.specs.Window.{Footprint, part, IsAsRead, with_objects}
 use Rattle.objects.specs.declared.present.Present.{Present}
-use Rattle.txn_law.specs.CoreWindow.{with_entry, held_of, IsCoreWindow}
+use Rattle.txn_law.specs.CoreWindow.{with_resident, held_of, IsCoreWindow}
 use Rattle.txn_law.specs.Commit.{refreshed_content, refreshed, committed, IsCommitted}
 use Rattle.txn_law.specs.Steps.{IsBrought, IsWholeIn, IsKnown, with_commit}
 use Rattle.txn_law.specs.Window.{now_of, IsPinned, ArePinned, IsCurrent}
@@ -36,8 +36,8 @@ module _ (log : Log) (now later : Image) (is : (block : ℕ)
     → content_or (newest log block) (now block) ≡ later block) where
   one_refreshed : (block : BlockNo) (content : Option Content) (xs ys : List (ℕ × Content))
       → (All (IsCurrent now) xs → All (IsCurrent later) ys)
-      → All (IsCurrent now) (with_entry block content xs)
-      → All (IsCurrent later) (with_entry block (refreshed_content content (newest log block.0)) ys)
+      → All (IsCurrent now) (with_resident block content xs)
+      → All (IsCurrent later) (with_resident block (refreshed_content content (newest log block.0)) ys)
   one_refreshed block None xs ys rest h = rest h
   one_refreshed block (Some content) xs ys rest h =
       All-cons (IsCurrent later) (block.0, content_or (newest log block.0) content) ys
@@ -48,16 +48,16 @@ module _ (log : Log) (now later : Image) (is : (block : ℕ)
   all_refreshed : (present : List Present) → All (IsCurrent now) (held_of present)
       → All (IsCurrent later) (held_of (refreshed log present))
   all_refreshed [] h = All-nil (IsCurrent later)
-  all_refreshed (entry ∷ later_ones) h =
-      one_refreshed entry.block entry.content (held_of later_ones) (held_of (refreshed log later_ones))
+  all_refreshed (resident ∷ later_ones) h =
+      one_refreshed resident.block resident.content (held_of later_ones) (held_of (refreshed log later_ones))
       (all_refreshed later_ones) h
 
 -- a block in memory stays there
 module _ (log : Log) (block : ℕ) (content : Content) where
   one_there : (at : BlockNo) (there : Option Content) (xs ys : List (ℕ × Content))
       → (Contains xs (block, content) → (c : Content) × Contains ys (block, c))
-      → Contains (with_entry at there xs) (block, content)
-      → (c : Content) × Contains (with_entry at (refreshed_content there (newest log at.0)) ys) (block, c)
+      → Contains (with_resident at there xs) (block, content)
+      → (c : Content) × Contains (with_resident at (refreshed_content there (newest log at.0)) ys) (block, c)
   one_there at None xs ys rest h = rest h
   one_there at (Some there) xs ys rest h = go (in_cons (at.0, there) (block, content) xs h)
     where
@@ -74,33 +74,33 @@ module _ (log : Log) (block : ℕ) (content : Content) where
   still_there : (present : List Present) → Contains (held_of present) (block, content)
       → (c : Content) × Contains (held_of (refreshed log present)) (block, c)
   still_there [] (k, lt, e) = absurd (omega (arith, lt))
-  still_there (entry ∷ later) h =
-      one_there entry.block entry.content (held_of later) (held_of (refreshed log later)) (still_there later)
+  still_there (resident ∷ later) h =
+      one_there resident.block resident.content (held_of later) (held_of (refreshed log later)) (still_there later)
       h
 
 -- what the core finds in memory is there
 pub found_in : (present : List Present) (block : BlockNo) (content : Content)
     → content_in (present_of present block) ≡ Some content → Contains (held_of present) (block.0, content)
 found_in [] block content e = absurd (cc)
-found_in (entry ∷ later) block content e =
-    go (found_in later block content) (nat_eq entry.block.0 block.0) refl e
+found_in (resident ∷ later) block content e =
+    go (found_in later block content) (nat_eq resident.block.0 block.0) refl e
   where
     behind : (there : Option Content) → Contains (held_of later) (block.0, content)
-        → Contains (with_entry entry.block there (held_of later)) (block.0, content)
+        → Contains (with_resident resident.block there (held_of later)) (block.0, content)
     behind None h = h
-    behind (Some there) h = in_more (entry.block.0, there) (block.0, content) (held_of later) h
+    behind (Some there) h = in_more (resident.block.0, there) (block.0, content) (held_of later) h
 
     go : (content_in (present_of later block) ≡ Some content → Contains (held_of later) (block.0, content))
-        → (t : Bool) → nat_eq entry.block.0 block.0 ≡ t
-        → content_in (cond t (Some entry) (present_of later block)) ≡ Some content
-        → Contains (with_entry entry.block entry.content (held_of later)) (block.0, content)
+        → (t : Bool) → nat_eq resident.block.0 block.0 ≡ t
+        → content_in (cond t (Some resident) (present_of later block)) ≡ Some content
+        → Contains (with_resident resident.block resident.content (held_of later)) (block.0, content)
     go rest true same e =
-        let at : entry.block.0 ≡ block.0 = eqb-true entry.block.0 block.0 same in
-        subst (λ (o : Option Content). Contains (with_entry entry.block o (held_of later)) (block.0, content))
+        let at : resident.block.0 ≡ block.0 = eqb-true resident.block.0 block.0 same in
+        subst (λ (o : Option Content). Contains (with_resident resident.block o (held_of later)) (block.0, content))
         (sym e)
-        (in_first (entry.block.0, content) (block.0, content) (held_of later)
+        (in_first (resident.block.0, content) (block.0, content) (held_of later)
         (ap (λ (n : ℕ). (n, content)) at))
-    go rest false same e = behind entry.content (rest e)
+    go rest false same e = behind resident.content (rest e)
 
 first_none : (a b : Option Content) → or_else a b ≡ None → a ≡ None
 first_none (Some x) b e = absurd (cc)

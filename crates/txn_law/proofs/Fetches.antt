@@ -15,7 +15,7 @@ use Rattle.wal_law.specs.Log.{Log, newest}
 use Rattle.wal_law.specs.Overlay.{content_or}
 use Rattle.txn_law.specs.Core.{CoreState}
 use Rattle.objects.specs.declared.present.Present.{Present}
-use Rattle.txn_law.specs.CoreWindow.{with_entry, held_of, IsCoreWindow}
+use Rattle.txn_law.specs.CoreWindow.{with_resident, held_of, IsCoreWindow}
 use Rattle.txn_law.specs.Fetched.{fetched, fetch_failed}
 use Rattle.objects.specs.Present.{filled}
 use Rattle.txn_law.specs.Window.{now_of, IsPinned, ArePinned, IsCurrent, IsWindowOver}
@@ -35,48 +35,48 @@ home_stays base log ok block none = go (ok && nat_le (log.installing + 2) log.in
 -- a content that is there keeps what holds of all
 module _ (P : ℕ × Content → Type 0) (block : BlockNo) (content : Content) where
   all_one : (at : BlockNo) (there : Option Content) (xs : List (ℕ × Content)) → P (at.0, content)
-      → All P (with_entry at there xs) → All P (with_entry at (filled_in there content) xs)
+      → All P (with_resident at there xs) → All P (with_resident at (filled_in there content) xs)
   all_one at (Some c) xs new h = h
   all_one at None xs new h = All-cons P (at.0, content) xs new h
 
   pub all_filled : P (block.0, content) → (present : List Present) → All P (held_of present)
       → All P (held_of (filled present block content))
   all_filled new [] h = h
-  all_filled new (entry ∷ later) h = go (all_filled new later) (nat_eq entry.block.0 block.0) refl
+  all_filled new (resident ∷ later) h = go (all_filled new later) (nat_eq resident.block.0 block.0) refl
     where
       go : (All P (held_of later) → All P (held_of (filled later block content))) → (t : Bool)
-          → nat_eq entry.block.0 block.0 ≡ t
+          → nat_eq resident.block.0 block.0 ≡ t
           → All P (held_of (if t
-          then record { block = entry.block; content = filled_in entry.content content } ∷ later
-          else entry ∷ filled later block content))
+          then record { block = resident.block; content = filled_in resident.content content } ∷ later
+          else resident ∷ filled later block content))
       go rest true e =
-          all_one entry.block entry.content (held_of later)
-          (subst (λ (n : ℕ). P (n, content)) (sym (eqb-true entry.block.0 block.0 e)) new) h
+          all_one resident.block resident.content (held_of later)
+          (subst (λ (n : ℕ). P (n, content)) (sym (eqb-true resident.block.0 block.0 e)) new) h
       go rest false e =
-          all_beside P (λ x. true) entry.block entry.content (held_of later)
+          all_beside P (λ x. true) resident.block resident.content (held_of later)
           (held_of (filled later block content)) rest h
 
 -- and what was there is still there
 module _ (number : ℕ) (old : Content) (block : BlockNo) (content : Content) where
   in_one : (at : BlockNo) (there : Option Content) (xs : List (ℕ × Content))
-      → Contains (with_entry at there xs) (number, old)
-      → Contains (with_entry at (filled_in there content) xs) (number, old)
+      → Contains (with_resident at there xs) (number, old)
+      → Contains (with_resident at (filled_in there content) xs) (number, old)
   in_one at (Some c) xs h = h
   in_one at None xs h = in_more (at.0, content) (number, old) xs h
 
   pub in_filled : (present : List Present) → Contains (held_of present) (number, old)
       → Contains (held_of (filled present block content)) (number, old)
   in_filled [] h = h
-  in_filled (entry ∷ later) h = go (in_filled later) (nat_eq entry.block.0 block.0)
+  in_filled (resident ∷ later) h = go (in_filled later) (nat_eq resident.block.0 block.0)
     where
       go : (Contains (held_of later) (number, old)
           → Contains (held_of (filled later block content)) (number, old)) → (t : Bool)
           → Contains (held_of (if t
-          then record { block = entry.block; content = filled_in entry.content content } ∷ later
-          else entry ∷ filled later block content)) (number, old)
-      go rest true = in_one entry.block entry.content (held_of later) h
+          then record { block = resident.block; content = filled_in resident.content content } ∷ later
+          else resident ∷ filled later block content)) (number, old)
+      go rest true = in_one resident.block resident.content (held_of later) h
       go rest false =
-          in_beside number old (λ x. true) entry.block entry.content (held_of later)
+          in_beside number old (λ x. true) resident.block resident.content (held_of later)
           (held_of (filled later block content)) rest h
 
 pub core_fetched : (base : Image) (core : CoreState) (block : BlockNo) (content : Content)
@@ -96,41 +96,41 @@ core_fetched base core block content none is h =
 
 -- a pending fetch has no content
 held_of-failed : (block : BlockNo) (present : List Present)
-    → held_of (filter (λ (entry : Present). not (nat_eq entry.block.0 block.0) || is_some entry.content)
+    → held_of (filter (λ (resident : Present). not (nat_eq resident.block.0 block.0) || is_some resident.content)
     present) ≡ held_of present
 held_of-failed block [] = refl
-held_of-failed block (entry ∷ later) =
-    go (held_of-failed block later) (nat_eq entry.block.0 block.0) entry.content refl
+held_of-failed block (resident ∷ later) =
+    go (held_of-failed block later) (nat_eq resident.block.0 block.0) resident.content refl
   where
     beside : (there : Option Content) (xs ys : List (ℕ × Content)) → xs ≡ ys
-        → with_entry entry.block there xs ≡ with_entry entry.block there ys
-    beside (Some c) xs ys e = ap (λ zs. (entry.block.0, c) ∷ zs) e
+        → with_resident resident.block there xs ≡ with_resident resident.block there ys
+    beside (Some c) xs ys e = ap (λ zs. (resident.block.0, c) ∷ zs) e
     beside None xs ys e = e
 
     go : held_of (filter (λ (e : Present). not (nat_eq e.block.0 block.0) || is_some e.content) later)
-        ≡ held_of later → (t : Bool) (there : Option Content) → entry.content ≡ there
-        → held_of (cond (not t || is_some entry.content)
-        (entry ∷ filter (λ (e : Present). not (nat_eq e.block.0 block.0) || is_some e.content) later)
+        ≡ held_of later → (t : Bool) (there : Option Content) → resident.content ≡ there
+        → held_of (cond (not t || is_some resident.content)
+        (resident ∷ filter (λ (e : Present). not (nat_eq e.block.0 block.0) || is_some e.content) later)
         (filter (λ (e : Present). not (nat_eq e.block.0 block.0) || is_some e.content) later))
-        ≡ with_entry entry.block entry.content (held_of later)
+        ≡ with_resident resident.block resident.content (held_of later)
     go rest false there e =
-        beside entry.content
+        beside resident.content
         (held_of (filter (λ (e : Present). not (nat_eq e.block.0 block.0) || is_some e.content) later))
         (held_of later) rest
     go rest true (Some c) e =
         ap (λ (o : Option Content). held_of
-        (cond (is_some o) (entry ∷ filter (λ (e : Present). not (nat_eq e.block.0 block.0)
+        (cond (is_some o) (resident ∷ filter (λ (e : Present). not (nat_eq e.block.0 block.0)
         || is_some e.content) later)
         (filter (λ (e : Present). not (nat_eq e.block.0 block.0) || is_some e.content) later))) e
-        ∙ beside entry.content
+        ∙ beside resident.content
         (held_of (filter (λ (e : Present). not (nat_eq e.block.0 block.0) || is_some e.content) later))
         (held_of later) rest
     go rest true None e =
         ap (λ (o : Option Content). held_of
-        (cond (is_some o) (entry ∷ filter (λ (e : Present). not (nat_eq e.block.0 block.0)
+        (cond (is_some o) (resident ∷ filter (λ (e : Present). not (nat_eq e.block.0 block.0)
         || is_some e.content) later)
         (filter (λ (e : Present). not (nat_eq e.block.0 block.0) || is_some e.content) later))) e
-        ∙ rest ∙ sym (ap (λ (o : Option Content). with_entry entry.block o (held_of later)) e)
+        ∙ rest ∙ sym (ap (λ (o : Option Content). with_resident resident.block o (held_of later)) e)
 
 pub core_fetch_failed : (base : Image) (core : CoreState) (block : BlockNo) → IsCoreWindow base core
     → IsCoreWindow base (fetch_failed core block)

@@ -18,7 +18,7 @@ use Rattle.objects.specs.Present.{present_of, content_in}
 use Rattle.txn_law.specs.Lists.{taken, IsHeldExactly, IsFetchedExactly, claimed}
 use Rattle.txn_law.specs.declared.hold.Hold.{Hold}
 use Rattle.txn_law.proofs.Claims.{found_by, all_four}
-use Rattle.objects.proofs.Entries.{same_block, filled_content}
+use Rattle.objects.proofs.Residents.{same_block, filled_content}
 use Rattle.txn_law.proofs.TakenBy.{taken_with, taken_released}
 use Rattle.txn_law.proofs.Tidied.{block_stays, taken_one, taken_stays, failed_stays}
 

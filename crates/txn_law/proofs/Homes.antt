@@ -18,7 +18,7 @@ use Rattle.wal_law.specs.Log.{Log, IsLawful, IsHomeOn, newest, newest_of, or_els
 use Rattle.wal_law.specs.Overlay.{content_or}
 use Rattle.txn_law.specs.Commit.{Planned, IsOwn, IsCommitted, with_record, committed}
 use Rattle.txn_law.specs.Core.{CoreState}
-use Rattle.txn_law.specs.CoreWindow.{with_entry, held_of, IsCoreWindow, AreBlocks, IsHomeOf}
+use Rattle.txn_law.specs.CoreWindow.{with_resident, held_of, IsCoreWindow, AreBlocks, IsHomeOf}
 use Rattle.txn_law.specs.Fetched.{fetched}
 use Rattle.objects.specs.Present.{filled}
 use Rattle.txn_law.specs.Group.{is_among, blocks_of, IsLaid}
@@ -31,7 +31,7 @@ use Rattle.txn_law.specs.Window.{now_of, with_objects}
 use Rattle.objects.specs.declared.present.Present.{Present}
 use Rattle.txn_law.proofs.Claims.{found_by, whole_writes}
 use Rattle.txn_law.proofs.CoreCommits.{core_committed, core_now}
-use Rattle.objects.proofs.Entries.{is_of, same_block}
+use Rattle.objects.proofs.Residents.{is_of, same_block}
 use Rattle.txn_law.proofs.Fetches.{core_fetched}
 use Rattle.txn_law.proofs.HomeReads.{read_home}
 use Rattle.txn_law.proofs.Laid.{among_after}
@@ -91,7 +91,7 @@ whole_with blocks base at content size whole block lt = go (nat_eq block at)
 -- a block whose fetch is pending isn't in memory
 not_behind : (at block : BlockNo) (there : Option Content) (c : Content) (xs : List (ℕ × Content))
     → (at.0 ≡ block.0 → there ≡ None) → (Contains xs (block.0, c) → ⊥)
-    → Contains (with_entry at there xs) (block.0, c) → ⊥
+    → Contains (with_resident at there xs) (block.0, c) → ⊥
 not_behind at block None c xs none rest h = rest h
 not_behind at block (Some d) c xs none rest h = go (in_cons (at.0, d) (block.0, c) xs h)
   where

@@ -25,8 +25,8 @@ use Rattle.objects.specs.Present.{IsOnce}
 use Rattle.txn_law.specs.Wishes.{IsOpen, IsHeld, IsFetched, IsTaken}
 use Rattle.txn_law.specs.declared.hold.Hold.{Hold}
 use Rattle.objects.specs.declared.present.Present.{Present}
-use Rattle.txn_law.proofs.Entries.{once_refreshed}
-use Rattle.objects.proofs.Entries.{same_block, once_filled}
+use Rattle.txn_law.proofs.Residents.{once_refreshed}
+use Rattle.objects.proofs.Residents.{same_block, once_filled}
 use Rattle.txn_law.proofs.Memory.{swept_fetches, swept_comes, swept_stays, other_block, own_block, new_block}
 use Rattle.txn_law.proofs.Memory.{filled_memory, filled_fetches, failed_memory, failed_fetches}
 use Rattle.txn_law.proofs.Memory.{refreshed_memory, refreshed_fetches}

@@ -9,7 +9,7 @@ use Rattle.objects.specs.Present.{filled_in}
 use Rattle.disk.specs.Device.{Content}
 use Rattle.disk.specs.declared.block.BlockNo.{BlockNo}
 use Rattle.wal_law.specs.Log.{Log, newest}
-use Rattle.txn_law.specs.Commit.{refreshed_content, refreshed_entry, refreshed}
+use Rattle.txn_law.specs.Commit.{refreshed_content, refreshed_resident, refreshed}
 use Rattle.objects.specs.Present.{filled, without_pending}
 use Rattle.txn_law.specs.Holds.{is_taken}
 use Rattle.objects.specs.Present.{with_block}
@@ -20,12 +20,12 @@ use Rattle.txn_law.specs.Window.{Footprint}
 use Rattle.txn_law.specs.declared.hold.Hold.{Hold}
 use Rattle.objects.specs.declared.present.Present.{Present}
 use Rattle.txn_law.proofs.Claims.{found_by}
-use Rattle.txn_law.proofs.Entries.{present_of-refreshed}
-use Rattle.objects.proofs.Entries.{is_of, same_block, filled_one}
+use Rattle.txn_law.proofs.Residents.{present_of-refreshed}
+use Rattle.objects.proofs.Residents.{is_of, same_block, filled_one}
 use Rattle.objects.proofs.Found.{find_none, find_kept, find_push_some, find_push_none}
 use Rattle.txn_law.proofs.Swept.{or-true}
 
--- an entry, where it passes the test
+-- a resident, where it passes the test
 abbrev pub kept_if : (Present → Bool) → Option Present → Option Present
 kept_if q None = None
 kept_if q (Some x) = cond (q x) (Some x) None
@@ -49,7 +49,7 @@ present_filter q (x ∷ xs) block once =
     go rest false is true kept = ap (λ b. cond b (Some x) (present_of (filter q xs) block)) is ∙ rest
     go rest false is false kept = rest
 
--- the entry that is found is the block's
+-- the resident that is found is the block's
 pub found_at : (xs : List Present) (block : BlockNo) (x : Present) → present_of xs block ≡ Some x
     → x.block ≡ block
 found_at xs block x e =
@@ -60,7 +60,7 @@ found_at xs block x e =
 module _ (holds : List Hold) (records : List Footprint) (present : List Present) (block : BlockNo)
     (once : IsOnce present) where
   abbrev needed : Present → Bool
-  needed entry = is_none entry.content || is_taken holds entry.block || is_kept records entry.block
+  needed resident = is_none resident.content || is_taken holds resident.block || is_kept records resident.block
 
   pub swept_fetches : is_pending (present_of (swept holds records present) block)
       ≡ is_pending (present_of present block)
@@ -110,8 +110,8 @@ swept_stays holds records present block c e is = go (present_of present block) r
         let kept : (is_none x.content || is_taken holds x.block || is_kept records x.block) ≡ true =
         ap (λ (b : BlockNo). is_none x.content || is_taken holds b || is_kept records b) at
         ∙ or-both (is_none x.content) (is_taken holds block) (is_kept records block) is in
-        ap content_in (find_kept (is_of block) (λ (entry : Present). is_none entry.content
-        || is_taken holds entry.block || is_kept records entry.block) present x there kept) ∙ e
+        ap content_in (find_kept (is_of block) (λ (resident : Present). is_none resident.content
+        || is_taken holds resident.block || is_kept records resident.block) present x there kept) ∙ e
 
 -- What is in memory once a block is there too.
 module _ (present : List Present) (block : BlockNo) (content : Option Content) (at : BlockNo) where
@@ -133,7 +133,7 @@ module _ (present : List Present) (block : BlockNo) (content : Option Content) (
       go false None e = find_push_none (is_of at) present (new_one ∷ []) e
           ∙ ap (λ b. cond b (Some new_one) None) away ∙ sym e
 
-  -- the block itself, where it has an entry and where it has none
+  -- the block itself, where it has a resident and where it has none
   pub own_block : (x : Present) → present_of present block ≡ Some x
       → present_of (with_block present block content) block ≡ Some x
   own_block x e = ap (λ (o : Option Present). present_of
@@ -242,7 +242,7 @@ filled_fetches xs block content at = ap is_pending (present_of-filled xs block c
 -- What is in memory where a fetch has failed.
 module _ (xs : List Present) (block : BlockNo) (at : BlockNo) (once : IsOnce xs) where
   abbrev stays_with : Present → Bool
-  stays_with entry = not (nat_eq entry.block.0 block.0) || is_some entry.content
+  stays_with resident = not (nat_eq resident.block.0 block.0) || is_some resident.content
 
   pub failed_memory : content_in (present_of (without_pending xs block) at) ≡ content_in (present_of xs at)
   failed_memory = ap content_in (present_filter stays_with xs at once) ∙ go (present_of xs at)
@@ -288,7 +288,7 @@ module _ (log : Log) (xs : List Present) (at : BlockNo) where
   refreshed_memory = ap content_in (present_of-refreshed log xs at) ∙ go (present_of xs at) refl
     where
       go : (o : Option Present) → present_of xs at ≡ o
-          → content_in (option_map (refreshed_entry log) o) ≡ refreshed_content (content_in o) (newest log at.0)
+          → content_in (option_map (refreshed_resident log) o) ≡ refreshed_content (content_in o) (newest log at.0)
       go None e = refl
       go (Some x) e = ap (λ (b : BlockNo). refreshed_content x.content (newest log b.0)) (found_at xs at x e)
 
@@ -299,6 +299,6 @@ module _ (log : Log) (xs : List Present) (at : BlockNo) where
       by None l = refl
       by (Some d) l = refl
 
-      go : (o : Option Present) → is_pending (option_map (refreshed_entry log) o) ≡ is_pending o
+      go : (o : Option Present) → is_pending (option_map (refreshed_resident log) o) ≡ is_pending o
       go None = refl
       go (Some x) = by x.content (newest log x.block.0)

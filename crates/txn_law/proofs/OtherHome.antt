@@ -185,11 +185,11 @@ module _ (base : Image) (log : Log) (commits : List Footprint) (held : List (ℕ
     group = λ count end clean. leads count (take (commits_among log count) commits)
         (All-take (AreElsewhere at) (commits_among log count) commits all_away) (h.group count end clean);
     written = h.written;
-    memory = All-weaker (λ entry. IsCurrent (now_of base log commits) entry × Contains held entry)
+    memory = All-weaker (λ resident. IsCurrent (now_of base log commits) resident × Contains held resident)
         (IsCurrent (now_of there log commits))
-        (λ entry both. both.0 ∙ same_commits at (opening base log) (opening there log) commits
-        (same_under (recovered log.changes)) entry.0
-        (λ is. away entry.1 (subst (λ (n : ℕ). Contains held (n, entry.1)) is both.1))) held
+        (λ resident both. both.0 ∙ same_commits at (opening base log) (opening there log) commits
+        (same_under (recovered log.changes)) resident.0
+        (λ is. away resident.1 (subst (λ (n : ℕ). Contains held (n, resident.1)) is both.1))) held
         (λ k d lt. (h.memory k d lt, All-contains_itself held k d lt));
     pinned = h.pinned;
   }

@@ -28,7 +28,7 @@ use Rattle.txn_law.proofs.Again.{one_or_apart}
 use Rattle.txn_law.proofs.Beside.{stays_beside}
 use Rattle.txn_law.proofs.Claims.{found_by, all_four, held_alone}
 use Rattle.txn_law.proofs.CoreCommits.{found_in}
-use Rattle.objects.proofs.Entries.{same_block}
+use Rattle.objects.proofs.Residents.{same_block}
 use Rattle.txn_law.proofs.HeldReads.{some_read, left, taken_read}
 use Rattle.txn_law.proofs.Homes.{whole_now, commit_home, commit_sets}
 use Rattle.txn_law.proofs.Leaves.{leaves_commit}

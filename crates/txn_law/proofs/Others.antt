@@ -23,7 +23,7 @@ use Rattle.txn_law.specs.Tidy.{AreTidy, IsOfOne}
 use Rattle.txn_law.specs.Wishes.{IsBusy}
 use Rattle.txn_law.specs.declared.hold.Hold.{Hold}
 use Rattle.txn_law.proofs.Claims.{all_four, found_by}
-use Rattle.objects.proofs.Entries.{same_block}
+use Rattle.objects.proofs.Residents.{same_block}
 use Rattle.txn_law.proofs.Swept.{in_cons, in_first, in_more}
 use Rattle.txn_law.proofs.TakenBy.{is_hold_by}
 use Rattle.txn_law.proofs.Tidied.{taken_one}

@@ -18,7 +18,7 @@ use Rattle.txn_law.specs.Records.{lies_in, is_kept, swept}
 use Rattle.txn_law.specs.Window.{Footprint}
 use Rattle.txn_law.specs.declared.hold.Hold.{Hold}
 use Rattle.objects.specs.declared.present.Present.{Present}
-use Rattle.txn_law.specs.CoreWindow.{with_entry, held_of, IsCoreWindow}
+use Rattle.txn_law.specs.CoreWindow.{with_resident, held_of, IsCoreWindow}
 use Rattle.txn_law.specs.Window.{now_of, IsPinned, ArePinned, IsCurrent, IsWindowOver}
 use Rattle.txn_law.proofs.Installed.{window_inst_back}
 use Rattle.txn_law.proofs.Moves.{other_memory}
@@ -30,25 +30,25 @@ or-true false = refl
 -- what holds of all blocks in memory holds of those that stay
 module _ (P : ℕ × Content → Type 0) (test : Present → Bool) where
   pub all_beside : (block : BlockNo) (content : Option Content) (xs ys : List (ℕ × Content))
-      → (All P xs → All P ys) → All P (with_entry block content xs) → All P (with_entry block content ys)
+      → (All P xs → All P ys) → All P (with_resident block content xs) → All P (with_resident block content ys)
   all_beside block (Some content) xs ys rest h =
       All-cons P (block.0, content) ys (All-head P (block.0, content) xs h)
       (rest (All-tail P (block.0, content) xs h))
   all_beside block None xs ys rest h = rest h
 
   all_behind : (block : BlockNo) (content : Option Content) (xs : List (ℕ × Content))
-      → All P (with_entry block content xs) → All P xs
+      → All P (with_resident block content xs) → All P xs
   all_behind block (Some content) xs h = All-tail P (block.0, content) xs h
   all_behind block None xs h = h
 
   all_kept : (present : List Present) → All P (held_of present) → All P (held_of (filter test present))
   all_kept [] h = h
-  all_kept (entry ∷ later) h = go (all_kept later) (test entry)
+  all_kept (resident ∷ later) h = go (all_kept later) (test resident)
     where
       go : (All P (held_of later) → All P (held_of (filter test later))) → (t : Bool)
-          → All P (held_of (cond t (entry ∷ filter test later) (filter test later)))
-      go rest true = all_beside entry.block entry.content (held_of later) (held_of (filter test later)) rest h
-      go rest false = rest (all_behind entry.block entry.content (held_of later) h)
+          → All P (held_of (cond t (resident ∷ filter test later) (filter test later)))
+      go rest true = all_beside resident.block resident.content (held_of later) (held_of (filter test later)) rest h
+      go rest false = rest (all_behind resident.block resident.content (held_of later) h)
 
 pub in_cons : {X : Type 0} (x y : X) (xs : List X) → Contains (x ∷ xs) y → (x ≡ y) ⊎ Contains xs y
 in_cons x y xs (zero, lt, e) = inl e
@@ -64,8 +64,8 @@ in_first x y xs e = (zero, omega arith, e)
 module _ (block : ℕ) (content : Content) (test : Present → Bool) where
   pub in_beside : (at : BlockNo) (there : Option Content) (xs ys : List (ℕ × Content))
       → (Contains xs (block, content) → Contains ys (block, content))
-      → Contains (with_entry at there xs) (block, content)
-      → Contains (with_entry at there ys) (block, content)
+      → Contains (with_resident at there xs) (block, content)
+      → Contains (with_resident at there ys) (block, content)
   in_beside at (Some there) xs ys rest h =
       elim (in_cons (at.0, there) (block, content) xs h) as (λ _. Contains ((at.0, there) ∷ ys) (
         block,
@@ -77,7 +77,7 @@ module _ (block : ℕ) (content : Content) (test : Present → Bool) where
   in_beside at None xs ys rest h = rest h
 
   in_behind : (at : BlockNo) (there : Option Content) (xs : List (ℕ × Content)) → (at.0 ≡ block → ⊥)
-      → Contains (with_entry at there xs) (block, content) → Contains xs (block, content)
+      → Contains (with_resident at there xs) (block, content) → Contains xs (block, content)
   in_behind at (Some there) xs differs h =
       elim (in_cons (at.0, there) (block, content) xs h) as (λ _. Contains xs (block, content)) [
         | inl same ↦ absurd (differs (ap (λ (p : ℕ × Content). p.0) same))
@@ -85,39 +85,39 @@ module _ (block : ℕ) (content : Content) (test : Present → Bool) where
       ]
   in_behind at None xs differs h = h
 
-  in_kept : (present : List Present) → ((entry : Present) → entry.block.0 ≡ block → test entry ≡ true)
+  in_kept : (present : List Present) → ((resident : Present) → resident.block.0 ≡ block → test resident ≡ true)
       → Contains (held_of present) (block, content)
       → Contains (held_of (filter test present)) (block, content)
   in_kept [] passes h = h
-  in_kept (entry ∷ later) passes h = go (in_kept later passes) (test entry) refl
+  in_kept (resident ∷ later) passes h = go (in_kept later passes) (test resident) refl
     where
       go : (Contains (held_of later) (block, content)
-          → Contains (held_of (filter test later)) (block, content)) → (t : Bool) → test entry ≡ t
-          → Contains (held_of (cond t (entry ∷ filter test later) (filter test later))) (block, content)
+          → Contains (held_of (filter test later)) (block, content)) → (t : Bool) → test resident ≡ t
+          → Contains (held_of (cond t (resident ∷ filter test later) (filter test later))) (block, content)
       go rest true e =
-          in_beside entry.block entry.content (held_of later) (held_of (filter test later)) rest h
+          in_beside resident.block resident.content (held_of later) (held_of (filter test later)) rest h
       go rest false e =
-          rest (in_behind entry.block entry.content (held_of later)
-          (λ same. absurd (let no : true ≡ false = sym (passes entry same) ∙ e in cc)) h)
+          rest (in_behind resident.block resident.content (held_of later)
+          (λ same. absurd (let no : true ≡ false = sym (passes resident same) ∙ e in cc)) h)
 
 module _ (holds : List Hold) (kept : List Footprint) (present : List Present) where
   pinned_one : (object : ObjectBytes) → is_kept kept object.addr.block ≡ true
       → IsPinned (held_of present) object → IsPinned (held_of (swept holds kept present)) object
   pinned_one object read (content, there) = (
     content,
-    in_kept object.addr.block.0 content (λ entry. is_none entry.content
-        || is_taken holds entry.block || is_kept kept entry.block) present passes there,
+    in_kept object.addr.block.0 content (λ resident. is_none resident.content
+        || is_taken holds resident.block || is_kept kept resident.block) present passes there,
   )
     where
-      passes : (entry : Present) → entry.block.0 ≡ object.addr.block.0
-          → (is_none entry.content || is_taken holds entry.block || is_kept kept entry.block) ≡ true
-      passes entry same =
-          let here : is_kept kept entry.block ≡ true =
+      passes : (resident : Present) → resident.block.0 ≡ object.addr.block.0
+          → (is_none resident.content || is_taken holds resident.block || is_kept kept resident.block) ≡ true
+      passes resident same =
+          let here : is_kept kept resident.block ≡ true =
           ap (λ (n : ℕ). list_any
           (λ (commit : Footprint). list_any (λ (o : ObjectBytes). nat_eq o.addr.block.0 n) commit.read)
           kept) same ∙ read in
-          ap (λ t. is_none entry.content || is_taken holds entry.block || t) here
-          ∙ or-true (is_none entry.content || is_taken holds entry.block)
+          ap (λ t. is_none resident.content || is_taken holds resident.block || t) here
+          ∙ or-true (is_none resident.content || is_taken holds resident.block)
 
   pinned_objects : (objects : List ObjectBytes)
       → ((block : BlockNo) → lies_in objects block ≡ true → is_kept kept block ≡ true)
@@ -147,8 +147,8 @@ pub window_swept : (base : Image) (log : Log) (commits : List Footprint) (holds 
     → IsWindowOver base log commits (held_of (swept holds commits present))
 window_swept base log commits holds present h =
     other_memory base log commits (held_of present) (held_of (swept holds commits present))
-    (all_kept (IsCurrent (now_of base log commits)) (λ entry. is_none entry.content
-    || is_taken holds entry.block || is_kept commits entry.block) present h.memory)
+    (all_kept (IsCurrent (now_of base log commits)) (λ resident. is_none resident.content
+    || is_taken holds resident.block || is_kept commits resident.block) present h.memory)
     (pinned_commits holds commits present commits (λ block e. e) h.pinned) h
 
 pub core_installed : (base : Image) (core : CoreState) (ok : Bool) → IsLawful core.log

@@ -38,8 +38,8 @@ use Rattle.txn_law.specs.declared.hold.Hold.{Hold}
 use Rattle.objects.specs.declared.present.Present.{Present}
 use Rattle.txn_law.proofs.Again.{same_addr, one_or_apart}
 use Rattle.txn_law.proofs.Claims.{found_by, all_four}
-use Rattle.objects.proofs.Entries.{is_of, same_block, once_filter, once_push, filled_content, once_filled}
-use Rattle.objects.proofs.Entries.{each_filled}
+use Rattle.objects.proofs.Residents.{is_of, same_block, once_filter, once_push, filled_content, once_filled}
+use Rattle.objects.proofs.Residents.{each_filled}
 use Rattle.objects.proofs.Found.{find_kept, find_push_some, find_push_none}
 use Rattle.txn_law.proofs.Memory.{swept_stays}
 use Rattle.txn_law.proofs.Swept.{or-true, in_cons}
@@ -218,19 +218,19 @@ read_with holds hold old new stays each here =
 
 -- a block more in memory
 module _ (present : List Present) (block : BlockNo) (content : Option Content) where
-  abbrev new_entry : Present
-  new_entry = record { block = block; content = content }
+  abbrev new_resident : Present
+  new_resident = record { block = block; content = content }
 
   pub block_stays : (at : BlockNo) (c : Content) → content_in (present_of present at) ≡ Some c
       → content_in (present_of (with_block present block content) at) ≡ Some c
   block_stays at c e = go (is_some (present_of present block))
     where
       found : (o : Option Present) → present_of present at ≡ o → content_in o ≡ Some c
-          → content_in (present_of (present ++ new_entry ∷ []) at) ≡ Some c
+          → content_in (present_of (present ++ new_resident ∷ []) at) ≡ Some c
       found None is e = absurd (cc)
-      found (Some x) is e = ap content_in (find_push_some (is_of at) present (new_entry ∷ []) x is) ∙ e
+      found (Some x) is e = ap content_in (find_push_some (is_of at) present (new_resident ∷ []) x is) ∙ e
 
-      go : (t : Bool) → content_in (present_of (if t then present else present ++ new_entry ∷ []) at) ≡ Some c
+      go : (t : Bool) → content_in (present_of (if t then present else present ++ new_resident ∷ []) at) ≡ Some c
       go true = e
       go false = found (present_of present at) refl e
 
@@ -238,19 +238,19 @@ module _ (present : List Present) (block : BlockNo) (content : Option Content) w
   block_once once = go (present_of present block) refl
     where
       go : (o : Option Present) → present_of present block ≡ o
-          → IsOnce (if is_some o then present else present ++ new_entry ∷ [])
+          → IsOnce (if is_some o then present else present ++ new_resident ∷ [])
       go (Some x) e = once
-      go None e = once_push present new_entry e once
+      go None e = once_push present new_resident e once
 
-  pub block_each : (P : Present → Type 0) → P new_entry → All P present
+  pub block_each : (P : Present → Type 0) → P new_resident → All P present
       → All P (with_block present block content)
   block_each P new each = go (is_some (present_of present block))
     where
-      go : (t : Bool) → All P (if t then present else present ++ new_entry ∷ [])
+      go : (t : Bool) → All P (if t then present else present ++ new_resident ∷ [])
       go true = each
-      go false = All-push P present new_entry each new
+      go false = All-push P present new_resident each new
 
--- where no fetch of a block is pending, its entry has a content
+-- where no fetch of a block is pending, its resident has a content
 loaded : (present : List Present) (block : BlockNo) (x : Present) → present_of present block ≡ Some x
     → is_pending (present_of present block) ≡ false → (c : Content) × (x.content ≡ Some c)
 loaded present block x e not_pending = go x.content refl
@@ -409,16 +409,16 @@ owned_end old tx tidy =
 pub tidy_end : (old : CoreState) (tx : ℕ) → AreTidy old → AreTidy (ended old tx)
 tidy_end old tx tidy = record {
   owned = owned_end old tx tidy;
-  placed = All-filter (λ entry. is_none entry.content || is_taken (released old.holds tx) entry.block
-      || is_kept old.records entry.block) (IsPlaced old.log.blocks) old.present tidy.placed;
+  placed = All-filter (λ resident. is_none resident.content || is_taken (released old.holds tx) resident.block
+      || is_kept old.records resident.block) (IsPlaced old.log.blocks) old.present tidy.placed;
   apart = apart_filter (λ hold. not (nat_eq hold.transaction tx)) old.holds tidy.apart;
   read = read_swept (released old.holds tx) old.records old.present old.present (λ at c e. e)
       (All-filter (λ hold. not (nat_eq hold.transaction tx)) (IsReadHere old.present) old.holds tidy.read);
   claimed = All-filter (λ hold. not (nat_eq hold.transaction tx)) IsClaimedWhole old.holds tidy.claimed;
-  once = once_filter (λ entry. is_none entry.content || is_taken (released old.holds tx) entry.block
-      || is_kept old.records entry.block) old.present tidy.once;
-  pending = All-filter (λ entry. is_none entry.content || is_taken (released old.holds tx) entry.block
-      || is_kept old.records entry.block) (IsUnlogged old.log) old.present tidy.pending;
+  once = once_filter (λ resident. is_none resident.content || is_taken (released old.holds tx) resident.block
+      || is_kept old.records resident.block) old.present tidy.once;
+  pending = All-filter (λ resident. is_none resident.content || is_taken (released old.holds tx) resident.block
+      || is_kept old.records resident.block) (IsUnlogged old.log) old.present tidy.pending;
   changes = tidy.changes;
 }
 
@@ -426,18 +426,18 @@ pub tidy_fetched : (old : CoreState) (block : BlockNo) (content : Content) → A
     → AreTidy (fetched old block content)
 tidy_fetched old block content tidy = record {
   owned = tidy.owned;
-  placed = All-filter (λ entry. is_none entry.content || is_taken old.holds entry.block
-      || is_kept old.records entry.block) (IsPlaced old.log.blocks) (filled old.present block content)
+  placed = All-filter (λ resident. is_none resident.content || is_taken old.holds resident.block
+      || is_kept old.records resident.block) (IsPlaced old.log.blocks) (filled old.present block content)
       (each_filled block content (IsPlaced old.log.blocks) (λ x h. h) old.present tidy.placed);
   apart = tidy.apart;
   read = read_swept old.holds old.records old.present (filled old.present block content)
       (filled_content block content old.present) tidy.read;
   claimed = tidy.claimed;
-  once = once_filter (λ entry. is_none entry.content || is_taken old.holds entry.block
-      || is_kept old.records entry.block) (filled old.present block content)
+  once = once_filter (λ resident. is_none resident.content || is_taken old.holds resident.block
+      || is_kept old.records resident.block) (filled old.present block content)
       (once_filled block content old.present tidy.once);
-  pending = All-filter (λ entry. is_none entry.content || is_taken old.holds entry.block
-      || is_kept old.records entry.block) (IsUnlogged old.log) (filled old.present block content)
+  pending = All-filter (λ resident. is_none resident.content || is_taken old.holds resident.block
+      || is_kept old.records resident.block) (IsUnlogged old.log) (filled old.present block content)
       (each_filled block content (IsUnlogged old.log) (λ x h none. absurd (some x.content none)) old.present
       tidy.pending);
   changes = tidy.changes;
@@ -460,22 +460,22 @@ failed_stays present block at c e = go (present_of present at) refl e
         let kept : (not (nat_eq x.block.0 block.0) || is_some x.content) ≡ true =
         ap (λ (o : Option Content). not (nat_eq x.block.0 block.0) || is_some o) e
         ∙ or-true (not (nat_eq x.block.0 block.0)) in
-        ap content_in (find_kept (is_of at) (λ (entry : Present). not (nat_eq entry.block.0 block.0)
-        || is_some entry.content) present x there kept) ∙ e
+        ap content_in (find_kept (is_of at) (λ (resident : Present). not (nat_eq resident.block.0 block.0)
+        || is_some resident.content) present x there kept) ∙ e
 
 pub tidy_failed : (old : CoreState) (block : BlockNo) → AreTidy old → AreTidy (fetch_failed old block)
 tidy_failed old block tidy = record {
   owned = tidy.owned;
-  placed = All-filter (λ entry. not (nat_eq entry.block.0 block.0) || is_some entry.content)
+  placed = All-filter (λ resident. not (nat_eq resident.block.0 block.0) || is_some resident.content)
       (IsPlaced old.log.blocks) old.present tidy.placed;
   apart = tidy.apart;
   read = All-weaker (IsReadHere old.present) (IsReadHere (without_pending old.present block))
       (λ x h is. let (content, there) = h is in
       (content, failed_stays old.present block x.addr.block content there)) old.holds tidy.read;
   claimed = tidy.claimed;
-  once = once_filter (λ entry. not (nat_eq entry.block.0 block.0) || is_some entry.content) old.present
+  once = once_filter (λ resident. not (nat_eq resident.block.0 block.0) || is_some resident.content) old.present
       tidy.once;
-  pending = All-filter (λ entry. not (nat_eq entry.block.0 block.0) || is_some entry.content)
+  pending = All-filter (λ resident. not (nat_eq resident.block.0 block.0) || is_some resident.content)
       (IsUnlogged old.log) old.present tidy.pending;
   changes = tidy.changes;
 }
@@ -487,17 +487,17 @@ pub tidy_installed : (old : CoreState) (log : Log) → log.blocks ≡ old.log.bl
 tidy_installed old log same none whole tidy = record {
   owned = subst (λ (n : ℕ). All (λ hold. IsOut old hold.transaction × IsHomeOn n hold.addr.block) old.holds)
       (sym same) tidy.owned;
-  placed = All-filter (λ entry. is_none entry.content || is_taken old.holds entry.block
-      || is_kept (past (installed_place log) old.records) entry.block) (IsPlaced log.blocks) old.present
+  placed = All-filter (λ resident. is_none resident.content || is_taken old.holds resident.block
+      || is_kept (past (installed_place log) old.records) resident.block) (IsPlaced log.blocks) old.present
       (subst (λ (n : ℕ). All (IsPlaced n) old.present) (sym same) tidy.placed);
   apart = tidy.apart;
   read = read_swept old.holds (past (installed_place log) old.records) old.present old.present (λ at c e. e)
       tidy.read;
   claimed = tidy.claimed;
-  once = once_filter (λ entry. is_none entry.content || is_taken old.holds entry.block
-      || is_kept (past (installed_place log) old.records) entry.block) old.present tidy.once;
-  pending = All-filter (λ entry. is_none entry.content || is_taken old.holds entry.block
-      || is_kept (past (installed_place log) old.records) entry.block) (IsUnlogged log) old.present
+  once = once_filter (λ resident. is_none resident.content || is_taken old.holds resident.block
+      || is_kept (past (installed_place log) old.records) resident.block) old.present tidy.once;
+  pending = All-filter (λ resident. is_none resident.content || is_taken old.holds resident.block
+      || is_kept (past (installed_place log) old.records) resident.block) (IsUnlogged log) old.present
       (All-weaker (IsUnlogged old.log) (IsUnlogged log) (λ x h e. none x.block.0 (h e)) old.present
       tidy.pending);
   changes = whole;

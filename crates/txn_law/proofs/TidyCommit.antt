@@ -13,7 +13,7 @@ use Rattle.wal_law.specs.Effects.{newest_in}
 use Rattle.wal_law.specs.Grows.{GrowsBy}
 use Rattle.wal_law.specs.Log.{Log, IsHomeOn, newest, or_else, blocks_of as group_blocks}
 use Rattle.wal_law.specs.Overlay.{content_or}
-use Rattle.txn_law.specs.Commit.{Planned, IsWrittenBy, IsOwn, with_record, refreshed_content, refreshed_entry}
+use Rattle.txn_law.specs.Commit.{Planned, IsWrittenBy, IsOwn, with_record, refreshed_content, refreshed_resident}
 use Rattle.txn_law.specs.Commit.{refreshed}
 use Rattle.txn_law.specs.Commit.{committed}
 use Rattle.txn_law.specs.Core.{CoreState, IsOut, ended}
@@ -26,12 +26,12 @@ use Rattle.wal_law.specs.Grows.{IsWholeChange}
 use Rattle.txn_law.specs.Tidy.{IsReadHere, IsClaimedWhole, IsUnlogged, IsPlaced, AreTidy}
 use Rattle.objects.specs.Present.{IsOnce}
 use Rattle.objects.specs.declared.present.Present.{Present}
-use Rattle.txn_law.proofs.Entries.{once_refreshed, present_of-refreshed}
-use Rattle.objects.proofs.Entries.{same_block, once_filter}
+use Rattle.txn_law.proofs.Residents.{once_refreshed, present_of-refreshed}
+use Rattle.objects.proofs.Residents.{same_block, once_filter}
 use Rattle.txn_law.proofs.Laid.{among_after, among_group}
 use Rattle.txn_law.proofs.Tidied.{apart_filter, read_swept, owned_end}
 
--- each entry is the one of its block
+-- each resident is the one of its block
 pub once_is : (xs : List Present) → IsOnce xs → All (λ x. present_of xs x.block ≡ Some x) xs
 once_is [] h = All-nil (λ x. present_of [] x.block ≡ Some x)
 once_is (x ∷ xs) h =
@@ -74,7 +74,7 @@ module _ (old : CoreState) (tx : ℕ) (plan : Planned) (group : List (BlockNo ×
     (own : IsOwn old tx plan) (blocks : group_blocks group ≡ blocks_of plan.written)
     (grown : GrowsBy old.log group log) (tidy : AreTidy old) where
   unlogged : (x : Present) → IsUnlogged old.log x → present_of old.present x.block ≡ Some x
-      → IsUnlogged log (refreshed_entry log x)
+      → IsUnlogged log (refreshed_resident log x)
   unlogged x h is = go x.content refl
     where
       go : (o : Option Content) → x.content ≡ o → refreshed_content o (newest log x.block.0) ≡ None
@@ -102,7 +102,7 @@ module _ (old : CoreState) (tx : ℕ) (plan : Planned) (group : List (BlockNo ×
       go None is e = absurd (cc)
       go (Some x) is e = (
         content_or (newest log x.block.0) c,
-        ap content_in (present_of-refreshed log old.present block ∙ ap (option_map (refreshed_entry log)) is)
+        ap content_in (present_of-refreshed log old.present block ∙ ap (option_map (refreshed_resident log)) is)
             ∙ ap (λ (o : Option Content). refreshed_content o (newest log x.block.0)) e,
       )
 
@@ -111,10 +111,10 @@ module _ (old : CoreState) (tx : ℕ) (plan : Planned) (group : List (BlockNo ×
   tidy_commit same whole = record {
     owned = subst (λ (n : ℕ). All (λ hold. IsOut (ended old tx) hold.transaction × IsHomeOn n hold.addr.block)
         (released old.holds tx)) (sym same) (owned_end old tx tidy);
-    placed = All-filter (λ entry. is_none entry.content || is_taken (released old.holds tx) entry.block
-        || is_kept (with_record log log.places plan old.records) entry.block) (IsPlaced log.blocks)
+    placed = All-filter (λ resident. is_none resident.content || is_taken (released old.holds tx) resident.block
+        || is_kept (with_record log log.places plan old.records) resident.block) (IsPlaced log.blocks)
         (refreshed log old.present)
-        (All-map (IsPlaced log.blocks) (refreshed_entry log) old.present
+        (All-map (IsPlaced log.blocks) (refreshed_resident log) old.present
         (subst (λ (n : ℕ). All (IsPlaced n) old.present) (sym same) tidy.placed));
     apart = apart_filter (λ hold. not (nat_eq hold.transaction tx)) old.holds tidy.apart;
     read = read_swept (released old.holds tx) (with_record log log.places plan old.records)
@@ -123,13 +123,13 @@ module _ (old : CoreState) (tx : ℕ) (plan : Planned) (group : List (BlockNo ×
         (λ x h is. let (content, there) = h is in stays x.addr.block content there) (released old.holds tx)
         (All-filter (λ hold. not (nat_eq hold.transaction tx)) (IsReadHere old.present) old.holds tidy.read));
     claimed = All-filter (λ hold. not (nat_eq hold.transaction tx)) IsClaimedWhole old.holds tidy.claimed;
-    once = once_filter (λ entry. is_none entry.content || is_taken (released old.holds tx) entry.block
-        || is_kept (with_record log log.places plan old.records) entry.block) (refreshed log old.present)
+    once = once_filter (λ resident. is_none resident.content || is_taken (released old.holds tx) resident.block
+        || is_kept (with_record log log.places plan old.records) resident.block) (refreshed log old.present)
         (once_refreshed log old.present tidy.once);
-    pending = All-filter (λ entry. is_none entry.content || is_taken (released old.holds tx) entry.block
-        || is_kept (with_record log log.places plan old.records) entry.block) (IsUnlogged log)
+    pending = All-filter (λ resident. is_none resident.content || is_taken (released old.holds tx) resident.block
+        || is_kept (with_record log log.places plan old.records) resident.block) (IsUnlogged log)
         (refreshed log old.present)
-        (All-map (IsUnlogged log) (refreshed_entry log) old.present
+        (All-map (IsUnlogged log) (refreshed_resident log) old.present
         (λ k d lt. unlogged (get_or old.present k d) (tidy.pending k d lt)
         (once_is old.present tidy.once k d lt)));
     changes = whole;

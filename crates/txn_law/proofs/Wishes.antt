@@ -19,21 +19,21 @@ use Rattle.txn_law.specs.Fetch.{Fetch}
 use Rattle.txn_law.specs.Holds.{released}
 use Rattle.objects.specs.Present.{present_of, content_in}
 use Rattle.objects.specs.declared.present.Present.{Present}
-use Rattle.txn_law.specs.CoreWindow.{with_entry, held_of, IsCoreWindow}
+use Rattle.txn_law.specs.CoreWindow.{with_resident, held_of, IsCoreWindow}
 use Rattle.txn_law.specs.Window.{now_of, IsPinned, ArePinned, IsCurrent, IsWindowOver}
 use Rattle.txn_law.proofs.CoreCommits.{found_in}
 use Rattle.txn_law.proofs.Moves.{other_memory, tail_is_now}
 use Rattle.txn_law.proofs.Swept.{in_cons, in_more, in_first, window_swept}
 
-held_of-push : (present : List Present) (entry : Present) → held_of (present ++ entry ∷ []) ≡ held_of present
-    ++ with_entry entry.block entry.content []
-held_of-push [] entry = refl
-held_of-push (x ∷ xs) entry = go x.content (held_of-push xs entry)
+held_of-push : (present : List Present) (resident : Present) → held_of (present ++ resident ∷ []) ≡ held_of present
+    ++ with_resident resident.block resident.content []
+held_of-push [] resident = refl
+held_of-push (x ∷ xs) resident = go x.content (held_of-push xs resident)
   where
     go : (content : Option Content)
-        → held_of (xs ++ entry ∷ []) ≡ held_of xs ++ with_entry entry.block entry.content []
-        → with_entry x.block content (held_of (xs ++ entry ∷ [])) ≡ with_entry x.block content (held_of xs)
-        ++ with_entry entry.block entry.content []
+        → held_of (xs ++ resident ∷ []) ≡ held_of xs ++ with_resident resident.block resident.content []
+        → with_resident x.block content (held_of (xs ++ resident ∷ [])) ≡ with_resident x.block content (held_of xs)
+        ++ with_resident resident.block resident.content []
     go None rest = rest
     go (Some content) rest = ap (λ ys. (x.block.0, content) ∷ ys) rest
 
@@ -46,7 +46,7 @@ in_left (x ∷ xs) ys y h = elim (in_cons x y xs h) as (λ _. Contains (x ∷ xs
 
 -- one block more in memory, that is current
 with_more : (base : Image) (core : CoreState) (block : BlockNo) (content : Option Content)
-    → All (IsCurrent (now_of base core.log core.records)) (with_entry block content [])
+    → All (IsCurrent (now_of base core.log core.records)) (with_resident block content [])
     → IsCoreWindow base core
     → IsWindowOver base core.log core.records (held_of (with_block core.present block content))
 with_more base core block content more h = go (is_some (present_of core.present block))
@@ -60,16 +60,16 @@ with_more base core block content more h = go (is_some (present_of core.present 
         subst (λ held. IsWindowOver base core.log core.records held)
         (sym (held_of-push core.present (record { block = block; content = content })))
         (other_memory base core.log core.records (held_of core.present) (held_of core.present
-        ++ with_entry block content [])
+        ++ with_resident block content [])
         (All-append (IsCurrent (now_of base core.log core.records)) (held_of core.present)
-        (with_entry block content []) h.memory more)
+        (with_resident block content []) h.memory more)
         (All-weaker (ArePinned (held_of core.present))
-        (ArePinned (held_of core.present ++ with_entry block content []))
+        (ArePinned (held_of core.present ++ with_resident block content []))
         (λ commit pins. All-weaker (IsPinned (held_of core.present))
-        (IsPinned (held_of core.present ++ with_entry block content []))
+        (IsPinned (held_of core.present ++ with_resident block content []))
         (λ object pin. (
           pin.0,
-          in_left (held_of core.present) (with_entry block content []) (object.addr.block.0, pin.0) pin.1,
+          in_left (held_of core.present) (with_resident block content []) (object.addr.block.0, pin.0) pin.1,
         ))
         commit.read pins) core.records h.pinned) h)
 

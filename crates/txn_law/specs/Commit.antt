@@ -66,14 +66,14 @@ abbrev pub refreshed_content : Option Content → Option Content → Option Cont
 refreshed_content None logged = None
 refreshed_content (Some content) logged = Some (content_or logged content)
 
-abbrev pub refreshed_entry : Log → Present → Present
-refreshed_entry log entry = record {
-  block = entry.block;
-  content = refreshed_content entry.content (newest log entry.block.0);
+abbrev pub refreshed_resident : Log → Present → Present
+refreshed_resident log resident = record {
+  block = resident.block;
+  content = refreshed_content resident.content (newest log resident.block.0);
 }
 
 abbrev pub refreshed : Log → List Present → List Present
-refreshed log present = map (refreshed_entry log) present
+refreshed log present = map (refreshed_resident log) present
 
 -- the core once the change is committed
 abbrev pub committed : CoreState → ℕ → Planned → Log → CoreState

@@ -19,5 +19,5 @@ is_kept records block = list_any (λ kept. lies_in kept.read block) records
 -- the blocks that somebody has taken, that a kept record read, or whose fetch is pending
 abbrev pub swept : List Hold → List Footprint → List Present → List Present
 swept holds records present =
-    filter (λ entry. is_none entry.content || is_taken holds entry.block || is_kept records entry.block)
+    filter (λ resident. is_none resident.content || is_taken holds resident.block || is_kept records resident.block)
     present

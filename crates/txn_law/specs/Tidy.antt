@@ -31,7 +31,7 @@ IsClaimedWhole hold = hold.is_claimed ≡ true → (hold.addr.offset ≡ 0) × (
 
 -- the log doesn't have a block whose fetch is pending
 abbrev pub IsUnlogged : Log → Present → Type 0
-IsUnlogged log entry = entry.content ≡ None → newest log entry.block.0 ≡ None
+IsUnlogged log resident = resident.content ≡ None → newest log resident.block.0 ≡ None
 
 -- what is taken is of a transaction that is out, in a block that a change may write
 abbrev pub IsOfOne : CoreState → Hold → Type 0
@@ -39,7 +39,7 @@ IsOfOne core hold = IsOut core hold.transaction × IsHomeOn core.log.blocks hold
 
 -- what is in memory or being fetched is a block that a change may write
 abbrev pub IsPlaced : ℕ → Present → Type 0
-IsPlaced blocks entry = IsHomeOn blocks entry.block
+IsPlaced blocks resident = IsHomeOn blocks resident.block
 
 pub record AreTidy (core : CoreState) : Type 0 where
   pub owned : All (IsOfOne core) core.holds

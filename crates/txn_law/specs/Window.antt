@@ -100,7 +100,7 @@ ArePinned held commit = All (IsPinned held) commit.read
 
 -- a block in memory has the content that these blocks have
 abbrev pub IsCurrent : Image → ℕ × Content → Type 0
-IsCurrent now entry = entry.1 ≡ now entry.0
+IsCurrent now resident = resident.1 ≡ now resident.0
 
 -- A legal window over what is at home.
 pub record IsWindowOver (base : Image) (log : Log) (commits : List Footprint)

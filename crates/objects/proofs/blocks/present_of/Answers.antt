@@ -6,5 +6,5 @@ use Rattle.objects.proofs.blocks.present_of.Goals as goal
 
 pub returns : goal.returns
 returns c =
-    find_from_yields_List (λ (entry : Present). nat_eq entry.block.0 c.args.block.0) _ _ _ c.find.ensures.ran
+    find_from_yields_List (λ (resident : Present). nat_eq resident.block.0 c.args.block.0) _ _ _ c.find.ensures.ran
     (YieldsList-from_slice c.args.present.now cc) (λ x b q k. search rules)

@@ -2,7 +2,7 @@ use Rattle.std.proofs.Common.{◌≡◌, ◌<◌, ◌+◌, ◌++◌, ◌∷◌, 
 use Rattle.std.proofs.Common.{get_or-drop, ap, sym, ◌∙◌, add-zero, arith}
 use Rattle.std.proofs.lemmas.List.{take_more_set, take_more, map-append, drop-set-lt}
 use Rattle.std.proofs.lemmas.Grind.{drop_more_same}
-use Rattle.objects.specs.Present.{renewed_entry}
+use Rattle.objects.specs.Present.{renewed_resident}
 use Rattle.objects.proofs.blocks.renew_list.Goals as goal
 
 same_first : {X : Type 0} (xs ys : List X) (i : ℕ) (d : X) → drop i xs ≡ drop i ys
@@ -18,16 +18,16 @@ one_more f xs ys i d y lt less done left is =
     ∙ ap (λ z. map f (take i ys) ++ z ∷ []) (is ∙ ap f (same_first xs ys i d left))
     ∙ sym (map-append f (take i ys) (get_or ys i d ∷ [])) ∙ sym (ap (map f) (take_more ys i d less))
 
-pub loop-entry-preserved : goal.loop-entry-preserved
-loop-entry-preserved c =
-    let i = c.loop-entry.entry-index in
-    let less : i < length c.args.present.now = c.loop-entry-test.true in
-    let lt : i < length c.loop-entry.present = omega arith in
+pub loop-resident-preserved : goal.loop-resident-preserved
+loop-resident-preserved c =
+    let i = c.loop-resident.resident-index in
+    let less : i < length c.args.present.now = c.loop-resident-test.true in
+    let lt : i < length c.loop-resident.present = omega arith in
     record {
-      done = one_more (renewed_entry c.args.block c.args.content.now) c.loop-entry.present c.args.present.now i
-          c.entry-item.result
-          c.renew.new.entry lt less c.loop-entry.invariant.done c.loop-entry.invariant.left
+      done = one_more (renewed_resident c.args.block c.args.content.now) c.loop-resident.present c.args.present.now i
+          c.resident-item.result
+          c.renew.new.resident lt less c.loop-resident.invariant.done c.loop-resident.invariant.left
           c.renew.ensures;
-      left = drop-set-lt (i + 1) c.loop-entry.present i c.renew.new.entry (omega arith)
-          ∙ drop_more_same c.loop-entry.present c.args.present.now i c.loop-entry.invariant.left;
+      left = drop-set-lt (i + 1) c.loop-resident.present i c.renew.new.resident (omega arith)
+          ∙ drop_more_same c.loop-resident.present c.args.present.now i c.loop-resident.invariant.left;
     }

@@ -4,5 +4,5 @@ use Rattle.objects.specs.declared.present.Present.{Present}
 use Rattle.objects.proofs.blocks.take_back.Goals as goal
 
 pub returns : goal.returns
-returns c = filter_same _ (λ (entry : Present). not (nat_eq entry.block.0 c.args.block.0)) _
+returns c = filter_same _ (λ (resident : Present). not (nat_eq resident.block.0 c.args.block.0)) _
     (λ x b f r. search rules) _ _ c.retain.ensures.filtered

@@ -3,7 +3,7 @@ use Rattle.disk.specs.declared.block.BlockNo.{BlockNo}
 use Rattle.objects.specs.Pins.{AreWanted, Resident, count_in, pins_of, wanted}
 use Rattle.objects.specs.Present.{IsOnce, filled, without_clean}
 use Rattle.objects.specs.declared.present.Present.{Present}
-use Rattle.objects.proofs.Entries.{once_filled, once_filter}
+use Rattle.objects.proofs.Residents.{once_filled, once_filter}
 use Rattle.objects.proofs.Wanted.{filled_free, filled_pinned, wanted_all, are_wanted, some_of}
 use Rattle.objects.proofs.residency.Residency.fetched.Goals as goal
 
@@ -13,7 +13,7 @@ invariant_of-self c =
     let pins : BlockNo → ℕ = count_in c.self.inside.pins.entries in
     let none : pins c.args.block ≡ 0 = sym c.count_of.ensures ∙ c.if-count_of-eq0.true in (
       subst IsOnce (sym (c.unpin.ensures ∙ ap (λ (xs : List Present). without_clean xs c.args.block) c.fill.ensures))
-          (once_filter (λ (entry : Present). not (nat_eq entry.block.0 c.args.block.0) || is_none entry.content)
+          (once_filter (λ (resident : Present). not (nat_eq resident.block.0 c.args.block.0) || is_none resident.content)
           (filled blocks c.args.block c.args.content)
           (once_filled c.args.block c.args.content blocks c.self.invariant.0)),
       subst (AreWanted pins)

@@ -3,7 +3,7 @@ use Rattle.disk.specs.declared.block.BlockNo.{BlockNo}
 use Rattle.objects.specs.Pins.{AreWanted, Resident, Unpins, count_in, once_at}
 use Rattle.objects.specs.Present.{IsOnce}
 use Rattle.objects.specs.declared.present.Present.{Present}
-use Rattle.objects.proofs.Entries.{once_filter}
+use Rattle.objects.proofs.Residents.{once_filter}
 use Rattle.objects.proofs.Wanted.{unpinned_last, unpinned_more, wanted_all, are_wanted, some_of}
 use Rattle.objects.proofs.residency.Residency.unpin.Goals as goal
 
@@ -14,7 +14,7 @@ invariant_of-self c =
     let new : BlockNo → ℕ = count_in c.take.new.pins.entries in
     let none : new c.args.block ≡ 0 = sym c.take.ensures.left ∙ c.if-take-eq0.true in (
       subst IsOnce (sym c.unpin.ensures)
-          (once_filter (λ (entry : Present). not (nat_eq entry.block.0 c.args.block.0) || is_none entry.content)
+          (once_filter (λ (resident : Present). not (nat_eq resident.block.0 c.args.block.0) || is_none resident.content)
           blocks c.self.invariant.0),
       subst (AreWanted new)
           (sym (c.unpin.ensures

@@ -1,4 +1,4 @@
--- Lemmas on the blocks in memory, of which each has one entry.
+-- Lemmas on the blocks in memory, of which each has one resident.
 use Rattle.std.proofs.Common.{◌≡◌, ℕ, Bool, true, false, cond, if◌then◌else◌, nat_eq, List, [], ◌∷◌, ◌++◌}
 use Rattle.std.proofs.Common.{Option, Some, None, All, refl, sym, ap, ◌∙◌, ne_eqb}
 use Rattle.std.specs.List.{filter}
@@ -10,9 +10,9 @@ use Rattle.objects.specs.Present.{present_of, content_in, IsOnce, filled_in, fil
 use Rattle.objects.specs.declared.present.Present.{Present}
 use Rattle.objects.proofs.Found.{find_none, find_push_none}
 
--- an entry of this block
+-- a resident of this block
 abbrev pub is_of : BlockNo → Present → Bool
-is_of block entry = nat_eq entry.block.0 block.0
+is_of block resident = nat_eq resident.block.0 block.0
 
 pub same_block : (one other : BlockNo) → one.0 ≡ other.0 → one ≡ other
 same_block one other e = let f : ℕ → BlockNo = λ number. record { 0 = number } in ap f e
@@ -25,25 +25,25 @@ once_filter q (x ∷ xs) h = go (once_filter q xs h.1) (q x)
     go rest true = (find_none (is_of x.block) q xs h.0, rest)
     go rest false = rest
 
-pub once_push : (xs : List Present) (entry : Present) → present_of xs entry.block ≡ None → IsOnce xs
-    → IsOnce (xs ++ entry ∷ [])
-once_push [] entry absent h = (refl, tt)
-once_push (x ∷ xs) entry absent h =
-    go (λ e. once_push xs entry e h.1) (nat_eq x.block.0 entry.block.0) refl absent
+pub once_push : (xs : List Present) (resident : Present) → present_of xs resident.block ≡ None → IsOnce xs
+    → IsOnce (xs ++ resident ∷ [])
+once_push [] resident absent h = (refl, tt)
+once_push (x ∷ xs) resident absent h =
+    go (λ e. once_push xs resident e h.1) (nat_eq x.block.0 resident.block.0) refl absent
   where
-    differs : nat_eq x.block.0 entry.block.0 ≡ false → entry.block.0 ≡ x.block.0 → ⊥
+    differs : nat_eq x.block.0 resident.block.0 ≡ false → resident.block.0 ≡ x.block.0 → ⊥
     differs is same =
-        let there : nat_eq x.block.0 entry.block.0 ≡ true = eq-eqb x.block.0 entry.block.0 (sym same) in
+        let there : nat_eq x.block.0 resident.block.0 ≡ true = eq-eqb x.block.0 resident.block.0 (sym same) in
         let no : true ≡ false = sym there ∙ is in
         absurd (cc)
 
-    go : (present_of xs entry.block ≡ None → IsOnce (xs ++ entry ∷ [])) → (t : Bool)
-        → nat_eq x.block.0 entry.block.0 ≡ t → cond t (Some x) (present_of xs entry.block) ≡ None
-        → IsOnce (x ∷ xs ++ entry ∷ [])
+    go : (present_of xs resident.block ≡ None → IsOnce (xs ++ resident ∷ [])) → (t : Bool)
+        → nat_eq x.block.0 resident.block.0 ≡ t → cond t (Some x) (present_of xs resident.block) ≡ None
+        → IsOnce (x ∷ xs ++ resident ∷ [])
     go rest true is e = absurd (cc)
     go rest false is e = (
-      find_push_none (is_of x.block) xs (entry ∷ []) h.0
-          ∙ ap (λ b. cond b (Some entry) None) (ne_eqb entry.block.0 x.block.0 (differs is)),
+      find_push_none (is_of x.block) xs (resident ∷ []) h.0
+          ∙ ap (λ b. cond b (Some resident) None) (ne_eqb resident.block.0 x.block.0 (differs is)),
       rest e,
     )
 
@@ -79,7 +79,7 @@ module _ (block : BlockNo) (content : Content) where
       go rest true = here (nat_eq x.block.0 at.0) e
       go rest false = later rest (nat_eq x.block.0 at.0) e
 
-  -- a block without an entry gets none
+  -- a block without a resident gets none
   pub filled_absent : (xs : List Present) (at : BlockNo) → present_of xs at ≡ None
       → present_of (filled xs block content) at ≡ None
   filled_absent [] at e = e
@@ -110,7 +110,7 @@ module _ (block : BlockNo) (content : Content) where
       go rest true = h
       go rest false = (filled_absent xs x.block h.0, rest)
 
-  -- what holds of each entry, and of one of a block with a content, holds once it is filled in
+  -- what holds of each resident, and of one of a block with a content, holds once it is filled in
   pub each_filled : (P : Present → Type 0) → ((x : Present) → P x → P (filled_one x)) → (xs : List Present)
       → All P xs → All P (filled xs block content)
   each_filled P made [] h = h
