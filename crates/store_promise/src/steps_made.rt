@@ -33,7 +33,7 @@ ghost use Rattle.store_promise.specs.LogTold.{idle, may_install_told, may_log_to
 ghost use Rattle.store_promise.specs.NextCall.{next_log_call, taken_home};
 ghost use Rattle.store_promise.specs.Aims.{is_above};
 ghost use Rattle.store_promise.specs.Progress.{Again, Begun, Called, Job, At, Planning, Reading, Stage};
-ghost use Rattle.store_promise.specs.Progress.{Taken, has_taken, known_then, takes};
+ghost use Rattle.store_promise.specs.Progress.{Taken, has_taken, is_fetching, known_then, takes};
 ghost use Rattle.store_promise.specs.Schedule.{IsTaken, Schedule, Setting, Told, is_held};
 ghost use Rattle.store_promise.specs.Schedule.{progress_before, told_before, whole_wish, wish_of};
 ghost use Rattle.store_promise.specs.Transcript.{Transcript};
@@ -154,17 +154,27 @@ pub fn one_worker_is_never_busy()
         → KeepsPromise before later tree first 1 events t → ⊥ }
 {}
 
-/// A worker that is told Held, or to fetch, of what another has taken, so that two have taken one byte, breaks the
-/// promise; so does one that is told to have claimed a block of which another has a part.
+/// A worker that is told Held, to fetch, or NoMemory of what another has taken, so that two may have taken one byte,
+/// breaks the promise; so does one that is told so of a block that another fetches, and one that is told to have claimed
+/// a block of which another has a part.
 pub fn no_two_take_one_byte()
     ensures wanted { (before later : Device) (tree : Tree) (first workers index worker other : ℕ)
         (events : Schedule) (t : Transcript) (job : Job) (begun : Begun) (addr : Addr) (mode : Mode)
         (answer : Wish)
         → slice_get events index ≡ Some (event.Work worker) → worker < workers → other ≢ worker
         → slice_get t.steps index ≡ Some (Some (step.Wanted addr mode answer))
-        → (answer ≡ wish.Held) ⊎ (answer ≡ wish.Fetch)
+        → (answer ≡ wish.Held) ⊎ (answer ≡ wish.Fetch) ⊎ (answer ≡ wish.NoMemory)
         → progress_before events t.steps worker index ≡ At job (Planning begun)
         → has_taken (wish_of addr mode) (progress_before events t.steps other index) ≡ true
+        → KeepsPromise before later tree first workers events t → ⊥ }
+    ensures fetched { (before later : Device) (tree : Tree) (first workers index worker other : ℕ)
+        (events : Schedule) (t : Transcript) (job : Job) (begun : Begun) (addr : Addr) (mode : Mode)
+        (answer : Wish)
+        → slice_get events index ≡ Some (event.Work worker) → worker < workers → other ≢ worker
+        → slice_get t.steps index ≡ Some (Some (step.Wanted addr mode answer))
+        → (answer ≡ wish.Held) ⊎ (answer ≡ wish.Fetch) ⊎ (answer ≡ wish.NoMemory)
+        → progress_before events t.steps worker index ≡ At job (Planning begun)
+        → is_fetching addr.block (progress_before events t.steps other index) ≡ true
         → KeepsPromise before later tree first workers events t → ⊥ }
     ensures claimed { (before later : Device) (tree : Tree) (first workers index worker other : ℕ)
         (events : Schedule) (t : Transcript) (job : Job) (begun : Begun) (block : BlockNo)

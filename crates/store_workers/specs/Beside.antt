@@ -24,13 +24,13 @@ use Rattle.store_workers.specs.declared.workers.parts.State.{State}
 abbrev pub IsNoted : List Aim → Addr → Mode → Type 0
 IsNoted aims addr mode = Contains aims (aim.Object addr mode) ⊎ Contains aims (aim.Claim addr.block)
 
--- the transaction has taken this; a claim is of the whole block
+-- the transaction has taken this address, in whatever mode; a claim is of the whole block
 abbrev pub IsTakenIn : CoreState → ℕ → Aim → Type 0
 IsTakenIn core tx (aim.Object addr mode) = is_some (taken_by core tx addr) ≡ true
 IsTakenIn core tx (aim.Claim block) =
     (addr : Addr) × IsWhole block addr × (is_some (taken_by core tx addr) ≡ true)
 
--- all that a transaction has taken is among these, and all these it has taken
+-- all that a transaction has taken is among these in its mode, and it has taken the address of each of these
 pub record NotesTaken (core : CoreState) (tx : ℕ) (aims : List Aim) : Type 0 where
   pub noted : (addr : Addr) (hold : Hold) → taken_by core tx addr ≡ Some hold → IsNoted aims addr hold.mode
   pub taken : All (IsTakenIn core tx) aims

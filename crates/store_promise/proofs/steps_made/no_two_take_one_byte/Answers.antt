@@ -6,12 +6,13 @@ use Rattle.store_promise.specs.Schedule.{IsLeftFree, IsWish, Told, told_before, 
 use Rattle.store_promise.proofs.Told.{claim_wish_is, planned_step, wish_is}
 use Rattle.store_promise.proofs.steps_made.no_two_take_one_byte.Goals as goal
 
--- what is met is left free by the others
+-- what is answered so is left free by the others
 free_of : (told : Told) (worker : ℕ) (begun : Begun) (wished : Wished) (answer : Wish)
-    → (answer ≡ wish.Held) ⊎ (answer ≡ wish.Fetch) → IsWish told worker begun wished answer
+    → (answer ≡ wish.Held) ⊎ (answer ≡ wish.Fetch) ⊎ (answer ≡ wish.NoMemory) → IsWish told worker begun wished answer
     → IsLeftFree told worker wished
 free_of told worker begun wished answer (inl held) is = subst (IsWish told worker begun wished) held is
-free_of told worker begun wished answer (inr fetch) is =
+free_of told worker begun wished answer (inr (inr refused)) is = subst (IsWish told worker begun wished) refused is
+free_of told worker begun wished answer (inr (inl fetch)) is =
     let both : IsLeftFree told worker wished × (is_loaded wished.block begun ≡ false) =
     subst (IsWish told worker begun wished) fetch is in both.0
 
@@ -25,6 +26,17 @@ returns-clause-wanted c =
     let left = free_of told worker begun (wish_of addr mode) answer met
     (wish_is kept.setting told worker begun begun.left addr mode answer step) in
     true≢false (sym taken ∙ left.free other differs)
+
+pub returns-clause-fetched : goal.returns-clause-fetched
+returns-clause-fetched c =
+    λ before later tree first workers index worker other events t job begun addr mode answer is_event less differs
+    is_step met planning fetching kept.
+    let step = planned_step kept.setting workers events t.steps kept.taken index worker job begun _ is_event less
+    is_step planning in
+    let told = told_before events t.steps index in
+    let left = free_of told worker begun (wish_of addr mode) answer met
+    (wish_is kept.setting told worker begun begun.left addr mode answer step) in
+    true≢false (sym fetching ∙ left.settled other differs)
 
 pub returns-clause-claimed : goal.returns-clause-claimed
 returns-clause-claimed c =
