@@ -100,8 +100,8 @@ pub record IsCoreAtWork (worker : State) (core : CoreState) : Type 0 where
   pub loads : Loads worker core
 
 -- A core and one of its workers, beside which others may have some of it: it fits the worker, the worker has of
--- its call what it has taken, each object of that is in memory while it goes by its plans, and noted is just what
--- its transaction has taken.
+-- its call what it has taken, each object of that is in memory while it goes by its plans, and noted is what
+-- its transaction has taken, address by address.
 pub record IsAtWork (worker : State) (core : CoreState) : Type 0 where
   pub with : GoesWith worker core
   pub plans : PlansAlone worker.phase worker core

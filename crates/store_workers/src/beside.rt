@@ -31,7 +31,7 @@ pub fn workers_share_a_core()
 {}
 
 /// A worker has of its call, after each of its steps, what it had and what it took with it, and has noted all
-/// that its transaction has taken and nothing else: also beside others, and where it takes again what its call
+/// that its transaction has taken and no other address: also beside others, and where it takes again what its call
 /// knew.
 pub fn a_worker_has_what_it_takes()
     ensures plans { (old new : Side) (made : Option Step) → KeepsReadsOf old new → NoneTakenBeyond old.core
