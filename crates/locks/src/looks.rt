@@ -1,9 +1,7 @@
 //! Looks at what is taken.
-ghost use Rattle.std.specs.Prelude.{◌≡◌, ◌↔◌, ◌&&◌, IsTrue, not, nat_eq, is_some};
-ghost use Rattle.std.specs.List.{list_any};
-ghost use Rattle.txn_law.specs.Holds.{KeepsOff, IsFree, is_taken, hold_of, is_read, is_written, released};
+ghost use Rattle.std.specs.Prelude.{◌≡◌, ◌↔◌, IsTrue, is_some};
+ghost use Rattle.txn_law.specs.Holds.{KeepsOff, IsFree, hold_of, is_read, is_written};
 
-use disk::BlockNo;
 use objects::{Addr, Mode};
 use txn_law::Hold;
 
@@ -54,28 +52,6 @@ pub(crate) fn is_written_by(holds: &[Hold], transaction: u64, addr: Addr) -> boo
         Some(hold) => hold.mode == Mode::Exclusive && (hold.is_read || hold.is_claimed),
         None => false,
     }
-}
-
-/// Whether anyone has taken a part of the block.
-pub(crate) fn is_taken(holds: &[Hold], block: BlockNo) -> bool
-    ensures { result ≡ is_taken holds.now block }
-{
-    holds.iter().any(|hold| hold.addr.block == block)
-}
-
-// Whether a hold of anyone but the transaction is of a part of the block.
-fn any_beside(holds: &[Hold], transaction: u64, block: BlockNo) -> bool
-    ensures { result ≡ list_any (λ hold. not (nat_eq hold.transaction transaction)
-        && nat_eq hold.addr.block.0 block.0) holds.now }
-{
-    holds.iter().any(|hold| hold.transaction != transaction && hold.addr.block == block)
-}
-
-/// Whether anyone but the transaction has taken a part of the block.
-pub(crate) fn is_taken_beside(holds: &[Hold], transaction: u64, block: BlockNo) -> bool
-    ensures { result ≡ is_taken (released holds.now transaction) block }
-{
-    any_beside(holds, transaction, block)
 }
 
 /// Whether the transaction has taken the address.

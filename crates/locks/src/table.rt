@@ -1,14 +1,13 @@
 //! The table of what is taken.
 ghost use Rattle.std.specs.Prelude.{◌≡◌, ◌↔◌, IsTrue, Contains, [], is_some};
 ghost use Rattle.objects.specs.declared.mode.Mode.TheVariants as modes;
-ghost use Rattle.txn_law.specs.Holds.{IsFree, is_taken, hold_of, is_read, is_written, released};
+ghost use Rattle.txn_law.specs.Holds.{IsFree, hold_of, is_read, is_written, released};
 ghost use Rattle.txn_law.specs.Tidy.{AreApart};
 ghost use Rattle.txn_law.specs.declared.hold.Hold.{Hold};
 ghost use Rattle.locks.specs.Taking.{IsTaking};
 
-use crate::looks::{is_free, is_held_by, is_read_by, is_taken, is_taken_beside, is_written_by};
+use crate::looks::{is_free, is_held_by, is_read_by, is_written_by};
 use crate::taking::{note, release};
-use disk::BlockNo;
 use objects::{Addr, Mode};
 use std::alloc::Global;
 use std::marker::Model;
@@ -119,19 +118,5 @@ impl Table {
         ensures { result ≡ is_written (hold_of self.now transaction addr) }
     {
         is_written_by(&self.holds, transaction, addr)
-    }
-
-    /// Whether anyone has taken a part of the block.
-    pub fn is_taken(&self, block: BlockNo) -> bool
-        ensures { result ≡ is_taken self.now block }
-    {
-        is_taken(&self.holds, block)
-    }
-
-    /// Whether anyone but the transaction has taken a part of the block.
-    pub fn is_taken_beside(&self, transaction: u64, block: BlockNo) -> bool
-        ensures { result ≡ is_taken (released self.now transaction) block }
-    {
-        is_taken_beside(&self.holds, transaction, block)
     }
 }
