@@ -1,33 +1,34 @@
-//! Calls of one connection that are driven together.
-use crate::sizes::CALLS_IN_A_ROUND;
+//! Calls of one connection that are driven in a row.
+use crate::sizes::CALLS_IN_A_ROW;
 use pool::{Answer, Job};
 use server_parts::Parked;
 use std::alloc::{AllocError, Global};
 use std::collections::VecDeque;
 
-/// Calls of one connection, in their order; the seats in hand, in which some of them are under way; and of the others the
-/// answers, and the seats whose changes wait to be settled.
+/// Calls of one connection, in their order; and of those that were driven the answers, the seats whose changes wait to
+/// be settled, and the seat that has to wait for something else. It is the last that was driven, since it may have
+/// taken what a later one would wait for.
 #[derive(Drop)]
 pub struct Batch {
     pub jobs: VecDeque<Job>,
-    pub seats: Vec<usize>,
     pub answers: Vec<Answer>,
     pub waiting: Vec<Parked>,
+    pub held_up: Option<usize>,
 }
 
 impl Batch {
-    /// No call, with room for as many as are driven together.
+    /// No call, with room for as many as are driven in a row.
     pub fn new(alloc: Global) -> Result<Batch, AllocError> {
         Ok(Batch {
-            jobs: VecDeque::with_capacity(alloc, CALLS_IN_A_ROUND)?,
-            seats: Vec::with_capacity(alloc, CALLS_IN_A_ROUND)?,
-            answers: Vec::with_capacity(alloc, CALLS_IN_A_ROUND)?,
-            waiting: Vec::with_capacity(alloc, CALLS_IN_A_ROUND)?,
+            jobs: VecDeque::with_capacity(alloc, CALLS_IN_A_ROW)?,
+            answers: Vec::with_capacity(alloc, CALLS_IN_A_ROW)?,
+            waiting: Vec::with_capacity(alloc, CALLS_IN_A_ROW)?,
+            held_up: None,
         })
     }
 
-    /// Whether it has as many calls as are driven together.
+    /// Whether it has as many calls as are driven in a row.
     pub fn is_full(&self) -> bool {
-        self.jobs.len() >= CALLS_IN_A_ROUND
+        self.jobs.len() >= CALLS_IN_A_ROW
     }
 }

@@ -2,7 +2,7 @@
 use crate::batch::Batch;
 use crate::hall::{Hall, is_crowded};
 use crate::sizes::{
-    FIRST_SLEEP_MICROSECONDS, FULL_MILLISECONDS, LONGEST_SLEEP_MICROSECONDS, YIELDS,
+    CALLS_IN_A_ROW, FIRST_SLEEP_MICROSECONDS, FULL_MILLISECONDS, LONGEST_SLEEP_MICROSECONDS, YIELDS,
 };
 use disk::Source;
 use pool::{Answer, Job, Look, NoGate, Seat, Told, Turn, Whole, worker_io};
@@ -22,15 +22,13 @@ enum Driven {
     Empty,
 }
 
-/// What came of a round, in which each seat in hand made its steps.
+/// What came of calls that were driven in a row.
 #[derive(Clone, Copy)]
-pub struct Round {
+pub struct Row {
     /// No memory was refused for an answer.
     pub is_well: bool,
-    /// A seat has come further, or has a read to make.
-    pub has_moved: bool,
-    /// A seat found no room in the log.
-    pub is_full: bool,
+    /// A seat was free for the first of them.
+    pub is_begun: bool,
     /// Something was committed, and so many commits are kept that it waits until some of them are home.
     pub is_crowded: bool,
 }
@@ -61,146 +59,89 @@ fn hand<L: Ledger, G: Whole, I: Whole, P, S, R: Wait + Clock>(
     let _ = seat.lock(rt).hand(job, moment);
 }
 
-/// Hands the calls of a batch to free seats: the first to any, and each further one while most are free. The jobs
-/// that are left found none.
-pub fn hand_all<L: Ledger, G: Whole, I: Whole, P, S, R: Wait + Clock>(
+/// Drives the calls of a batch in a row, one after another in a free seat, up to the first that has to wait for
+/// something but to be settled. The jobs that are left come behind it, or found no seat free.
+pub fn drive_batch<L: Ledger, G: Whole, I: Whole, P, S, R: Wait + Clock>(
     rt: &R,
     hall: &Hall<L, G, I, P, S>,
     batch: &mut Batch,
-) {
-    for _ in 0..batch.jobs.len() {
-        let free = if batch.seats.is_empty() {
-            hall.signs.free.try_take(rt)
-        } else {
-            hall.signs.free.try_take_spare(rt)
-        };
-        let Some(number) = free else {
-            return;
-        };
-        let Some(job) = batch.jobs.pop_front() else {
-            hall.signs.free.put(rt, number);
-            return;
-        };
-        hand(rt, hall, number, job);
-        // There is room for as many as a batch has.
-        let _ = batch.seats.push(number);
-    }
-}
-
-/// A round: each seat in hand makes its steps, as far as it hasn't to wait for something. One that answers is free, and
-/// one whose change waits to be settled is in hand no more.
-pub fn drive_round<L: Ledger, G: Whole, I: Whole, P, S, R: Wait + Clock>(
-    rt: &R,
-    hall: &Hall<L, G, I, P, S>,
-    batch: &mut Batch,
-) -> Round {
-    let (round, look) = drive_each(rt, hall, batch);
+) -> Row {
+    let jobs = batch.jobs.len();
+    let (is_well, look) = drive_in_a_row(rt, hall, batch);
     let is_crowded = match look {
         Some(look) => hall.tell_of_commit(rt, look),
         None => false,
     };
-    Round {
+    Row {
+        is_well,
+        is_begun: batch.jobs.len() < jobs,
         is_crowded,
-        ..round
     }
 }
 
 // The same by who has the baton: with how far the core is where something was committed.
-fn drive_each<L: Ledger, G: Whole, I: Whole, P, S, R: Wait>(
+fn drive_in_a_row<L: Ledger, G: Whole, I: Whole, P, S, R: Wait + Clock>(
     rt: &R,
     hall: &Hall<L, G, I, P, S>,
     batch: &mut Batch,
-) -> (Round, Option<Look>) {
+) -> (bool, Option<Look>) {
     let _baton = hall.signs.baton.lock(rt);
-    let mut round = Round {
-        is_well: true,
-        has_moved: false,
-        is_full: false,
-        is_crowded: false,
-    };
+    let mut is_well = true;
     let mut committed = false;
-    let mut at = 0;
-    for _ in 0..batch.seats.len() {
-        if at >= batch.seats.len() {
+    let mut free = None;
+    for _ in 0..CALLS_IN_A_ROW {
+        if batch.jobs.is_empty() {
             break;
         }
-        let number = batch.seats[at];
-        let (came, made) = steps_of(rt, hall, number);
+        let Some(number) = seat_for_next(rt, hall, free) else {
+            break;
+        };
+        let Some(job) = batch.jobs.pop_front() else {
+            free = Some(number);
+            break;
+        };
+        free = None;
+        hand(rt, hall, number, job);
+        let (first, made) = first_steps(rt, hall, number);
         committed = committed || made;
-        let stays = match came {
-            Came::Answered(answer) => {
-                round.is_well = batch.answers.push(answer).is_ok() && round.is_well;
-                hall.signs.free.put(rt, number);
-                false
+        match first {
+            First::Answered(answer) => {
+                free = Some(number);
+                is_well = batch.answers.push(answer).is_ok() && is_well;
             }
-            Came::Waits(place) => {
+            First::Waits(place) => {
                 let parked = Parked {
                     place,
                     seat: number,
                 };
-                round.is_well = batch.waiting.push(parked).is_ok() && round.is_well;
-                false
+                is_well = batch.waiting.push(parked).is_ok() && is_well;
             }
-            Came::Empty => {
-                hall.signs.free.put(rt, number);
-                false
+            First::HeldUp => {
+                batch.held_up = Some(number);
+                break;
             }
-            Came::IsDue => {
-                round.has_moved = true;
-                true
-            }
-            Came::Full => {
-                round.is_full = true;
-                true
-            }
-            Came::KeptOff => true,
-        };
-        if stays {
-            at += 1;
-        } else {
-            round.has_moved = true;
-            let _ = batch.seats.swap_remove(at);
         }
+    }
+    if let Some(number) = free {
+        hall.signs.free.put(rt, number);
     }
     let look = if committed {
         Some(hall.shared.look(rt))
     } else {
         None
     };
-    (round, look)
+    (is_well, look)
 }
 
-/// Makes the reads of the seats in hand that are due.
-pub fn read_all_due<L: Ledger, G: Whole, I: Whole, P, S: Source, R: Wait>(
+// The seat that has just answered, or another that is free.
+fn seat_for_next<L: Ledger, G: Whole, I: Whole, P, S, R: Wait>(
     rt: &R,
     hall: &Hall<L, G, I, P, S>,
-    batch: &Batch,
-) {
-    for number in batch.seats.as_slice() {
-        let Some(seat) = hall.seats.get(*number) else {
-            continue;
-        };
-        let mut seat = seat.lock(rt);
-        if seat.is_due() {
-            read(rt, hall, *number, &mut *seat);
-        }
-    }
-}
-
-/// Waits where a round brought no seat further: for room in the log, or for another transaction.
-pub fn wait_between<L: Ledger, G: Whole, I: Whole, P, S, R: Wait + Clock>(
-    rt: &R,
-    hall: &Hall<L, G, I, P, S>,
-    round: Round,
-    rounds: u64,
-    kept_off: &mut u32,
-) {
-    if round.has_moved {
-        *kept_off = 0;
-    } else if round.is_full {
-        wait_for_room(rt, hall, rounds);
-    } else {
-        pause(rt, kept_off);
+    free: Option<usize>,
+) -> Option<usize> {
+    match free {
+        Some(number) => Some(number),
+        None => hall.signs.free.try_take(rt),
     }
 }
 
@@ -281,49 +222,33 @@ struct Made {
     committed: bool,
 }
 
-// What the steps of a seat in a row came to.
+// What the first steps of a call came to.
 #[derive(Drop)]
-enum Came {
+enum First {
     Answered(Answer),
     // Its change waits for this place to be settled.
     Waits(u64),
-    // A read is due.
-    IsDue,
-    // The log has no room.
-    Full,
-    // Another transaction keeps it off, or the store is broken.
-    KeptOff,
-    // It has no call.
-    Empty,
+    // It has to wait for something else.
+    HeldUp,
 }
 
-// The steps of a seat in a row, by who has the baton, and whether one was a commit.
-fn steps_of<L: Ledger, G: Whole, I: Whole, P, S, R: Wait>(
+// The steps in a row of a seat that was just handed a job, by who has the baton, and whether one was a commit.
+fn first_steps<L: Ledger, G: Whole, I: Whole, P, S, R: Wait>(
     rt: &R,
     hall: &Hall<L, G, I, P, S>,
     number: usize,
-) -> (Came, bool) {
+) -> (First, bool) {
     let Some(seat) = hall.seats.get(number) else {
-        return (Came::Empty, false);
+        return (First::HeldUp, false);
     };
     let mut seat = seat.lock(rt);
     let made = steps_in_a_row(rt, hall, &mut *seat);
-    if let Some(answer) = seat.take_answer() {
-        return (Came::Answered(answer), made.committed);
-    }
-    if let Some(place) = seat.waits() {
-        return (Came::Waits(place.0), made.committed);
-    }
-    let came = if seat.is_due() {
-        Came::IsDue
-    } else if seat.told() == Told::Full {
-        Came::Full
-    } else if made.turn == Turn::Idle {
-        Came::Empty
-    } else {
-        Came::KeptOff
+    let first = match (seat.take_answer(), seat.waits()) {
+        (Some(answer), _) => First::Answered(answer),
+        (None, Some(place)) => First::Waits(place.0),
+        (None, None) => First::HeldUp,
     };
-    (came, made.committed)
+    (first, made.committed)
 }
 
 // Steps of a seat in a row, as far as none has to wait for something, and how far the core is where one of them was

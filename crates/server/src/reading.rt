@@ -3,9 +3,7 @@ ghost use Rattle.std.specs.Prelude.{◌≤◌, IfOk, length};
 
 use crate::batch::Batch;
 use crate::connection::Connection;
-use crate::driving::{
-    drive_round, hand_all, read_all_due, see_through, wait_between, wait_while_crowded,
-};
+use crate::driving::{drive_batch, see_through, wait_while_crowded};
 use crate::hall::Hall;
 use crate::sizes::{MOST_WAITING_BYTES, REPLY_BATCH_BYTES, STREAM_PIECE_BYTES};
 use bytes::Bytes;
@@ -138,7 +136,7 @@ fn serve_records<L: Ledger, G: Whole, I: Whole, P, S: Source, R: Wait + Clock>(
 // How far the records that have come whole were gathered.
 #[derive(Clone, Copy, PartialEq, Eq)]
 enum Gathered {
-    // As many as are driven together.
+    // As many as are driven in a row.
     Batch,
     // All of them.
     All,
@@ -195,7 +193,7 @@ fn take_record(
     }
 }
 
-// Answers the calls of a batch, or hands them on. False where the connection is to end.
+// Answers the calls of a batch, row by row, or hands them on. False where the connection is to end.
 fn answer_batch<L: Ledger, G: Whole, I: Whole, P, S: Source, R: Wait + Clock>(
     rt: &R,
     hall: &Hall<L, G, I, P, S>,
@@ -208,75 +206,24 @@ fn answer_batch<L: Ledger, G: Whole, I: Whole, P, S: Source, R: Wait + Clock>(
         if batch.jobs.is_empty() {
             break;
         }
-        hand_all(rt, hall, batch);
-        is_well = if batch.seats.is_empty() {
-            hand_on(rt, hall, desk, batch) && is_well
-        } else {
-            drive_all(rt, hall, desk, batch, replies) && is_well
-        };
+        is_well = answer_row(rt, hall, desk, batch, replies) && is_well;
     }
     is_well
 }
 
-// Hands a call on for which no seat is free. False where nobody will take it.
-fn hand_on<L: Ledger, G: Whole, I: Whole, P, S, R: Wait>(
-    rt: &R,
-    hall: &Hall<L, G, I, P, S>,
-    desk: &Desk<'_>,
-    batch: &mut Batch,
-) -> bool {
-    match batch.jobs.pop_front() {
-        None => true,
-        Some(job) => {
-            desk.connection.outgoing.hand_on(rt);
-            hall.signs.jobs.put(rt, job)
-        }
-    }
-}
-
-// Drives the seats in hand, round by round, until none is in hand: so none waits for another that isn't driven, and
-// nothing is written while a seat is in hand. Parks those that wait to be settled, and puts the replies of the others.
-// False where memory is refused for a reply.
-fn drive_all<L: Ledger, G: Whole, I: Whole, P, S: Source, R: Wait + Clock>(
+// Drives a row of calls, parks those that wait to be settled, puts the replies of the others, and drives the one
+// that was held up to its answer; where no seat is free, hands the first on. So what a seat has taken is waited for
+// by no other of this connection, and nothing is written while a seat is in hand. False where the connection is to
+// end.
+fn answer_row<L: Ledger, G: Whole, I: Whole, P, S: Source, R: Wait + Clock>(
     rt: &R,
     hall: &Hall<L, G, I, P, S>,
     desk: &Desk<'_>,
     batch: &mut Batch,
     replies: &mut Vec<u8>,
 ) -> bool {
-    let mut is_well = true;
-    let mut is_crowded = false;
-    let mut kept_off = 0;
-    for _ in rt.forever() {
-        let rounds = hall.signs.rounds.count();
-        let round = drive_round(rt, hall, batch);
-        is_crowded = is_crowded || round.is_crowded;
-        is_well = park(rt, hall, desk, batch, replies) && round.is_well && is_well;
-        if batch.seats.is_empty() {
-            break;
-        }
-        wait_between(rt, hall, round, rounds, &mut kept_off);
-        read_all_due(rt, hall, batch);
-    }
-    for answer in batch.answers.as_slice() {
-        is_well = put(hall.alloc, answer, replies) && is_well;
-    }
-    batch.answers.clear();
-    if is_crowded {
-        wait_while_crowded(rt, hall);
-    }
-    is_well
-}
-
-// Parks the seats whose changes wait to be settled. False where memory is refused for a reply.
-fn park<L: Ledger, G: Whole, I: Whole, P, S: Source, R: Wait + Clock>(
-    rt: &R,
-    hall: &Hall<L, G, I, P, S>,
-    desk: &Desk<'_>,
-    batch: &mut Batch,
-    replies: &mut Vec<u8>,
-) -> bool {
-    let mut is_well = true;
+    let row = drive_batch(rt, hall, batch);
+    let mut is_well = row.is_well;
     for parked in batch.waiting.as_slice() {
         desk.connection.outgoing.hand_on(rt);
         if !hall.signs.parking.park(rt, *parked) {
@@ -284,7 +231,27 @@ fn park<L: Ledger, G: Whole, I: Whole, P, S: Source, R: Wait + Clock>(
         }
     }
     batch.waiting.clear();
-    is_well
+    for answer in batch.answers.as_slice() {
+        is_well = put(hall.alloc, answer, replies) && is_well;
+    }
+    batch.answers.clear();
+    if let Some(seat) = batch.held_up.take() {
+        desk.connection.outgoing.hand_on(rt);
+        is_well = drive_on(rt, hall, desk, seat, replies) && is_well;
+    }
+    if row.is_crowded {
+        wait_while_crowded(rt, hall);
+    }
+    if row.is_begun {
+        return is_well;
+    }
+    match batch.jobs.pop_front() {
+        None => is_well,
+        Some(job) => {
+            desk.connection.outgoing.hand_on(rt);
+            hall.signs.jobs.put(rt, job) && is_well
+        }
+    }
 }
 
 // Drives a seat, whose call counts as handed on, to its answer, and puts the reply. Where its change waits to be

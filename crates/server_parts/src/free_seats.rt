@@ -45,15 +45,6 @@ impl FreeSeats {
         under.numbers.pop()
     }
 
-    /// Takes a seat, where most of all are free and no other thread waits for one.
-    pub fn try_take_spare<R: Wait>(&self, rt: &R) -> Option<usize> {
-        let mut under = self.under.lock(rt);
-        if under.waiting != 0 || under.numbers.len() <= self.count / 2 {
-            return None;
-        }
-        under.numbers.pop()
-    }
-
     /// Waits for a seat, and takes it.
     pub fn take<R: Wait>(&self, rt: &R) -> usize {
         let mut under = self.under.lock(rt);
