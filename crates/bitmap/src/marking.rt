@@ -4,7 +4,7 @@ ghost use Rattle.limits.specs.declared.TheConstants.{BITS_PER_BLOCK, FIRST_HOME_
 ghost use Rattle.disk.specs.Crash.{Image};
 ghost use Rattle.layout.specs.Geometry.{table_at};
 ghost use Rattle.inode.specs.Over.{IsPause, MayStop};
-ghost use Rattle.drafts.specs.Drafted.{Shows, image_of, spent};
+ghost use Rattle.drafts.specs.Drafted.{Shows, fresh, image_of, spent};
 ghost use Rattle.bitmap.specs.Bits.{MarksBlock, MarksNumber, PutsBit};
 
 use drafts::Draft;
@@ -26,6 +26,7 @@ fn mark(alloc: Global, draft: &mut Draft, first: u32, bit: u32, is: bool) -> Res
     ensures seen { draft.new.seen ≡ draft.old.seen }
     ensures geometry { draft.new.there.geometry ≡ draft.old.there.geometry }
     ensures spent { spent draft.new ≤ spent draft.old }
+    ensures stays { (block offset len : ℕ) → fresh block offset len draft.new ≤ fresh block offset len draft.old }
     ensures err { IfErr result (λ stop. MayStop draft.old.seen stop) }
     ensures pause { IfErr result (λ stop. IsPause stop) }
 {
@@ -51,6 +52,7 @@ pub fn mark_block(alloc: Global, draft: &mut Draft, number: u32, is: bool) -> Re
     ensures seen { draft.new.seen ≡ draft.old.seen }
     ensures geometry { draft.new.there.geometry ≡ draft.old.there.geometry }
     ensures spent { spent draft.new ≤ spent draft.old }
+    ensures stays { (block offset len : ℕ) → fresh block offset len draft.new ≤ fresh block offset len draft.old }
     ensures err { IfErr result (λ stop. MayStop draft.old.seen stop) }
     ensures pause { IfErr result (λ stop. IsPause stop) }
 {
@@ -68,6 +70,7 @@ pub fn mark_number(alloc: Global, draft: &mut Draft, number: u32, is: bool) -> R
     ensures seen { draft.new.seen ≡ draft.old.seen }
     ensures geometry { draft.new.there.geometry ≡ draft.old.there.geometry }
     ensures spent { spent draft.new ≤ spent draft.old }
+    ensures stays { (block offset len : ℕ) → fresh block offset len draft.new ≤ fresh block offset len draft.old }
     ensures err { IfErr result (λ stop. MayStop draft.old.seen stop) }
     ensures pause { IfErr result (λ stop. IsPause stop) }
 {

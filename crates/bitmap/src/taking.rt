@@ -4,7 +4,7 @@ ghost use Rattle.disk.specs.Crash.{Image};
 ghost use Rattle.layout.specs.Places.{is_data};
 ghost use Rattle.model.specs.Tree.{Tree};
 ghost use Rattle.inode.specs.Over.{IsPause, MayStop};
-ghost use Rattle.drafts.specs.Drafted.{Shows, image_of, spent};
+ghost use Rattle.drafts.specs.Drafted.{Shows, fresh, image_of, spent};
 ghost use Rattle.bitmap.specs.Bits.{MarksBlock};
 ghost use Rattle.bitmap.specs.NewBlock.{HasTaken, TakesNext};
 
@@ -27,6 +27,7 @@ fn mark_claimed(alloc: Global, draft: &mut Draft, number: u32) -> Result<Option<
     ensures seen { draft.new.seen ≡ draft.old.seen }
     ensures geometry { draft.new.there.geometry ≡ draft.old.there.geometry }
     ensures spent { spent draft.new ≤ spent draft.old }
+    ensures stays { (block offset len : ℕ) → fresh block offset len draft.new ≤ fresh block offset len draft.old }
     ensures err { IfErr result (λ stop. MayStop draft.old.seen stop) }
     ensures pause { IfErr result (λ stop. IsPause stop) }
 {
@@ -54,6 +55,7 @@ pub fn take_block(alloc: Global, draft: &mut Draft) -> Result<Option<u32>, Stop>
     ensures seen { draft.new.seen ≡ draft.old.seen }
     ensures geometry { draft.new.there.geometry ≡ draft.old.there.geometry }
     ensures spent { spent draft.new ≤ spent draft.old }
+    ensures stays { (block offset len : ℕ) → fresh block offset len draft.new ≤ fresh block offset len draft.old }
     ensures err { IfErr result (λ stop. MayStop draft.old.seen stop) }
     ensures pause { IfErr result (λ stop. (blocks base : Image) (tree : Tree) (taken : List ℕ)
         → Shows draft.old (image_of blocks draft.old)

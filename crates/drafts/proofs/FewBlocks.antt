@@ -1,13 +1,12 @@
 -- What a draft writes lies in few blocks.
 use Rattle.std.proofs.Common.{◌≡◌, ℕ, zero, suc, if◌then◌else◌, ◌+◌, ◌<◌, ◌≤◌, sym, ap, ◌∙◌, refl, subst, Bool, true, false, cond, not}
-use Rattle.std.proofs.Common.{◌||◌, List, [], ◌∷◌, ◌++◌, length, length-append, map, filter, nat_eq, count_by, inl, inr, All, arith}
+use Rattle.std.proofs.Common.{◌||◌, ◌&&◌, List, [], ◌∷◌, ◌++◌, length, length-append, map, nat_eq, inl, inr, All, arith}
 use Rattle.std.specs.Cmp.{nat_eq_equiv}
 use Rattle.std.specs.List.{IsDistinct, list_any, range_with_len}
 use Rattle.std.proofs.lemmas.Bool.Decides.{eqb_tells, nat_tests}
 use Rattle.std.proofs.lemmas.List.Elements.{All-cons, All-head, All-nil, All-tail}
 use Rattle.std.proofs.lemmas.List.Folds.{list_any-append}
 use Rattle.std.proofs.lemmas.List.FromFn.{length-range_with_len}
-use Rattle.std.proofs.lemmas.List.Sums.{sum_by-cons}
 use Rattle.std.proofs.lemmas.Map.Keys.{IsDistinct-from_apart, IsDistinct-push}
 use Rattle.std.proofs.lemmas.Map.Made.{length-le_from_is_member}
 use Rattle.limits.specs.declared.TheConstants.{CHANGED_BLOCKS, FIRST_HOME_BLOCK}
@@ -17,7 +16,8 @@ use Rattle.layout.specs.Geometry.{table_at}
 use Rattle.layout.specs.Objects.{IsObject, inode, bits, whole}
 use Rattle.txn.specs.Group.{blocks_after, blocks_of, is_among}
 use Rattle.txn.specs.Object.{ObjectBytes}
-use Rattle.drafts.specs.Drafted.{MOST_SPENT, is_spent}
+use Rattle.drafts.specs.Drafted.{MOST_SPENT, is_place, is_spent, is_written, spent_in}
+use Rattle.drafts.proofs.Spent.{same_block, same_len, same_written}
 
 -- the bitmaps have no more blocks
 abbrev BITMAP_BLOCKS : ℕ
@@ -26,11 +26,20 @@ BITMAP_BLOCKS = 34
 abbrev numbers : List BlockNo → List ℕ
 numbers blocks = map (λ (block : BlockNo). block.0) blocks
 
+-- whether an inode or a data block is counted, before these objects
+abbrev counts : ObjectBytes → List ObjectBytes → Bool
+counts object objects =
+    is_spent object && not (is_written object.addr.block.0 object.addr.offset object.addr.len objects)
+
+-- the blocks of what is spent
+abbrev spent_places : List ObjectBytes → List ℕ
+spent_places [] = []
+spent_places (object ∷ objects) =
+    cond (counts object objects) (object.addr.block.0 ∷ spent_places objects) (spent_places objects)
+
 -- the blocks of the bitmaps, and those of what is spent
 abbrev places : List ObjectBytes → List ℕ
-places objects =
-    range_with_len FIRST_HOME_BLOCK BITMAP_BLOCKS
-    ++ map (λ (object : ObjectBytes). object.addr.block.0) (filter is_spent objects)
+places objects = range_with_len FIRST_HOME_BLOCK BITMAP_BLOCKS ++ spent_places objects
 
 -- ---- each block once
 
@@ -139,89 +148,101 @@ module _ (g : Geometry) where
 
   placed : (objects : List ObjectBytes) → All (λ (o : ObjectBytes). IsObject g o.addr) objects
       → All (λ (o : ObjectBytes). list_any (nat_eq o.addr.block.0) (places objects) ≡ true) objects
-  placed objects grid = each objects objects (λ q has. has) grid
+  placed objects grid = each objects objects (λ block offset len has. has) grid
     where
-      spent_places : List ObjectBytes → List ℕ
-      spent_places objects = map (λ (object : ObjectBytes). object.addr.block.0) (filter is_spent objects)
+      is_it : (block block' : ℕ) (blocks : List ℕ) → block ≡ block'
+          → list_any (nat_eq block) (block' ∷ blocks) ≡ true
+      is_it block block' blocks is = elim (eqb_tells block block') [
+        | inl same ↦ left_or (nat_eq block block') (list_any (nat_eq block) blocks) same.0
+        | inr other ↦ absurd (other.1 is)
+      ]
 
-      later : (o : ObjectBytes) (os : List ObjectBytes) (test : Bool) (q : ℕ)
-          → list_any (nat_eq q) (spent_places os) ≡ true
-          → list_any (nat_eq q)
-          (map (λ (object : ObjectBytes). object.addr.block.0) (cond test (o ∷ filter is_spent os)
-          (filter is_spent os))) ≡ true
-      later o os true q has = right_or (nat_eq q o.addr.block.0) (list_any (nat_eq q) (spent_places os)) has
-      later o os false q has = has
-
-      itself : (o : ObjectBytes) (os : List ObjectBytes) → is_spent o ≡ true
-          → list_any (nat_eq o.addr.block.0) (spent_places (o ∷ os)) ≡ true
-      itself o os is =
-          ap (λ b. list_any (nat_eq o.addr.block.0)
-          (map (λ (object : ObjectBytes). object.addr.block.0) (cond b (o ∷ filter is_spent os)
-          (filter is_spent os)))) is
-          ∙ left_or (nat_eq o.addr.block.0 o.addr.block.0) (list_any (nat_eq o.addr.block.0) (spent_places os))
-          (same o.addr.block.0)
+      -- a place that was written, of no part of a bitmap, is among those of what is spent
+      has : (block offset len : ℕ) (os : List ObjectBytes) → nat_eq len 512 ≡ false
+          → is_written block offset len os ≡ true → list_any (nat_eq block) (spent_places os) ≡ true
+      has block offset len [] big e = let clash : false ≡ true = e in cc
+      has block offset len (o ∷ os) big e =
+          by_later (is_written block offset len os) refl (has block offset len os big)
         where
-          same : (n : ℕ) → nat_eq n n ≡ true
-          same n = grind (arith, nat_tests)
+          later : (test : Bool) → list_any (nat_eq block) (spent_places os) ≡ true
+              → list_any (nat_eq block) (cond test (o.addr.block.0 ∷ spent_places os) (spent_places os)) ≡ true
+          later true there = right_or (nat_eq block o.addr.block.0) (list_any (nat_eq block) (spent_places os)) there
+          later false there = there
 
-      not_piece : (n m : ℕ) → n ≡ m → nat_eq m 512 ≡ false → not (nat_eq n 512) ≡ true
-      not_piece n m is other = ap (λ k. not (nat_eq k 512)) is ∙ ap not other
+          counted : (spent written : Bool) → spent ≡ true → written ≡ false → (spent && not written) ≡ true
+          counted true false one two = refl
+          counted _ _ one two = cc
 
-      one : (all : List ObjectBytes) (o : ObjectBytes) (os : List ObjectBytes) → IsObject g o.addr
-          → ((q : ℕ) → list_any (nat_eq q) (spent_places (o ∷ os)) ≡ true
-          → list_any (nat_eq q) (spent_places all) ≡ true)
+          by_later : (t : Bool) → is_written block offset len os ≡ t
+              → (is_written block offset len os ≡ true → list_any (nat_eq block) (spent_places os) ≡ true)
+              → list_any (nat_eq block) (spent_places (o ∷ os)) ≡ true
+          by_later true is rest = later (counts o os) (rest is)
+          by_later false is rest =
+              let same : is_place block offset len o.addr ≡ true =
+              one_of (is_place block offset len o.addr) (is_written block offset len os) e is in
+              let is_counted : counts o os ≡ true =
+              counted (is_spent o) (is_written o.addr.block.0 o.addr.offset o.addr.len os)
+              (ap (λ k. not (nat_eq k 512)) (sym (same_len block offset len o.addr same)) ∙ ap not big)
+              (sym (same_written block offset len o.addr os same) ∙ is) in
+              ap (λ t. list_any (nat_eq block) (cond t (o.addr.block.0 ∷ spent_places os) (spent_places os))) is_counted
+              ∙ is_it block o.addr.block.0 (spent_places os) (same_block block offset len o.addr same)
+
+      one : (all : List ObjectBytes) (o : ObjectBytes) → IsObject g o.addr
+          → is_written o.addr.block.0 o.addr.offset o.addr.len all ≡ true
           → list_any (nat_eq o.addr.block.0) (places all) ≡ true
-      one all o os (bits piece few from to offset len) within =
+      one all o (bits piece few from to offset len) there =
           in_bitmaps (spent_places all) o.addr.block.0 from to
-      one all o os (inode number low block offset len) within =
+      one all o (inode number low block offset len) there =
           in_spent (spent_places all) o.addr.block.0
-          (within o.addr.block.0 (itself o os (not_piece o.addr.len 128 len refl)))
-      one all o os (whole is offset len) within =
+          (has o.addr.block.0 o.addr.offset o.addr.len all (ap (λ k. nat_eq k 512) len) there)
+      one all o (whole is offset len) there =
           in_spent (spent_places all) o.addr.block.0
-          (within o.addr.block.0 (itself o os (not_piece o.addr.len 4096 len refl)))
+          (has o.addr.block.0 o.addr.offset o.addr.len all (ap (λ k. nat_eq k 512) len) there)
+
+      itself : (n m k : ℕ) → (nat_eq n n && nat_eq m m && nat_eq k k) ≡ true
+      itself n m k = grind (arith, nat_tests)
 
       each : (all objects : List ObjectBytes)
-          → ((q : ℕ) → list_any (nat_eq q) (spent_places objects) ≡ true
-          → list_any (nat_eq q) (spent_places all) ≡ true)
+          → ((block offset len : ℕ) → is_written block offset len objects ≡ true
+          → is_written block offset len all ≡ true)
           → All (λ (o : ObjectBytes). IsObject g o.addr) objects
           → All (λ (o : ObjectBytes). list_any (nat_eq o.addr.block.0) (places all) ≡ true) objects
-      each all [] within grid = All-nil (λ (o : ObjectBytes). list_any (nat_eq o.addr.block.0) (places all) ≡ true)
-      each all (o ∷ os) within grid =
+      each all [] these grid = All-nil (λ (o : ObjectBytes). list_any (nat_eq o.addr.block.0) (places all) ≡ true)
+      each all (o ∷ os) these grid =
           All-cons (λ (o : ObjectBytes). list_any (nat_eq o.addr.block.0) (places all) ≡ true) o os
-          (one all o os (All-head (λ (o : ObjectBytes). IsObject g o.addr) o os grid) within)
-          (each all os (λ q has. within q (later o os (is_spent o) q has))
+          (one all o (All-head (λ (o : ObjectBytes). IsObject g o.addr) o os grid)
+          (these o.addr.block.0 o.addr.offset o.addr.len
+          (left_or (is_place o.addr.block.0 o.addr.offset o.addr.len o.addr)
+          (is_written o.addr.block.0 o.addr.offset o.addr.len os)
+          (itself o.addr.block.0 o.addr.offset o.addr.len))))
+          (each all os (λ block offset len there. these block offset len
+          (right_or (is_place block offset len o.addr) (is_written block offset len os) there))
           (All-tail (λ (o : ObjectBytes). IsObject g o.addr) o os grid))
 
   -- ---- all together
 
   pub few_blocks : (objects : List ObjectBytes) → All (λ (o : ObjectBytes). IsObject g o.addr) objects
-      → count_by is_spent objects ≤ MOST_SPENT → length (blocks_of objects) ≤ CHANGED_BLOCKS
+      → spent_in objects ≤ MOST_SPENT → length (blocks_of objects) ≤ CHANGED_BLOCKS
   few_blocks objects grid few =
       let most = length-le_from_is_member nat_eq_equiv (numbers (blocks_of objects)) (places objects)
       (distinct_after [] objects (IsDistinct-from_apart nat_eq [] (λ i j d less low. absurd (omega (arith, low)))))
       (among_after (places objects) [] objects (λ q none. cc) (placed objects grid)) in
-      let count = counts (blocks_of objects) in
+      let count = blocks_count (blocks_of objects) in
       let size = sizes objects in
-      let all = length-append (range_with_len FIRST_HOME_BLOCK BITMAP_BLOCKS)
-      (map (λ (object : ObjectBytes). object.addr.block.0) (filter is_spent objects)) in
+      let all = length-append (range_with_len FIRST_HOME_BLOCK BITMAP_BLOCKS) (spent_places objects) in
       let range = length-range_with_len FIRST_HOME_BLOCK BITMAP_BLOCKS in
       omega (arith, most, count, size, all, range, few)
     where
-      counts : (blocks : List BlockNo) → length (numbers blocks) ≡ length blocks
-      counts [] = refl
-      counts (block ∷ blocks) = ap suc (counts blocks)
+      blocks_count : (blocks : List BlockNo) → length (numbers blocks) ≡ length blocks
+      blocks_count [] = refl
+      blocks_count (block ∷ blocks) = ap suc (blocks_count blocks)
 
-      sizes : (os : List ObjectBytes)
-          → length (map (λ (object : ObjectBytes). object.addr.block.0) (filter is_spent os)) ≡ count_by is_spent os
+      sizes : (os : List ObjectBytes) → length (spent_places os) ≡ spent_in os
       sizes [] = refl
-      sizes (o ∷ os) =
-          by_test (is_spent o) (sizes os) ∙ sym (sum_by-cons (λ x. cond (is_spent x) 1 0) o os)
+      sizes (o ∷ os) = by_test (counts o os) (sizes os)
         where
-          by_test : (test : Bool)
-              → length (map (λ (object : ObjectBytes). object.addr.block.0) (filter is_spent os))
-              ≡ count_by is_spent os
-              → length (map (λ (object : ObjectBytes). object.addr.block.0)
-              (cond test (o ∷ filter is_spent os) (filter is_spent os)))
-              ≡ cond test 1 0 + count_by is_spent os
+          by_test : (test : Bool) → length (spent_places os) ≡ spent_in os
+              → length (cond test (o.addr.block.0 ∷ spent_places os) (spent_places os))
+              ≡ cond test 1 0 + spent_in os
           by_test true rest = omega (arith, rest)
           by_test false rest = omega (arith, rest)

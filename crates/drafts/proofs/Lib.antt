@@ -6,6 +6,7 @@ pub mod Marks
 pub mod OtherWrites
 pub mod Stops
 pub mod PutThere
+pub mod Spent
 pub mod FewBlocks
 pub mod Begun
 pub mod Kept

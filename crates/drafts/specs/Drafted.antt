@@ -1,13 +1,14 @@
 -- What a draft has read and written, and over which blocks.
-use Rattle.std.specs.Prelude.{◌≡◌, ℕ, ◌<◌, Bool, false, not, List, length, nat_eq, count_by, All}
-use Rattle.std.specs.Prelude.{Contains}
-use Rattle.limits.specs.declared.TheConstants.{BLOCK_BYTES}
+use Rattle.std.specs.Prelude.{◌≡◌, ℕ, ◌+◌, ◌<◌, Bool, false, not, ◌&&◌, ◌||◌, cond, List, [], ◌∷◌, length, nat_eq}
+use Rattle.std.specs.Prelude.{All, Contains}
+use Rattle.limits.specs.declared.TheConstants.{BLOCK_BYTES, INODE_BYTES}
 use Rattle.disk.specs.Crash.{Image}
 use Rattle.objects.specs.declared.addr.Addr.{Addr}
 use Rattle.model.specs.Tree.{Tree}
 use Rattle.layout.specs.declared.grid.TheConstants.{PIECE_BYTES}
 use Rattle.layout.specs.Holds.{Holds}
 use Rattle.layout.specs.Objects.{IsObject}
+use Rattle.layout.specs.Places.{inode_block, inode_offset}
 use Rattle.txn.specs.Object.{ObjectBytes}
 use Rattle.txn.specs.Window.{with_objects}
 use Rattle.inode.specs.declared.snap.Snap.{Snap}
@@ -53,10 +54,39 @@ pub record IsDraft (draft : Drafted) (blocks : Image) (tree : Tree) : Type 0 whe
 abbrev pub is_spent : ObjectBytes → Bool
 is_spent object = not (nat_eq object.addr.len PIECE_BYTES)
 
+-- the address is of this place
+abbrev pub is_place : ℕ → ℕ → ℕ → Addr → Bool
+is_place block offset len addr = nat_eq block addr.block.0 && nat_eq offset addr.offset && nat_eq len addr.len
+
+-- an object of this place is among these
+abbrev pub is_written : ℕ → ℕ → ℕ → List ObjectBytes → Bool
+is_written block offset len [] = false
+is_written block offset len (object ∷ objects) =
+    is_place block offset len object.addr || is_written block offset len objects
+
+-- how many inodes and data blocks are among the objects, each once: where it is the last of its place
+abbrev pub spent_in : List ObjectBytes → ℕ
+spent_in [] = 0
+spent_in (object ∷ objects) =
+    cond (is_spent object && not (is_written object.addr.block.0 object.addr.offset object.addr.len objects)) 1 0
+    + spent_in objects
+
 -- how many inodes and data blocks were written
 abbrev pub spent : Drafted → ℕ
-spent draft = count_by is_spent draft.written
+spent draft = spent_in draft.written
+
+-- 1 where no object of this place was written yet, and else 0
+unfoldable pub fresh : ℕ → ℕ → ℕ → Drafted → ℕ
+fresh block offset len draft = cond (is_written block offset len draft.written) 0 1
+
+-- the same of the inode of a number
+unfoldable pub fresh_inode : Drafted → ℕ → ℕ
+fresh_inode draft number = fresh (inode_block draft.there.geometry number) (inode_offset number) INODE_BYTES draft
+
+-- the same of a whole block
+unfoldable pub fresh_block : Drafted → ℕ → ℕ
+fresh_block draft number = fresh number 0 BLOCK_BYTES draft
 
 -- with the blocks of the bitmaps these are no more blocks than a transaction changes
 abbrev pub MOST_SPENT : ℕ
-MOST_SPENT = 30
+MOST_SPENT = 16

@@ -14,7 +14,7 @@ ghost use Rattle.inode.specs.Read.{Saw};
 ghost use Rattle.inode.specs.Snap.{MayWrite, is_seen};
 ghost use Rattle.txn.specs.Group.{blocks_of};
 ghost use Rattle.txn.specs.Object.{ObjectBytes};
-ghost use Rattle.drafts.specs.Drafted.{IsDraft, MOST_SPENT, Shows, image_of, spent};
+ghost use Rattle.drafts.specs.Drafted.{IsDraft, MOST_SPENT, Shows, fresh, image_of, spent};
 ghost use Rattle.layout_records.specs.OnGrid.{is_on_grid};
 ghost use Rattle.drafts.specs.Laid.{laid};
 
@@ -85,6 +85,10 @@ impl<'a> Draft<'a> {
         ensures seen { self.new.seen ≡ self.old.seen }
         ensures geometry { self.new.there.geometry ≡ self.old.there.geometry }
         ensures spent { spent self.new ≤ spent self.old + cond (nat_eq addr.len PIECE_BYTES) 0 1 }
+        // An object counts once, however often it is put, and what was written stays written.
+        ensures once { spent self.new + fresh addr.block.0 addr.offset addr.len self.new
+            ≤ spent self.old + fresh addr.block.0 addr.offset addr.len self.old }
+        ensures stays { (block offset len : ℕ) → fresh block offset len self.new ≤ fresh block offset len self.old }
         ensures err { IfErr result (λ stop. MayStop self.old.seen stop) }
         ensures pause { IfErr result (λ stop. IsPause stop) }
     {

@@ -1,11 +1,11 @@
 //! Inodes that are written.
-ghost use Rattle.std.specs.Prelude.{◌≡◌, ◌+◌, ◌<◌, ◌≤◌, IfErr, OnOk, replicate};
+ghost use Rattle.std.specs.Prelude.{ℕ, ◌≡◌, ◌+◌, ◌<◌, ◌≤◌, IfErr, OnOk, replicate};
 ghost use Rattle.limits.specs.declared.TheConstants.{INODE_BYTES};
 ghost use Rattle.disk.specs.Crash.{Image};
 ghost use Rattle.layout.specs.Parts.{with_bytes, with_inode};
 ghost use Rattle.layout.specs.Places.{inode_block, inode_offset};
 ghost use Rattle.inode.specs.Over.{IsPause, MayStop};
-ghost use Rattle.drafts.specs.Drafted.{Shows, image_of, spent};
+ghost use Rattle.drafts.specs.Drafted.{Shows, fresh, fresh_inode, image_of, spent};
 
 use crate::Draft;
 use inode::Stop;
@@ -22,6 +22,9 @@ impl<'a> Draft<'a> {
         ensures seen { self.new.seen ≡ self.old.seen }
         ensures geometry { self.new.there.geometry ≡ self.old.there.geometry }
         ensures spent { spent self.new ≤ spent self.old + 1 }
+        // An inode counts once, however often it is put, and what was written stays written.
+        ensures once { spent self.new + fresh_inode self.new number ≤ spent self.old + fresh_inode self.old number }
+        ensures stays { (block offset len : ℕ) → fresh block offset len self.new ≤ fresh block offset len self.old }
         ensures err { IfErr result (λ stop. MayStop self.old.seen stop) }
         ensures pause { IfErr result (λ stop. number < self.old.there.geometry.inodes → IsPause stop) }
     {

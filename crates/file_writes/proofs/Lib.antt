@@ -5,6 +5,7 @@ pub mod PieceWritten
 pub mod Cases
 pub mod ImageWritten
 pub mod Stored
+pub mod Once
 pub mod Costs
 pub mod Whole
 pub mod MappedFile

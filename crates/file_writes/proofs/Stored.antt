@@ -1,19 +1,21 @@
 -- Blocks of an image in which a file's block was written, its indirect block where one names it, and its inode.
-use Rattle.std.proofs.Common.{◌≡◌, ℕ, ◌<◌, inl, inr, sym, ap, ◌∙◌, subst, true, cond, List, length, replicate}
-use Rattle.std.proofs.Common.{Some, Ok, arith}
-use Rattle.std.proofs.lemmas.Bool.{cases_lt}
+use Rattle.std.proofs.Common.{◌≡◌, ℕ, ◌<◌, inl, inr, sym, ap, ◌∙◌, refl, subst, true, cond, List, length, replicate}
+use Rattle.std.proofs.Common.{Some, Ok, Err, arith}
+use Rattle.std.proofs.lemmas.Bool.{cases_lt, eq-eqb, lt-ltb}
 use Rattle.std.proofs.lemmas.List.{get_or-replicate, get_or_past}
 use Rattle.limits.specs.declared.TheConstants.{BLOCK_BYTES}
 use Rattle.disk.specs.Crash.{Image}
 use Rattle.nfs_types.specs.Fits.{AreBytes}
 use Rattle.objects.specs.Spliced.{spliced}
 use Rattle.model.specs.Tree.{Tree, with_node}
+use Rattle.layout.specs.declared.fault.LayoutFault.TheVariants.{Range}
 use Rattle.layout.specs.declared.geometry.Geometry.{Geometry}
 use Rattle.layout.specs.declared.inode.Inode.{Inode}
+use Rattle.layout.specs.Decode.{inode_at}
 use Rattle.layout.specs.Fields.{four_bytes}
 use Rattle.layout.specs.Holds.{Holds, PartsHold}
 use Rattle.layout.specs.InodeForm.{SoundInode}
-use Rattle.layout.specs.Parts.{content_in, parts_of, put, with_bytes, with_inode}
+use Rattle.layout.specs.Parts.{content_in, parts_of, put, table_of, with_bytes, with_inode}
 use Rattle.layout.specs.Places.{is_data}
 use Rattle.layout.proofs.FreshBytes.{four}
 use Rattle.layout.proofs.OnGrid.{data_within}
@@ -57,8 +59,23 @@ module _ (g : Geometry) (base : Image) (tree : Tree) (n : ℕ) (inode : Inode) (
   abbrev Next : Image → Type 0
   Next image = Holds g image (with_node tree n (node_written g base inode offset piece))
 
-  sized : (image : Image) → Next (with_inode g image n new) → Next (with_inode g image n (mapping inode size direct far))
-  sized image holds = subst (λ k. Next (with_inode g image n (mapping inode k direct far))) (sym write.size_is) holds
+  -- and the inode is read there
+  abbrev pub Reads : Image → Inode → Type 0
+  Reads image one = inode_at g image n ≡ Ok (Some one)
+
+  -- with this size in the inode
+  abbrev pub Stores : Image → ℕ → Type 0
+  Stores image k = Next (with_inode g image n (mapping inode k direct far))
+      × Reads (with_inode g image n (mapping inode k direct far)) (mapping inode k direct far)
+
+  sized : (image : Image) → Stores image (grown_size inode.size offset piece) → Stores image size
+  sized image stores = subst (Stores image) (sym write.size_is) stores
+
+  read_again : (image : Image) → SoundInode g new → AreBlocks g image → Reads (with_inode g image n new) new
+  read_again image is blocks =
+      sym (ap (λ b. cond b (inode_at g (with_inode g image n new) n) (Err Range)) (lt-ltb n g.inodes write.has.less))
+      ∙ (λ i. (inode_parts g image n new blocks write.has.less is i).table n)
+      ∙ ap (λ b. cond b (Ok (Some new)) (table_of g image n)) (eq-eqb n n refl)
 
   -- whatever blocks these are, that have the marks, the file's blocks and its inode
   all_parts : (image : Image) (content : Image) → parts_of g image
@@ -85,14 +102,17 @@ module _ (g : Geometry) (base : Image) (tree : Tree) (n : ℕ) (inode : Inode) (
     sound = new_sound g base tree n inode write.has offset piece write.fits b direct far
         (put (content_in g base) b bytes) gained fills
 
-    pub stored : Next (with_inode g (with_bytes middle b 0 bytes) n (mapping inode size direct far))
-    stored = sized (with_bytes middle b 0 bytes) (record {
-      bytes = inode_kept g (with_bytes middle b 0 bytes) n new one_kept write.has.less sound;
-      parts = subst (λ parts. PartsHold g parts (with_node tree n (node_written g base inode offset piece)))
-          (sym (all_parts (with_bytes middle b 0 bytes) (put (content_in g base) b bytes) one_part sound one_kept))
-          (piece_holds g base tree n inode write.has offset piece write.fits b direct far
-          (put (content_in g base) b bytes) gained fills);
-    })
+    pub stored : Stores (with_bytes middle b 0 bytes) size
+    stored = sized (with_bytes middle b 0 bytes) (
+      record {
+        bytes = inode_kept g (with_bytes middle b 0 bytes) n new one_kept write.has.less sound;
+        parts = subst (λ parts. PartsHold g parts (with_node tree n (node_written g base inode offset piece)))
+            (sym (all_parts (with_bytes middle b 0 bytes) (put (content_in g base) b bytes) one_part sound one_kept))
+            (piece_holds g base tree n inode write.has offset piece write.fits b direct far
+            (put (content_in g base) b bytes) gained fills);
+      },
+      read_again (with_bytes middle b 0 bytes) sound one_kept,
+    )
 
   module _ (named : List ℕ) (named_each : AreBytes named) (named_count : length named ≡ BLOCK_BYTES)
       (far_lies : is_data g far ≡ true)
@@ -123,12 +143,14 @@ module _ (g : Geometry) (base : Image) (tree : Tree) (n : ℕ) (inode : Inode) (
       far_sound : SoundInode g new
       far_sound = new_sound g base tree n inode write.has offset piece write.fits b direct far both gained fills
 
-      pub stored_far : Next (with_inode g (with_bytes (with_bytes middle far 0 named) b 0 bytes) n
-          (mapping inode size direct far))
-      stored_far = sized (with_bytes (with_bytes middle far 0 named) b 0 bytes) (record {
-        bytes = inode_kept g (with_bytes (with_bytes middle far 0 named) b 0 bytes) n new both_kept write.has.less
-            far_sound;
-        parts = subst (λ parts. PartsHold g parts (with_node tree n (node_written g base inode offset piece)))
-            (sym (all_parts (with_bytes (with_bytes middle far 0 named) b 0 bytes) both both_parts far_sound both_kept))
-            (piece_holds g base tree n inode write.has offset piece write.fits b direct far both gained fills);
-      })
+      pub stored_far : Stores (with_bytes (with_bytes middle far 0 named) b 0 bytes) size
+      stored_far = sized (with_bytes (with_bytes middle far 0 named) b 0 bytes) (
+        record {
+          bytes = inode_kept g (with_bytes (with_bytes middle far 0 named) b 0 bytes) n new both_kept write.has.less
+              far_sound;
+          parts = subst (λ parts. PartsHold g parts (with_node tree n (node_written g base inode offset piece)))
+              (sym (all_parts (with_bytes (with_bytes middle far 0 named) b 0 bytes) both both_parts far_sound both_kept))
+              (piece_holds g base tree n inode write.has offset piece write.fits b direct far both gained fills);
+        },
+        read_again (with_bytes (with_bytes middle far 0 named) b 0 bytes) far_sound both_kept,
+      )

@@ -1,6 +1,6 @@
 -- A file and its inode, and what is written to a file that is no regular one: nothing.
-use Rattle.std.proofs.Common.{◌≡◌, ℕ, inl, inr, sym, ap, ◌∙◌, refl, subst, Bool, true, false, cond, ◌||◌}
-use Rattle.std.proofs.Common.{List, replicate, nat_eq, Option, Some}
+use Rattle.std.proofs.Common.{◌≡◌, ℕ, ◌<◌, inl, inr, sym, ap, ◌∙◌, refl, subst, Bool, true, false, cond, ◌||◌}
+use Rattle.std.proofs.Common.{List, replicate, nat_eq, Option, Some, Ok}
 use Rattle.std.specs.Option.{unwrap_or}
 use Rattle.std.proofs.lemmas.Bool.{cases_eq}
 use Rattle.limits.specs.declared.TheConstants.{BLOCK_BYTES}
@@ -14,7 +14,7 @@ use Rattle.layout.specs.declared.geometry.Geometry.{Geometry}
 use Rattle.layout.specs.declared.inode.Inode.{Inode}
 use Rattle.layout.specs.declared.inode.InodeKind.{InodeKind}
 use Rattle.layout.specs.declared.inode.InodeKind.TheVariants as kinds
-use Rattle.layout.specs.Decode.{body_of, content_of, node_with}
+use Rattle.layout.specs.Decode.{body_of, content_of, inode_at, node_with}
 use Rattle.layout.specs.Holds.{Holds}
 use Rattle.layout.specs.InodeForm.{is_data_block_or_none}
 use Rattle.layout.specs.Parts.{content_in}
@@ -24,10 +24,12 @@ use Rattle.layout.proofs.WrittenBytes.{spliced-bytes}
 use Rattle.inode.specs.declared.snap.Snap.{Snap}
 use Rattle.inode.specs.Over.{HasInode}
 use Rattle.inode.specs.Shown.{IsInodeOf, body_in}
-use Rattle.drafts.specs.Drafted.{Drafted, IsDraft, image_of}
+use Rattle.inode.proofs.HeldThere.{is_inode_of}
+use Rattle.drafts.specs.Drafted.{Drafted, IsDraft, Shows, image_of}
 use Rattle.drafts.proofs.OneFile.{here_next, there_next}
+use Rattle.drafts.proofs.PutThere.{moved_draft}
 use Rattle.file_writes.specs.Filling.{HasRegular}
-use Rattle.file_writes.specs.Written.{rewritten}
+use Rattle.file_writes.specs.Written.{NamesRegular, PutsPiece, WritesText, node_written, rewritten}
 use Rattle.file_writes.proofs.PieceWritten.{sound}
 use Rattle.file_writes.proofs.Stored.{content_are, zeros_are}
 
@@ -110,3 +112,62 @@ same_holds g image tree n node new holds was is = record {
           (here_next tree n new ∙ ap (λ (one : Node). Some one) is ∙ sym was)
       | inr not ↦ there_next tree n new m not
     ]
+
+-- ---- a regular file, and a piece of bytes in it
+
+pub regular_of : (draft : Drafted) (blocks : Image) (tree : Tree) (n : ℕ) (inode : Inode)
+    → IsDraft draft blocks tree → NamesRegular draft blocks n inode
+    → HasRegular draft.there.geometry (image_of blocks draft) tree n inode
+regular_of draft blocks tree n inode is names = record {
+  holds = is.holds;
+  less = names.less;
+  read = names.read;
+  regular = names.regular;
+}
+
+-- its node
+pub regular_node : (draft : Drafted) (blocks : Image) (tree : Tree) (n : ℕ) (inode : Inode)
+    → IsDraft draft blocks tree → NamesRegular draft blocks n inode
+    → node_at tree n ≡ Some (node_with inode (body_in draft.there.geometry (image_of blocks draft) inode))
+regular_node draft blocks tree n inode is names =
+    (is_inode_of draft.there (image_of blocks draft) tree n (Some inode) names.less names.read
+    (record { holds = is.holds; saw = is.shows.saw })).1
+
+pub regular_node_is : (draft : Drafted) (blocks : Image) (tree : Tree) (n : ℕ) (inode : Inode) (node : Node)
+    → IsDraft draft blocks tree → NamesRegular draft blocks n inode → node_at tree n ≡ Some node
+    → node ≡ node_with inode (body_in draft.there.geometry (image_of blocks draft) inode)
+regular_node_is draft blocks tree n inode node is names was =
+    ap (λ (o : Option Node). unwrap_or o node) (sym was ∙ regular_node draft blocks tree n inode is names)
+
+-- a draft that has come to these blocks, in which a piece was written
+pub moved_piece : (old new : Drafted) (blocks image : Image) (tree : Tree) (n : ℕ) (inode next made : Inode)
+    (offset : ℕ) (piece : List ℕ) → new.there.geometry ≡ old.there.geometry → image_of blocks new ≡ image
+    → Shows new image → n < old.there.geometry.inodes → next.kind ≡ kinds.Regular → made ≡ next
+    → Holds old.there.geometry image
+    (with_node tree n (node_written old.there.geometry (image_of blocks old) inode offset piece))
+    × (inode_at old.there.geometry image n ≡ Ok (Some next))
+    → PutsPiece old new blocks tree n inode made offset piece
+moved_piece old new blocks image tree n inode next made offset piece geometry is shows less regular same stores = record {
+  is = moved_draft old new blocks image
+      (with_node tree n (node_written old.there.geometry (image_of blocks old) inode offset piece)) geometry is shows
+      stores.0;
+  names = record {
+    less = subst (λ (g : Geometry). n < g.inodes) (sym geometry) less;
+    read = (λ i. inode_at (geometry i) (is i) n) ∙ stores.1 ∙ (λ i. Ok (Some (sym same i)));
+    regular = ap (λ (one : Inode). one.kind) same ∙ regular;
+  };
+}
+
+-- the file has the text
+pub piece_text : (old new : Drafted) (blocks : Image) (tree : Tree) (n : ℕ) (inode next : Inode) (offset : ℕ)
+    (piece : List ℕ) → IsDraft old blocks tree → NamesRegular old blocks n inode
+    → PutsPiece old new blocks tree n inode next offset piece
+    → WritesText new blocks tree n offset piece × NamesRegular new blocks n next
+piece_text old new blocks tree n inode next offset piece is names puts = (
+  record {
+    node = node_with inode (body_in old.there.geometry (image_of blocks old) inode);
+    was = regular_node old blocks tree n inode is names;
+    is = puts.is;
+  },
+  puts.names,
+)

@@ -1,3 +1,4 @@
 pub mod Filling
 pub mod Written
 pub mod Adding
+pub mod Spent

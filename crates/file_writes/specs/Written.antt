@@ -1,5 +1,5 @@
 -- What is to be written to a regular file, and what the tree is then.
-use Rattle.std.specs.Prelude.{◌≡◌, ℕ, ◌/◌, ◌%◌, List, Some}
+use Rattle.std.specs.Prelude.{◌≡◌, ℕ, ◌<◌, ◌/◌, ◌%◌, List, Some, Ok}
 use Rattle.limits.specs.declared.TheConstants.{BLOCK_BYTES}
 use Rattle.disk.specs.Crash.{Image}
 use Rattle.nfs_types.specs.Fits.{AreBytes}
@@ -9,11 +9,12 @@ use Rattle.model.specs.Tree.{Tree, node_at, with_node}
 use Rattle.procedures.specs.Write.{with_text}
 use Rattle.layout.specs.declared.geometry.Geometry.{Geometry}
 use Rattle.layout.specs.declared.inode.Inode.{Inode}
-use Rattle.layout.specs.Decode.{content_of, node_with}
+use Rattle.layout.specs.declared.inode.InodeKind.TheVariants as kinds
+use Rattle.layout.specs.Decode.{content_of, inode_at, node_with}
 use Rattle.layout.specs.Parts.{content_in}
 use Rattle.inode.specs.Over.{number_at}
 use Rattle.inode.specs.Shown.{body_in}
-use Rattle.drafts.specs.Drafted.{Drafted, IsDraft}
+use Rattle.drafts.specs.Drafted.{Drafted, IsDraft, image_of}
 use Rattle.file_writes.specs.Filling.{HasRegular, IsPiece, grown_size}
 
 -- A piece is to be written to the file of this inode: these are the bytes of its block with the piece, and this
@@ -42,3 +43,17 @@ pub record WritesText (draft : Drafted) (blocks : Image) (tree : Tree) (number o
     pub node : Node
     pub was : node_at tree number ≡ Some node
     pub is : IsDraft draft blocks (with_node tree number (rewritten offset text node))
+
+-- with what was written a regular file has this inode under this number
+pub record NamesRegular (draft : Drafted) (blocks : Image) (number : ℕ) (inode : Inode) : Type 0 where
+  pub less : number < draft.there.geometry.inodes
+  pub read : inode_at draft.there.geometry (image_of blocks draft) number ≡ Ok (Some inode)
+  pub regular : inode.kind ≡ kinds.Regular
+
+-- A piece was written to the file of an inode: with what is written now the blocks hold the tree in which the file
+-- has it, and its inode is the next.
+pub record PutsPiece (draft new : Drafted) (blocks : Image) (tree : Tree) (number : ℕ) (inode next : Inode)
+    (offset : ℕ) (piece : List ℕ) : Type 0 where
+  pub is : IsDraft new blocks
+      (with_node tree number (node_written draft.there.geometry (image_of blocks draft) inode offset piece))
+  pub names : NamesRegular new blocks number next

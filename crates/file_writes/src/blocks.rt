@@ -1,5 +1,5 @@
 //! Bytes that are put in a block of a file.
-ghost use Rattle.std.specs.Prelude.{◌≡◌, ◌+◌, ◌≤◌, length, true, IfErr, IfOk, OnOk};
+ghost use Rattle.std.specs.Prelude.{ℕ, ◌≡◌, ◌+◌, ◌≤◌, length, true, IfErr, IfOk, OnOk};
 ghost use Rattle.limits.specs.declared.TheConstants.{BLOCK_BYTES};
 ghost use Rattle.disk.specs.Crash.{Image};
 ghost use Rattle.objects.specs.Spliced.{spliced};
@@ -9,7 +9,7 @@ ghost use Rattle.layout.specs.InodeForm.{is_data_block_or_none};
 ghost use Rattle.layout.specs.Parts.{content_in, with_bytes};
 ghost use Rattle.layout.specs.Places.{is_data};
 ghost use Rattle.inode.specs.Over.{IsOver, IsPause, MayStop};
-ghost use Rattle.drafts.specs.Drafted.{Shows, image_of, spent};
+ghost use Rattle.drafts.specs.Drafted.{Shows, fresh, fresh_block, image_of, spent};
 
 use disk::BlockNo;
 use drafts::Draft;
@@ -54,6 +54,8 @@ pub fn put_block(draft: &mut Draft, number: u32, bytes: Vec<u8>) -> Result<(), S
     ensures seen { draft.new.seen ≡ draft.old.seen }
     ensures geometry { draft.new.there.geometry ≡ draft.old.there.geometry }
     ensures spent { spent draft.new ≤ spent draft.old + 1 }
+    ensures once { spent draft.new + fresh_block draft.new number ≤ spent draft.old + fresh_block draft.old number }
+    ensures stays { (block offset len : ℕ) → fresh block offset len draft.new ≤ fresh block offset len draft.old }
     ensures err { IfErr result (λ stop. MayStop draft.old.seen stop) }
     ensures pause { IfErr result (λ stop. IsPause stop) }
 {

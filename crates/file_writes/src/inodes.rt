@@ -1,5 +1,5 @@
 //! A file's inode, written behind its blocks.
-ghost use Rattle.std.specs.Prelude.{◌≡◌, ◌+◌, ◌<◌, ◌≤◌, length, set, true, IfErr, OnOk};
+ghost use Rattle.std.specs.Prelude.{ℕ, ◌≡◌, ◌+◌, ◌<◌, ◌≤◌, length, set, true, IfErr, OnOk};
 ghost use Rattle.limits.specs.declared.TheConstants.{BLOCK_BYTES, DIRECT_INDEXES};
 ghost use Rattle.disk.specs.Crash.{Image};
 ghost use Rattle.layout.specs.Parts.{with_bytes, with_inode};
@@ -7,6 +7,7 @@ ghost use Rattle.layout.specs.Places.{is_data};
 ghost use Rattle.inode.specs.Over.{IsPause, MayStop};
 ghost use Rattle.drafts.specs.Drafted.{Shows, image_of, spent};
 ghost use Rattle.file_writes.specs.Filling.{mapping};
+ghost use Rattle.file_writes.specs.Spent.{unspent};
 
 use crate::blocks::put_block;
 use drafts::Draft;
@@ -66,6 +67,9 @@ pub fn store(
     ensures seen { draft.new.seen ≡ draft.old.seen }
     ensures geometry { draft.new.there.geometry ≡ draft.old.there.geometry }
     ensures spent { spent draft.new ≤ spent draft.old + 2 }
+    // The inode counts once, however often it is put, and what was written stays written.
+    ensures once { (far : ℕ) → spent draft.new + unspent draft.new number far
+        ≤ spent draft.old + unspent draft.old number far + 1 }
     ensures err { IfErr result (λ stop. MayStop draft.old.seen stop) }
     ensures pause { IfErr result (λ stop. number < draft.old.there.geometry.inodes → IsPause stop) }
 {
@@ -100,6 +104,9 @@ pub fn store_far(
     ensures seen { draft.new.seen ≡ draft.old.seen }
     ensures geometry { draft.new.there.geometry ≡ draft.old.there.geometry }
     ensures spent { spent draft.new ≤ spent draft.old + 3 }
+    // The indirect block and the inode count once.
+    ensures once { spent draft.new + unspent draft.new number far
+        ≤ spent draft.old + unspent draft.old number far + 1 }
     ensures err { IfErr result (λ stop. MayStop draft.old.seen stop) }
     ensures pause { IfErr result (λ stop. number < draft.old.there.geometry.inodes → IsPause stop) }
 {

@@ -11,5 +11,4 @@ mod writing;
 pub use adding::unmapped;
 pub use blocks::put_block;
 pub use inodes::{led_far, naming, sized, store, store_far};
-pub use pieces::write_piece;
 pub use writing::write;

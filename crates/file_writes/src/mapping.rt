@@ -2,11 +2,12 @@
 ghost use Rattle.std.specs.Prelude.{ℕ, ◌≡◌, ◌+◌, ◌-◌, ◌/◌, ◌<◌, ◌≤◌, List, length, nat_eq, true, IfErr, IfOk, OnOk};
 ghost use Rattle.limits.specs.declared.TheConstants.{BLOCK_BYTES, DIRECT_INDEXES, FILE_INDEXES};
 ghost use Rattle.disk.specs.Crash.{Image};
-ghost use Rattle.model.specs.Tree.{Tree, free, with_node};
+ghost use Rattle.model.specs.Tree.{Tree, free};
 ghost use Rattle.layout.specs.Places.{is_data};
 ghost use Rattle.inode.specs.Over.{IsPause, MayStop, number_at};
 ghost use Rattle.drafts.specs.Drafted.{IsDraft, image_of, spent};
-ghost use Rattle.file_writes.specs.Written.{IsWrite, node_written};
+ghost use Rattle.file_writes.specs.Spent.{unspent};
+ghost use Rattle.file_writes.specs.Written.{IsWrite, PutsPiece};
 
 use crate::inodes::{led_far, naming, sized, store, store_far};
 use bitmap::take_block;
@@ -17,12 +18,12 @@ use layout_records::with_number;
 use limits::{BLOCK_BYTES, DIRECT_INDEXES};
 use std::alloc::Global;
 
-/// Writes the bytes of a block that the file has.
+/// Writes the bytes of a block that the file has. As in each case below, `inode` is the file's inode then.
 pub(crate) fn rewrite(
     alloc: Global,
     draft: &mut Draft,
     number: u32,
-    inode: &Inode,
+    inode: &mut Inode,
     block: u32,
     bytes: Vec<u8>,
     size: u64,
@@ -31,17 +32,19 @@ pub(crate) fn rewrite(
     requires len { length bytes.items ≡ BLOCK_BYTES }
     ensures ok { OnOk result ((blocks : Image) (tree : Tree) (offset : ℕ) (piece : List ℕ)
         → IsDraft draft.old blocks tree
-        → IsWrite draft.old.there.geometry (image_of blocks draft.old) tree number inode.now offset piece
+        → IsWrite draft.old.there.geometry (image_of blocks draft.old) tree number inode.old offset piece
         bytes.items size
-        → block ≡ number_at draft.old.there.geometry (image_of blocks draft.old) inode.now (offset / BLOCK_BYTES)
-        → IsDraft draft.new blocks (with_node tree number
-        (node_written draft.old.there.geometry (image_of blocks draft.old) inode.now offset piece))) }
+        → block ≡ number_at draft.old.there.geometry (image_of blocks draft.old) inode.old (offset / BLOCK_BYTES)
+        → PutsPiece draft.old draft.new blocks tree number inode.old inode.new offset piece) }
     ensures seen { draft.new.seen ≡ draft.old.seen }
-    ensures spent { spent draft.new ≤ spent draft.old + 2 }
+    ensures once { spent draft.new + unspent draft.new number inode.new.indirect
+        ≤ spent draft.old + unspent draft.old number inode.old.indirect + 1 }
     ensures err { IfErr result (λ stop. MayStop draft.old.seen stop) }
     ensures pause { IfErr result (λ stop. number < draft.old.there.geometry.inodes → IsPause stop) }
 {
-    store(alloc, draft, number, block, bytes, &sized(inode, size))
+    let same = sized(inode, size);
+    *inode = same;
+    store(alloc, draft, number, block, bytes, &same)
 }
 
 /// Writes the bytes of a block to a free one, which the inode names from then on. Where none is free it isn't
@@ -50,7 +53,7 @@ pub(crate) fn map_near(
     alloc: Global,
     draft: &mut Draft,
     number: u32,
-    inode: &Inode,
+    inode: &mut Inode,
     index: usize,
     bytes: Vec<u8>,
     size: u64,
@@ -59,16 +62,16 @@ pub(crate) fn map_near(
     requires len { length bytes.items ≡ BLOCK_BYTES }
     ensures ok { IfOk result (λ done. done ≡ true
         → (blocks : Image) (tree : Tree) (offset : ℕ) (piece : List ℕ) → IsDraft draft.old blocks tree
-        → IsWrite draft.old.there.geometry (image_of blocks draft.old) tree number inode.now offset piece
+        → IsWrite draft.old.there.geometry (image_of blocks draft.old) tree number inode.old offset piece
         bytes.items size → index ≡ offset / BLOCK_BYTES
-        → nat_eq (number_at draft.old.there.geometry (image_of blocks draft.old) inode.now (offset / BLOCK_BYTES)) 0
+        → nat_eq (number_at draft.old.there.geometry (image_of blocks draft.old) inode.old (offset / BLOCK_BYTES)) 0
         ≡ true
-        → IsDraft draft.new blocks (with_node tree number
-        (node_written draft.old.there.geometry (image_of blocks draft.old) inode.now offset piece))) }
+        → PutsPiece draft.old draft.new blocks tree number inode.old inode.new offset piece) }
     ensures room { IfOk result (λ done. (blocks : Image) (tree : Tree) → IsDraft draft.old blocks tree
         → 1 ≤ free tree → done ≡ true) }
     ensures seen { draft.new.seen ≡ draft.old.seen }
-    ensures spent { spent draft.new ≤ spent draft.old + 2 }
+    ensures once { spent draft.new + unspent draft.new number inode.new.indirect
+        ≤ spent draft.old + unspent draft.old number inode.old.indirect + 1 }
     ensures err { IfErr result (λ stop. MayStop draft.old.seen stop) }
     ensures pause { IfErr result (λ stop. (blocks : Image) (tree : Tree) → IsDraft draft.old blocks tree
         → number < draft.old.there.geometry.inodes → IsPause stop) }
@@ -76,6 +79,7 @@ pub(crate) fn map_near(
     match take_block(alloc, draft) {
         Ok(Some(block)) => {
             let named = naming(inode, size, index, block);
+            *inode = named;
             match store(alloc, draft, number, block, bytes, &named) {
                 Ok(()) => Ok(true),
                 Err(stop) => Err(stop),
@@ -92,27 +96,27 @@ pub(crate) fn map_far(
     alloc: Global,
     draft: &mut Draft,
     number: u32,
-    inode: &Inode,
+    inode: &mut Inode,
     index: usize,
     bytes: Vec<u8>,
     size: u64,
 ) -> Result<bool, Stop>
-    requires far { is_data draft.old.there.geometry inode.now.indirect ≡ true }
+    requires far { is_data draft.old.there.geometry inode.old.indirect ≡ true }
     requires past { DIRECT_INDEXES ≤ index }
     requires within { index < FILE_INDEXES }
     requires len { length bytes.items ≡ BLOCK_BYTES }
     ensures ok { IfOk result (λ done. done ≡ true
         → (blocks : Image) (tree : Tree) (offset : ℕ) (piece : List ℕ) → IsDraft draft.old blocks tree
-        → IsWrite draft.old.there.geometry (image_of blocks draft.old) tree number inode.now offset piece
+        → IsWrite draft.old.there.geometry (image_of blocks draft.old) tree number inode.old offset piece
         bytes.items size → index ≡ offset / BLOCK_BYTES
-        → nat_eq (number_at draft.old.there.geometry (image_of blocks draft.old) inode.now (offset / BLOCK_BYTES)) 0
+        → nat_eq (number_at draft.old.there.geometry (image_of blocks draft.old) inode.old (offset / BLOCK_BYTES)) 0
         ≡ true
-        → IsDraft draft.new blocks (with_node tree number
-        (node_written draft.old.there.geometry (image_of blocks draft.old) inode.now offset piece))) }
+        → PutsPiece draft.old draft.new blocks tree number inode.old inode.new offset piece) }
     ensures room { IfOk result (λ done. (blocks : Image) (tree : Tree) → IsDraft draft.old blocks tree
         → 1 ≤ free tree → done ≡ true) }
     ensures seen { draft.new.seen ≡ draft.old.seen }
-    ensures spent { spent draft.new ≤ spent draft.old + 3 }
+    ensures once { spent draft.new + unspent draft.new number inode.new.indirect
+        ≤ spent draft.old + unspent draft.old number inode.old.indirect + 1 }
     ensures err { IfErr result (λ stop. MayStop draft.old.seen stop) }
     ensures pause { IfErr result (λ stop. (blocks : Image) (tree : Tree) → IsDraft draft.old blocks tree
         → number < draft.old.there.geometry.inodes → IsPause stop) }
@@ -126,6 +130,7 @@ pub(crate) fn map_far(
             let numbers = with_number(alloc, &old, index - DIRECT_INDEXES, block)?;
             let same = sized(inode, size);
             let indirect = inode.indirect;
+            *inode = same;
             match store_far(alloc, draft, number, indirect, numbers, block, bytes, &same) {
                 Ok(()) => Ok(true),
                 Err(stop) => Err(stop),
@@ -142,27 +147,27 @@ pub(crate) fn map_first(
     alloc: Global,
     draft: &mut Draft,
     number: u32,
-    inode: &Inode,
+    inode: &mut Inode,
     index: usize,
     bytes: Vec<u8>,
     size: u64,
 ) -> Result<bool, Stop>
-    requires none { nat_eq inode.now.indirect 0 ≡ true }
+    requires none { nat_eq inode.old.indirect 0 ≡ true }
     requires past { DIRECT_INDEXES ≤ index }
     requires within { index < FILE_INDEXES }
     requires len { length bytes.items ≡ BLOCK_BYTES }
     ensures ok { IfOk result (λ done. done ≡ true
         → (blocks : Image) (tree : Tree) (offset : ℕ) (piece : List ℕ) → IsDraft draft.old blocks tree
-        → IsWrite draft.old.there.geometry (image_of blocks draft.old) tree number inode.now offset piece
+        → IsWrite draft.old.there.geometry (image_of blocks draft.old) tree number inode.old offset piece
         bytes.items size → index ≡ offset / BLOCK_BYTES
-        → nat_eq (number_at draft.old.there.geometry (image_of blocks draft.old) inode.now (offset / BLOCK_BYTES)) 0
+        → nat_eq (number_at draft.old.there.geometry (image_of blocks draft.old) inode.old (offset / BLOCK_BYTES)) 0
         ≡ true
-        → IsDraft draft.new blocks (with_node tree number
-        (node_written draft.old.there.geometry (image_of blocks draft.old) inode.now offset piece))) }
+        → PutsPiece draft.old draft.new blocks tree number inode.old inode.new offset piece) }
     ensures room { IfOk result (λ done. (blocks : Image) (tree : Tree) → IsDraft draft.old blocks tree
         → 2 ≤ free tree → done ≡ true) }
     ensures seen { draft.new.seen ≡ draft.old.seen }
-    ensures spent { spent draft.new ≤ spent draft.old + 3 }
+    ensures once { spent draft.new + unspent draft.new number inode.new.indirect
+        ≤ spent draft.old + unspent draft.old number inode.old.indirect + 1 }
     ensures err { IfErr result (λ stop. MayStop draft.old.seen stop) }
     ensures pause { IfErr result (λ stop. (blocks : Image) (tree : Tree) → IsDraft draft.old blocks tree
         → number < draft.old.there.geometry.inodes → IsPause stop) }
@@ -177,6 +182,7 @@ pub(crate) fn map_first(
             let zeros = [0; BLOCK_BYTES];
             let numbers = with_number(alloc, &zeros, index - DIRECT_INDEXES, block)?;
             let led = led_far(inode, size, far);
+            *inode = led;
             match store_far(alloc, draft, number, far, numbers, block, bytes, &led) {
                 Ok(()) => Ok(true),
                 Err(stop) => Err(stop),

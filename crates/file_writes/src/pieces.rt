@@ -4,20 +4,20 @@ ghost use Rattle.limits.specs.declared.TheConstants.{BLOCK_BYTES, FILE_INDEXES, 
 ghost use Rattle.disk.specs.Crash.{Image};
 ghost use Rattle.model.specs.Cost.{cost};
 ghost use Rattle.model.specs.Node.{Node};
-ghost use Rattle.model.specs.Tree.{Tree, free, node_at, with_node};
+ghost use Rattle.model.specs.Tree.{Tree, free, node_at};
 ghost use Rattle.procedures.specs.Write.{with_text};
 ghost use Rattle.layout.specs.InodeForm.{is_data_block_or_none};
 ghost use Rattle.inode.specs.Over.{IsPause, MayStop, number_at};
 ghost use Rattle.inode.specs.Shown.{body_in};
 ghost use Rattle.drafts.specs.Drafted.{IsDraft, image_of, spent};
-ghost use Rattle.file_writes.specs.Filling.{HasRegular};
-ghost use Rattle.file_writes.specs.Written.{IsWrite, WritesText, node_written};
+ghost use Rattle.file_writes.specs.Spent.{unspent};
+ghost use Rattle.file_writes.specs.Written.{IsWrite, NamesRegular, PutsPiece, WritesText};
 
 use crate::blocks::filled;
 use crate::mapping::{map_far, map_first, map_near, rewrite};
 use drafts::Draft;
-use inode::{Stop, block_number, held};
-use layout::{Inode, InodeKind};
+use inode::{Stop, block_number};
+use layout::Inode;
 use limits::{BLOCK_BYTES, DIRECT_INDEXES};
 use std::alloc::Global;
 
@@ -33,7 +33,7 @@ fn place(
     alloc: Global,
     draft: &mut Draft,
     number: u32,
-    inode: &Inode,
+    inode: &mut Inode,
     index: usize,
     block: u32,
     bytes: Vec<u8>,
@@ -44,25 +44,25 @@ fn place(
     requires len { length bytes.items ≡ BLOCK_BYTES }
     ensures ok { IfOk result (λ done. done ≡ true
         → (blocks : Image) (tree : Tree) (offset : ℕ) (piece : List ℕ) → IsDraft draft.old blocks tree
-        → IsWrite draft.old.there.geometry (image_of blocks draft.old) tree number inode.now offset piece
+        → IsWrite draft.old.there.geometry (image_of blocks draft.old) tree number inode.old offset piece
         bytes.items size → index ≡ offset / BLOCK_BYTES
-        → block ≡ number_at draft.old.there.geometry (image_of blocks draft.old) inode.now (offset / BLOCK_BYTES)
-        → IsDraft draft.new blocks (with_node tree number
-        (node_written draft.old.there.geometry (image_of blocks draft.old) inode.now offset piece))) }
+        → block ≡ number_at draft.old.there.geometry (image_of blocks draft.old) inode.old (offset / BLOCK_BYTES)
+        → PutsPiece draft.old draft.new blocks tree number inode.old inode.new offset piece) }
     ensures room { IfOk result (λ done. (blocks : Image) (tree : Tree) (offset : ℕ) (piece : List ℕ)
         → IsDraft draft.old blocks tree
-        → IsWrite draft.old.there.geometry (image_of blocks draft.old) tree number inode.now offset piece
+        → IsWrite draft.old.there.geometry (image_of blocks draft.old) tree number inode.old offset piece
         bytes.items size → index ≡ offset / BLOCK_BYTES
-        → block ≡ number_at draft.old.there.geometry (image_of blocks draft.old) inode.now (offset / BLOCK_BYTES)
-        → cost (with_text offset piece (body_in draft.old.there.geometry (image_of blocks draft.old) inode.now))
-        - cost (body_in draft.old.there.geometry (image_of blocks draft.old) inode.now) ≤ free tree
+        → block ≡ number_at draft.old.there.geometry (image_of blocks draft.old) inode.old (offset / BLOCK_BYTES)
+        → cost (with_text offset piece (body_in draft.old.there.geometry (image_of blocks draft.old) inode.old))
+        - cost (body_in draft.old.there.geometry (image_of blocks draft.old) inode.old) ≤ free tree
         → done ≡ true) }
     ensures seen { draft.new.seen ≡ draft.old.seen }
-    ensures spent { spent draft.new ≤ spent draft.old + 3 }
+    ensures once { spent draft.new + unspent draft.new number inode.new.indirect
+        ≤ spent draft.old + unspent draft.old number inode.old.indirect + 1 }
     ensures err { IfErr result (λ stop. MayStop draft.old.seen stop) }
     ensures pause { IfErr result (λ stop. (blocks : Image) (tree : Tree) → IsDraft draft.old blocks tree
         → number < draft.old.there.geometry.inodes
-        → is_data_block_or_none draft.old.there.geometry inode.now.indirect ≡ true → IsPause stop) }
+        → is_data_block_or_none draft.old.there.geometry inode.old.indirect ≡ true → IsPause stop) }
 {
     if block != 0 {
         return match rewrite(alloc, draft, number, inode, block, bytes, size) {
@@ -82,12 +82,13 @@ fn place(
     map_far(alloc, draft, number, inode, index, bytes, size)
 }
 
-// Writes a piece to the file of this inode.
-fn write_in(
+/// Writes bytes that lie in one block to the regular file of this inode, which is its inode then. It isn't done
+/// (false) where there is no room for what they take.
+pub(crate) fn write_piece(
     alloc: Global,
     draft: &mut Draft,
     number: u32,
-    inode: &Inode,
+    inode: &mut Inode,
     offset: u64,
     piece: &[u8],
 ) -> Result<bool, Stop>
@@ -95,19 +96,19 @@ fn write_in(
     requires within { offset % BLOCK_BYTES + length piece.now ≤ BLOCK_BYTES }
     requires small { offset + length piece.now ≤ LARGEST_FILE }
     ensures ok { IfOk result (λ done. done ≡ true → (blocks : Image) (tree : Tree) → IsDraft draft.old blocks tree
-        → HasRegular draft.old.there.geometry (image_of blocks draft.old) tree number inode.now
-        → IsDraft draft.new blocks (with_node tree number
-        (node_written draft.old.there.geometry (image_of blocks draft.old) inode.now offset piece.now))) }
-    ensures room { IfOk result (λ done. (blocks : Image) (tree : Tree) → IsDraft draft.old blocks tree
-        → HasRegular draft.old.there.geometry (image_of blocks draft.old) tree number inode.now
-        → cost (with_text offset piece.now (body_in draft.old.there.geometry (image_of blocks draft.old) inode.now))
-        - cost (body_in draft.old.there.geometry (image_of blocks draft.old) inode.now) ≤ free tree
-        → done ≡ true) }
+        → NamesRegular draft.old blocks number inode.old
+        → WritesText draft.new blocks tree number offset piece.now
+        × NamesRegular draft.new blocks number inode.new) }
+    ensures room { IfOk result (λ done. (blocks : Image) (tree : Tree) (node : Node)
+        → IsDraft draft.old blocks tree → NamesRegular draft.old blocks number inode.old
+        → node_at tree number ≡ Some node
+        → cost (with_text offset piece.now node.body) - cost node.body ≤ free tree → done ≡ true) }
     ensures seen { draft.new.seen ≡ draft.old.seen }
-    ensures spent { spent draft.new ≤ spent draft.old + 3 }
+    ensures once { spent draft.new + unspent draft.new number inode.new.indirect
+        ≤ spent draft.old + unspent draft.old number inode.old.indirect + 1 }
     ensures err { IfErr result (λ stop. MayStop draft.old.seen stop) }
     ensures pause { IfErr result (λ stop. (blocks : Image) (tree : Tree) → IsDraft draft.old blocks tree
-        → HasRegular draft.old.there.geometry (image_of blocks draft.old) tree number inode.now → IsPause stop) }
+        → NamesRegular draft.old blocks number inode.old → IsPause stop) }
 {
     let index = (offset / BLOCK_BYTES as u64) as usize;
     let from = (offset % BLOCK_BYTES as u64) as usize;
@@ -118,40 +119,6 @@ fn write_in(
     };
     match filled(alloc, draft.there(), block, from, piece) {
         Ok(bytes) => place(alloc, draft, number, inode, index, block, bytes, size),
-        Err(stop) => Err(stop),
-    }
-}
-
-/// Writes bytes that lie in one block to a regular file; to another nothing is done. It isn't done (false) where
-/// there is no room for what they take, and where there is no file.
-pub fn write_piece(
-    alloc: Global,
-    draft: &mut Draft,
-    number: u32,
-    offset: u64,
-    piece: &[u8],
-) -> Result<bool, Stop>
-    requires some { 0 < length piece.now }
-    requires within { offset % BLOCK_BYTES + length piece.now ≤ BLOCK_BYTES }
-    requires small { offset + length piece.now ≤ LARGEST_FILE }
-    ensures ok { IfOk result (λ done. done ≡ true → (blocks : Image) (tree : Tree) → IsDraft draft.old blocks tree
-        → WritesText draft.new blocks tree number offset piece.now) }
-    ensures room { IfOk result (λ done. (blocks : Image) (tree : Tree) (node : Node)
-        → IsDraft draft.old blocks tree → node_at tree number ≡ Some node
-        → cost (with_text offset piece.now node.body) - cost node.body ≤ free tree → done ≡ true) }
-    ensures seen { draft.new.seen ≡ draft.old.seen }
-    ensures spent { spent draft.new ≤ spent draft.old + 3 }
-    ensures err { IfErr result (λ stop. MayStop draft.old.seen stop) }
-    ensures pause { IfErr result (λ stop. (blocks : Image) (tree : Tree) → IsDraft draft.old blocks tree
-        → IsPause stop) }
-{
-    match held(draft.there(), number) {
-        Ok(Some(inode)) => match inode.kind {
-            InodeKind::Regular => write_in(alloc, draft, number, &inode, offset, piece),
-            InodeKind::Directory => Ok(true),
-            InodeKind::Link => Ok(true),
-        },
-        Ok(None) => Ok(false),
         Err(stop) => Err(stop),
     }
 }

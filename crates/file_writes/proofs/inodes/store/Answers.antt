@@ -1,7 +1,8 @@
-use Rattle.std.proofs.Common.{subst}
+use Rattle.std.proofs.Common.{subst, arith}
 use Rattle.std.proofs.lemmas.Result.{on_ok_weaker}
 use Rattle.layout.specs.Parts.{with_bytes, with_inode}
 use Rattle.drafts.specs.Drafted.{Shows}
+use Rattle.file_writes.proofs.Once.{inode_spent, one_spent}
 use Rattle.file_writes.proofs.inodes.store.Goals as goal
 
 pub returns-in-Ok-clause-shows : goal.returns-in-Ok-clause-shows
@@ -10,3 +11,16 @@ returns-in-Ok-clause-shows c =
     let written = with_bytes image c.args.block 0 c.args.bytes.items in
     subst (λ g. Shows c.put_inode.new.self (with_inode g written c.args.number c.args.inode.now))
     c.in-Ok.ensures.geometry (shows written (c.in-Ok.ensures.shows image is))) c.put_inode.ensures.shows
+
+pub returns-in-Ok-clause-once : goal.returns-in-Ok-clause-once
+returns-in-Ok-clause-once c = λ far.
+    let block = one_spent c.args.draft.now c.put_block.new.draft c.args.number far c.put_block.ensures.geometry
+    c.put_block.ensures.stays c.put_block.ensures.spent in
+    let inode = inode_spent c.put_block.new.draft c.put_inode.new.self c.args.number far c.put_inode.ensures.geometry
+    c.put_inode.ensures.stays c.put_inode.ensures.once in
+    omega (arith, block, inode)
+
+pub returns-in-Err-clause-once : goal.returns-in-Err-clause-once
+returns-in-Err-clause-once c = λ far.
+    one_spent c.args.draft.now c.put_block.new.draft c.args.number far c.put_block.ensures.geometry
+    c.put_block.ensures.stays c.put_block.ensures.spent

@@ -1,7 +1,8 @@
-use Rattle.std.proofs.Common.{subst}
+use Rattle.std.proofs.Common.{subst, arith}
 use Rattle.std.proofs.lemmas.Result.{on_ok_weaker}
 use Rattle.layout.specs.Parts.{with_bytes, with_inode}
 use Rattle.drafts.specs.Drafted.{Shows}
+use Rattle.file_writes.proofs.Once.{far_spent}
 use Rattle.file_writes.proofs.inodes.store_far.Goals as goal
 
 pub returns-in-Ok-clause-shows : goal.returns-in-Ok-clause-shows
@@ -11,3 +12,16 @@ returns-in-Ok-clause-shows c =
     subst (λ g. Shows c.store.new.draft (with_inode g (with_bytes named c.args.block 0 c.args.bytes.items)
     c.args.number c.args.inode.now))
     c.in-Ok.ensures.geometry (shows named (c.in-Ok.ensures.shows image is))) c.store.ensures.shows
+
+pub returns-in-Ok-clause-once : goal.returns-in-Ok-clause-once
+returns-in-Ok-clause-once c =
+    let block = far_spent c.args.draft.now c.put_block.new.draft c.args.number c.args.far c.put_block.ensures.geometry
+    c.put_block.ensures.stays c.args.draft.now.there.geometry c.requires.far c.put_block.ensures.once in
+    let rest = c.store.ensures.once c.args.far in
+    omega (arith, block, rest)
+
+pub returns-in-Err-clause-once : goal.returns-in-Err-clause-once
+returns-in-Err-clause-once c =
+    let block = far_spent c.args.draft.now c.put_block.new.draft c.args.number c.args.far c.put_block.ensures.geometry
+    c.put_block.ensures.stays c.args.draft.now.there.geometry c.requires.far c.put_block.ensures.once in
+    omega (arith, block)

@@ -4,19 +4,23 @@ use Rattle.nfs_types.specs.Fits.{AreBytes}
 use Rattle.objects.specs.Spliced.{spliced}
 use Rattle.layout.specs.declared.geometry.Geometry.{Geometry}
 use Rattle.layout.specs.Fields.{four_bytes}
+use Rattle.layout.specs.declared.inode.Inode.{Inode}
 use Rattle.layout.specs.Parts.{content_in, put, with_bytes, with_inode}
 use Rattle.inode.specs.declared.snap.Snap.{Snap}
 use Rattle.inode.specs.Over.{IsOver}
 use Rattle.drafts.specs.Drafted.{Shows, image_of}
-use Rattle.drafts.proofs.PutThere.{moved_draft, over_of}
+use Rattle.drafts.proofs.PutThere.{over_of}
 use Rattle.bitmap.specs.NewBlock.{HasTaken}
 use Rattle.bitmap.proofs.NewBlocks.{none_taken}
 use Rattle.file_writes.specs.Filling.{Fills, mapping}
+use Rattle.file_writes.specs.Spent.{unspent}
 use Rattle.file_writes.proofs.Cases.{block_named_far}
 use Rattle.file_writes.proofs.FarNumbers.{named_count}
 use Rattle.file_writes.proofs.PieceWritten.{long_content, not_zero}
 use Rattle.file_writes.proofs.Stored.{content_are, named_are, stored_far}
 use Rattle.file_writes.proofs.MappedFile.{as_mapped}
+use Rattle.file_writes.proofs.Once.{nothing_spent}
+use Rattle.file_writes.proofs.Whole.{moved_piece}
 use Rattle.file_writes.proofs.mapping.map_far.Goals as goal
 
 pub returns-in-Ok-store_far-clause-ok : goal.returns-in-Ok-store_far-clause-ok
@@ -51,9 +55,11 @@ returns-in-Ok-store_far-clause-ok c =
     let written : with_inode c.take_block.new.draft.there.geometry image n c.sized-same.result
     ≡ with_inode g image n new =
     λ i. with_inode (c.take_block.ensures.geometry i) image n (c.sized-same.ensures i) in
-    moved_draft c.args.draft.now c.store_far.new.draft blocks (with_inode g image n new) _
+    moved_piece c.args.draft.now c.store_far.new.draft blocks (with_inode g image n new) tree n inode new
+    c.sized-same.result offset piece
     (c.store_far.ensures.geometry ∙ c.take_block.ensures.geometry) (c.in-Ok-store_far.ensures.image blocks ∙ written)
     (subst (Shows c.store_far.new.draft) written (c.in-Ok-store_far.ensures.shows middle seen))
+    write.has.less write.has.regular c.sized-same.ensures
     (stored_far g base tree n inode offset piece bytes size write (b ∷ []) middle taken
     (λ q low. seen.long q (subst (λ (s : Geometry). q < s.blocks) (sym c.take_block.ensures.geometry) low))
     c.requires.len b inode.direct far numbers
@@ -83,3 +89,41 @@ returns-clause-pause c = λ blocks tree draft less.
     let g = c.args.draft.now.there.geometry in
     let base = image_of blocks c.args.draft.now in
     c.in-Err-take_block.ensures.pause blocks base tree [] draft.shows (none_taken g base tree draft.holds)
+
+pub returns-in-Ok-store_far-clause-once : goal.returns-in-Ok-store_far-clause-once
+returns-in-Ok-store_far-clause-once c =
+    let taken = nothing_spent c.args.draft.now c.take_block.new.draft c.args.number c.args.inode.now.indirect
+    c.take_block.ensures.geometry c.take_block.ensures.stays c.take_block.ensures.spent in
+    let once = c.store_far.ensures.once in
+    let same : ◌≡◌ {A = ℕ} (unspent c.store_far.new.draft c.args.number c.sized-same.result.indirect)
+    (unspent c.store_far.new.draft c.args.number c.args.inode.now.indirect) =
+    ap (λ (one : Inode). unspent c.store_far.new.draft c.args.number one.indirect) c.sized-same.ensures in
+    omega (arith, taken, once, same)
+
+pub returns-in-Ok-Some-clause-once : goal.returns-in-Ok-Some-clause-once
+returns-in-Ok-Some-clause-once c =
+    let taken = nothing_spent c.args.draft.now c.take_block.new.draft c.args.number c.args.inode.now.indirect
+    c.take_block.ensures.geometry c.take_block.ensures.stays c.take_block.ensures.spent in
+    let once = c.store_far.ensures.once in
+    let same : ◌≡◌ {A = ℕ} (unspent c.store_far.new.draft c.args.number c.sized-same.result.indirect)
+    (unspent c.store_far.new.draft c.args.number c.args.inode.now.indirect) =
+    ap (λ (one : Inode). unspent c.store_far.new.draft c.args.number one.indirect) c.sized-same.ensures in
+    omega (arith, taken, once, same)
+
+pub returns-in-Ok-None-clause-once : goal.returns-in-Ok-None-clause-once
+returns-in-Ok-None-clause-once c =
+    let taken = nothing_spent c.args.draft.now c.take_block.new.draft c.args.number c.args.inode.now.indirect
+    c.take_block.ensures.geometry c.take_block.ensures.stays c.take_block.ensures.spent in
+    omega (arith, taken)
+
+pub returns-clause-once : goal.returns-clause-once
+returns-clause-once c =
+    let taken = nothing_spent c.args.draft.now c.take_block.new.draft c.args.number c.args.inode.now.indirect
+    c.take_block.ensures.geometry c.take_block.ensures.stays c.take_block.ensures.spent in
+    omega (arith, taken)
+
+pub returns-in_err-numbers-in-Ok-Some-clause-once : goal.returns-in_err-numbers-in-Ok-Some-clause-once
+returns-in_err-numbers-in-Ok-Some-clause-once c =
+    let taken = nothing_spent c.args.draft.now c.take_block.new.draft c.args.number c.args.inode.now.indirect
+    c.take_block.ensures.geometry c.take_block.ensures.stays c.take_block.ensures.spent in
+    omega (arith, taken)

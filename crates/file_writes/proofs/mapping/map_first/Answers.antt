@@ -5,15 +5,18 @@ use Rattle.nfs_types.specs.Fits.{AreBytes}
 use Rattle.objects.specs.Spliced.{spliced}
 use Rattle.layout.specs.declared.geometry.Geometry.{Geometry}
 use Rattle.layout.specs.Fields.{four_bytes}
+use Rattle.layout.specs.declared.inode.Inode.{Inode}
 use Rattle.layout.specs.Parts.{content_in, put, with_bytes, with_inode}
 use Rattle.drafts.specs.Drafted.{Shows, image_of}
-use Rattle.drafts.proofs.PutThere.{moved_draft}
 use Rattle.bitmap.specs.NewBlock.{HasTaken}
 use Rattle.bitmap.proofs.NewBlocks.{none_taken}
 use Rattle.file_writes.specs.Filling.{Fills, mapping}
+use Rattle.file_writes.specs.Spent.{unspent}
 use Rattle.file_writes.proofs.Cases.{block_named_first}
 use Rattle.file_writes.proofs.FarNumbers.{named_count}
 use Rattle.file_writes.proofs.MappedFile.{as_mapped}
+use Rattle.file_writes.proofs.Once.{nothing_spent, unspent_first}
+use Rattle.file_writes.proofs.Whole.{moved_piece}
 use Rattle.file_writes.proofs.Stored.{named_are, stored_far, zeros_are}
 use Rattle.file_writes.proofs.mapping.map_first.Goals as goal
 
@@ -66,9 +69,11 @@ returns-in-Ok-clause-ok c =
     let written : with_inode c.take_block-2.new.draft.there.geometry image n c.led_far-led.result
     ≡ with_inode g image n new =
     λ i. with_inode (geometry i) image n (c.led_far-led.ensures i) in
-    moved_draft c.args.draft.now c.store_far.new.draft blocks (with_inode g image n new) _
+    moved_piece c.args.draft.now c.store_far.new.draft blocks (with_inode g image n new) tree n inode new
+    c.led_far-led.result offset piece
     (c.store_far.ensures.geometry ∙ geometry) (c.in-Ok.ensures.image blocks ∙ written)
     (subst (Shows c.store_far.new.draft) written (c.in-Ok.ensures.shows middle seen))
+    write.has.less write.has.regular c.led_far-led.ensures
     (stored_far g base tree n inode offset piece bytes size write (far ∷ b ∷ []) middle taken
     (λ q low. seen.long q (subst (λ (s : Geometry). q < s.blocks) (sym geometry) low))
     c.requires.len b inode.direct far numbers
@@ -109,3 +114,67 @@ returns-in-Err-take_block-clause-pause c = λ blocks tree draft less.
     (c.in-Ok-Some.ensures.ok blocks base tree [] draft.shows (none_taken g base tree draft.holds)) in
     c.in-Err-take_block.ensures.pause blocks base tree (b ∷ []) (c.in-Ok-Some.ensures.shows blocks draft.shows)
     (subst (λ (s : Geometry). HasTaken s base tree (b ∷ []) first) (sym c.take_block.ensures.geometry) one)
+
+pub returns-in-Ok-clause-once : goal.returns-in-Ok-clause-once
+returns-in-Ok-clause-once c =
+    let first = nothing_spent c.args.draft.now c.take_block.new.draft c.args.number c.args.inode.now.indirect
+    c.take_block.ensures.geometry c.take_block.ensures.stays c.take_block.ensures.spent in
+    let second = nothing_spent c.take_block.new.draft c.take_block-2.new.draft c.args.number c.args.inode.now.indirect
+    c.take_block-2.ensures.geometry c.take_block-2.ensures.stays c.take_block-2.ensures.spent in
+    let far = c.in-Ok-Some-take_block.far in
+    let new = unspent_first c.take_block-2.new.draft c.args.number far c.args.inode.now.indirect c.requires.none in
+    let once = c.store_far.ensures.once in
+    let same : ◌≡◌ {A = ℕ} (unspent c.store_far.new.draft c.args.number c.led_far-led.result.indirect)
+    (unspent c.store_far.new.draft c.args.number far) =
+    ap (λ (one : Inode). unspent c.store_far.new.draft c.args.number one.indirect) c.led_far-led.ensures in
+    omega (arith, first, second, new, once, same)
+
+pub returns-in-Err-store_far-clause-once : goal.returns-in-Err-store_far-clause-once
+returns-in-Err-store_far-clause-once c =
+    let first = nothing_spent c.args.draft.now c.take_block.new.draft c.args.number c.args.inode.now.indirect
+    c.take_block.ensures.geometry c.take_block.ensures.stays c.take_block.ensures.spent in
+    let second = nothing_spent c.take_block.new.draft c.take_block-2.new.draft c.args.number c.args.inode.now.indirect
+    c.take_block-2.ensures.geometry c.take_block-2.ensures.stays c.take_block-2.ensures.spent in
+    let far = c.in-Ok-Some-take_block.far in
+    let new = unspent_first c.take_block-2.new.draft c.args.number far c.args.inode.now.indirect c.requires.none in
+    let once = c.store_far.ensures.once in
+    let same : ◌≡◌ {A = ℕ} (unspent c.store_far.new.draft c.args.number c.led_far-led.result.indirect)
+    (unspent c.store_far.new.draft c.args.number far) =
+    ap (λ (one : Inode). unspent c.store_far.new.draft c.args.number one.indirect) c.led_far-led.ensures in
+    omega (arith, first, second, new, once, same)
+
+pub returns-in-Ok-None-clause-once : goal.returns-in-Ok-None-clause-once
+returns-in-Ok-None-clause-once c =
+    let first = nothing_spent c.args.draft.now c.take_block.new.draft c.args.number c.args.inode.now.indirect
+    c.take_block.ensures.geometry c.take_block.ensures.stays c.take_block.ensures.spent in
+    omega (arith, first)
+
+pub returns-in-Err-clause-once : goal.returns-in-Err-clause-once
+returns-in-Err-clause-once c =
+    let first = nothing_spent c.args.draft.now c.take_block.new.draft c.args.number c.args.inode.now.indirect
+    c.take_block.ensures.geometry c.take_block.ensures.stays c.take_block.ensures.spent in
+    omega (arith, first)
+
+pub returns-in-Ok-None-take_block-clause-once : goal.returns-in-Ok-None-take_block-clause-once
+returns-in-Ok-None-take_block-clause-once c =
+    let first = nothing_spent c.args.draft.now c.take_block.new.draft c.args.number c.args.inode.now.indirect
+    c.take_block.ensures.geometry c.take_block.ensures.stays c.take_block.ensures.spent in
+    let second = nothing_spent c.take_block.new.draft c.take_block-2.new.draft c.args.number c.args.inode.now.indirect
+    c.take_block-2.ensures.geometry c.take_block-2.ensures.stays c.take_block-2.ensures.spent in
+    omega (arith, first, second)
+
+pub returns-in-Err-take_block-clause-once : goal.returns-in-Err-take_block-clause-once
+returns-in-Err-take_block-clause-once c =
+    let first = nothing_spent c.args.draft.now c.take_block.new.draft c.args.number c.args.inode.now.indirect
+    c.take_block.ensures.geometry c.take_block.ensures.stays c.take_block.ensures.spent in
+    let second = nothing_spent c.take_block.new.draft c.take_block-2.new.draft c.args.number c.args.inode.now.indirect
+    c.take_block-2.ensures.geometry c.take_block-2.ensures.stays c.take_block-2.ensures.spent in
+    omega (arith, first, second)
+
+pub returns-in_err-numbers-in-Ok-Some-take_block-clause-once : goal.returns-in_err-numbers-in-Ok-Some-take_block-clause-once
+returns-in_err-numbers-in-Ok-Some-take_block-clause-once c =
+    let first = nothing_spent c.args.draft.now c.take_block.new.draft c.args.number c.args.inode.now.indirect
+    c.take_block.ensures.geometry c.take_block.ensures.stays c.take_block.ensures.spent in
+    let second = nothing_spent c.take_block.new.draft c.take_block-2.new.draft c.args.number c.args.inode.now.indirect
+    c.take_block-2.ensures.geometry c.take_block-2.ensures.stays c.take_block-2.ensures.spent in
+    omega (arith, first, second)

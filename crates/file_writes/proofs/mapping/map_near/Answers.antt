@@ -1,15 +1,18 @@
-use Rattle.std.proofs.Common.{◌≡◌, ◌<◌, ◌/◌, [], ◌∷◌, sym, ap, ◌∙◌, subst, set, arith}
+use Rattle.std.proofs.Common.{◌≡◌, ℕ, ◌<◌, ◌/◌, [], ◌∷◌, sym, ap, ◌∙◌, subst, set, arith}
 use Rattle.limits.specs.declared.TheConstants.{BLOCK_BYTES, DIRECT_INDEXES}
 use Rattle.layout.specs.declared.geometry.Geometry.{Geometry}
+use Rattle.layout.specs.declared.inode.Inode.{Inode}
 use Rattle.layout.specs.Parts.{with_bytes, with_inode}
 use Rattle.drafts.specs.Drafted.{Shows, image_of}
-use Rattle.drafts.proofs.PutThere.{moved_draft}
 use Rattle.bitmap.specs.NewBlock.{HasTaken}
 use Rattle.bitmap.proofs.NewBlocks.{none_taken}
 use Rattle.file_writes.specs.Filling.{mapping}
+use Rattle.file_writes.specs.Spent.{unspent}
 use Rattle.file_writes.proofs.Cases.{block_named}
 use Rattle.file_writes.proofs.Stored.{stored}
 use Rattle.file_writes.proofs.MappedFile.{as_mapped}
+use Rattle.file_writes.proofs.Once.{nothing_spent}
+use Rattle.file_writes.proofs.Whole.{moved_piece}
 use Rattle.file_writes.proofs.mapping.map_near.Goals as goal
 
 pub returns-in-Ok-clause-ok : goal.returns-in-Ok-clause-ok
@@ -34,9 +37,11 @@ returns-in-Ok-clause-ok c =
     let written : with_inode c.take_block.new.draft.there.geometry (with_bytes middle b 0 bytes) n c.naming-named.result
     ≡ with_inode g (with_bytes middle b 0 bytes) n new =
     λ i. with_inode (c.take_block.ensures.geometry i) (with_bytes middle b 0 bytes) n (named i) in
-    moved_draft c.args.draft.now c.store.new.draft blocks (with_inode g (with_bytes middle b 0 bytes) n new) _
+    moved_piece c.args.draft.now c.store.new.draft blocks (with_inode g (with_bytes middle b 0 bytes) n new) tree n
+    inode new c.naming-named.result offset piece
     (c.store.ensures.geometry ∙ c.take_block.ensures.geometry) (c.in-Ok.ensures.image blocks ∙ written)
     (subst (Shows c.store.new.draft) written (c.in-Ok.ensures.shows middle seen))
+    write.has.less write.has.regular named
     (stored g base tree n inode offset piece bytes size write (b ∷ []) middle taken
     (λ q low. seen.long q (subst (λ (s : Geometry). q < s.blocks) (sym c.take_block.ensures.geometry) low))
     c.requires.len b direct inode.indirect
@@ -56,3 +61,35 @@ returns-in-Err-clause-pause c = λ blocks tree draft less.
     let g = c.args.draft.now.there.geometry in
     let base = image_of blocks c.args.draft.now in
     c.in-Err.ensures.pause blocks base tree [] draft.shows (none_taken g base tree draft.holds)
+
+pub returns-in-Ok-clause-once : goal.returns-in-Ok-clause-once
+returns-in-Ok-clause-once c =
+    let taken = nothing_spent c.args.draft.now c.take_block.new.draft c.args.number c.args.inode.now.indirect
+    c.take_block.ensures.geometry c.take_block.ensures.stays c.take_block.ensures.spent in
+    let once = c.store.ensures.once c.args.inode.now.indirect in
+    let same : ◌≡◌ {A = ℕ} (unspent c.store.new.draft c.args.number c.naming-named.result.indirect)
+    (unspent c.store.new.draft c.args.number c.args.inode.now.indirect) =
+    ap (λ (one : Inode). unspent c.store.new.draft c.args.number one.indirect) c.naming-named.ensures in
+    omega (arith, taken, once, same)
+
+pub returns-in-Err-store-clause-once : goal.returns-in-Err-store-clause-once
+returns-in-Err-store-clause-once c =
+    let taken = nothing_spent c.args.draft.now c.take_block.new.draft c.args.number c.args.inode.now.indirect
+    c.take_block.ensures.geometry c.take_block.ensures.stays c.take_block.ensures.spent in
+    let once = c.store.ensures.once c.args.inode.now.indirect in
+    let same : ◌≡◌ {A = ℕ} (unspent c.store.new.draft c.args.number c.naming-named.result.indirect)
+    (unspent c.store.new.draft c.args.number c.args.inode.now.indirect) =
+    ap (λ (one : Inode). unspent c.store.new.draft c.args.number one.indirect) c.naming-named.ensures in
+    omega (arith, taken, once, same)
+
+pub returns-in-Ok-None-clause-once : goal.returns-in-Ok-None-clause-once
+returns-in-Ok-None-clause-once c =
+    let taken = nothing_spent c.args.draft.now c.take_block.new.draft c.args.number c.args.inode.now.indirect
+    c.take_block.ensures.geometry c.take_block.ensures.stays c.take_block.ensures.spent in
+    omega (arith, taken)
+
+pub returns-in-Err-clause-once : goal.returns-in-Err-clause-once
+returns-in-Err-clause-once c =
+    let taken = nothing_spent c.args.draft.now c.take_block.new.draft c.args.number c.args.inode.now.indirect
+    c.take_block.ensures.geometry c.take_block.ensures.stays c.take_block.ensures.spent in
+    omega (arith, taken)

@@ -38,3 +38,28 @@ returns-clause-room c =
     c.args.inode.now write.has offset piece write.fits none
     (let past = c.if-index-lt-DIRECT_INDEXES.false in omega (arith, past, at)) in omega (arith, adds, room)))
     c.map_far.result c.map_far.ensures.room
+
+pub returns-in-Ok-clause-ok : goal.returns-in-Ok-clause-ok
+returns-in-Ok-clause-ok c = λ yes blocks tree offset piece draft write at is.
+    c.in-Ok.ensures.ok blocks tree offset piece draft write is
+
+pub returns-then-index-lt-DIRECT_INDEXES-clause-ok : goal.returns-then-index-lt-DIRECT_INDEXES-clause-ok
+returns-then-index-lt-DIRECT_INDEXES-clause-ok c =
+    let zero : nat_eq c.args.block 0 ≡ true = (let h = c.if-block-ne0.false in search rules) in
+    mapped _ _ (λ done leads yes blocks tree offset piece draft write at is.
+    leads yes blocks tree offset piece draft write at (ap (λ k. nat_eq k 0) (sym is) ∙ zero))
+    c.map_near.result c.map_near.ensures.ok
+
+pub returns-then-inode-eq0-clause-ok : goal.returns-then-inode-eq0-clause-ok
+returns-then-inode-eq0-clause-ok c =
+    let zero : nat_eq c.args.block 0 ≡ true = (let h = c.if-block-ne0.false in search rules) in
+    mapped _ _ (λ done leads yes blocks tree offset piece draft write at is.
+    leads yes blocks tree offset piece draft write at (ap (λ k. nat_eq k 0) (sym is) ∙ zero))
+    c.map_first.result c.map_first.ensures.ok
+
+pub returns-clause-ok : goal.returns-clause-ok
+returns-clause-ok c =
+    let zero : nat_eq c.args.block 0 ≡ true = (let h = c.if-block-ne0.false in search rules) in
+    mapped _ _ (λ done leads yes blocks tree offset piece draft write at is.
+    leads yes blocks tree offset piece draft write at (ap (λ k. nat_eq k 0) (sym is) ∙ zero))
+    c.map_far.result c.map_far.ensures.ok

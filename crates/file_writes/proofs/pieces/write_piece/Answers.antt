@@ -1,95 +1,101 @@
-use Rattle.std.proofs.Common.{◌≡◌, ◌-◌, ◌≤◌, sym, ◌∙◌, subst, Some}
+use Rattle.std.proofs.Common.{◌≡◌, ◌-◌, ◌≤◌, ◌/◌, ◌%◌, refl, true, sym, ap, ◌∙◌, subst, List, ℕ, arith}
 use Rattle.std.proofs.lemmas.Result.{IfErr-weaker}
+use Rattle.limits.specs.declared.TheConstants.{BLOCK_BYTES}
+use Rattle.disk.specs.Crash.{Image}
+use Rattle.nfs_types.specs.Fits.{AreBytes}
+use Rattle.objects.specs.Spliced.{spliced}
 use Rattle.model.specs.Cost.{cost}
 use Rattle.model.specs.Node.{Node}
-use Rattle.model.specs.Tree.{free}
+use Rattle.model.specs.Tree.{Tree, free}
 use Rattle.procedures.specs.Write.{with_text}
-use Rattle.layout.specs.declared.inode.InodeKind.TheVariants as kinds
-use Rattle.layout.specs.Decode.{node_with}
-use Rattle.inode.specs.Shown.{body_in}
-use Rattle.drafts.specs.Drafted.{image_of}
-use Rattle.drafts.proofs.PutThere.{told_there}
+use Rattle.layout.specs.declared.geometry.Geometry.{Geometry}
+use Rattle.layout.specs.declared.inode.Inode.{Inode}
+use Rattle.layout.specs.Decode.{content_of}
+use Rattle.layout.specs.InodeForm.{is_data_block_or_none}
+use Rattle.layout.specs.Parts.{content_in}
+use Rattle.inode.specs.declared.snap.Snap.{Snap}
+use Rattle.inode.specs.Over.{HasInode, IsOver, number_at}
+use Rattle.drafts.specs.Drafted.{IsDraft, image_of}
+use Rattle.drafts.proofs.PutThere.{over_of}
 use Rattle.bitmap.proofs.OfResults.{mapped}
-use Rattle.file_writes.specs.Written.{rewritten}
-use Rattle.file_writes.proofs.Whole.{has_regular, node_is, same_file, same_holds}
+use Rattle.file_writes.specs.Filling.{HasRegular}
+use Rattle.file_writes.specs.Written.{IsWrite}
+use Rattle.file_writes.proofs.Whole.{far_placed, filled_are, has_inode, piece_text, regular_node_is, regular_of}
 use Rattle.file_writes.proofs.pieces.write_piece.Goals as goal
 
-pub returns-in-Regular-clause-ok : goal.returns-in-Regular-clause-ok
-returns-in-Regular-clause-ok c =
-    let n = c.args.number in
-    let inode = c.in-Ok-Some.inode in
-    mapped _ _ (λ done leads yes blocks tree draft.
-    let there = c.args.draft.now.there in
-    let base = image_of blocks c.args.draft.now in
-    let told = told_there c.args.draft.now c.there.result.now blocks tree n (Some inode) c.there.ensures.there
-    (rw c.in-Ok-Some.field-0-is at c.in-Ok-Some.ensures.ok) draft in
-    record {
-      node = node_with inode (body_in there.geometry base inode);
-      was = told.1;
-      is = leads yes blocks tree draft (has_regular there base tree n inode told.0 c.in-Regular.is);
-    }) c.write_in.result c.write_in.ensures.ok
+-- what is to be written
+module _ (c : goal.After-place) where
+  abbrev g : Geometry
+  g = c.args.draft.now.there.geometry
 
-pub returns-in-Regular-clause-room : goal.returns-in-Regular-clause-room
-returns-in-Regular-clause-room c =
-    let n = c.args.number in
-    let inode = c.in-Ok-Some.inode in
+  abbrev inode : Inode
+  inode = c.args.inode.now
+
+  abbrev base : Image → Image
+  base blocks = image_of blocks c.args.draft.now
+
+  block_is : (blocks : Image) (tree : Tree) → IsDraft c.args.draft.now blocks tree
+      → HasRegular g (base blocks) tree c.args.number inode
+      → c.in-Ok.block ≡ number_at g (base blocks) inode (c.args.offset / BLOCK_BYTES)
+  block_is blocks tree draft has =
+      let there = c.there.ensures.there in
+      subst (λ (s : Snap). c.in-Ok.block ≡ number_at s.geometry (base blocks) inode (c.args.offset / BLOCK_BYTES)) there
+      (c.in-Ok.ensures.ok (base blocks) tree c.args.number
+      (subst (λ (s : Snap). HasInode s (base blocks) tree c.args.number inode) (sym there)
+      (has_inode c.args.draft.now blocks tree c.args.number inode draft has)))
+
+  writes : (blocks : Image) (tree : Tree) → IsDraft c.args.draft.now blocks tree
+      → HasRegular g (base blocks) tree c.args.number inode
+      → IsWrite g (base blocks) tree c.args.number inode c.args.offset c.args.piece.now c.in-Ok-filled.bytes.items
+      c.greater-size.result
+  writes blocks tree draft has =
+      let there = c.there.ensures.there in
+      let again = c.there-2.ensures.there in
+      let block = c.in-Ok.block in
+      let from = c.args.offset % BLOCK_BYTES in
+      let piece = c.args.piece.now in
+      let bytes : c.in-Ok-filled.bytes.items ≡ spliced (content_of (content_in g (base blocks)) block) from piece =
+      subst (λ (s : Snap). c.in-Ok-filled.bytes.items
+      ≡ spliced (content_of (content_in s.geometry (base blocks)) block) from piece) again
+      (c.in-Ok-filled.ensures.are (base blocks) tree
+      (subst (λ (s : Snap). IsOver s (base blocks) tree) (sym again) (over_of c.args.draft.now blocks tree draft))) in
+      let placed = subst (λ (s : Snap). is_data_block_or_none s.geometry block ≡ true) there c.in-Ok.ensures.data in
+      record {
+        has = has;
+        fits = record { some = c.requires.some; within = c.requires.within; small = c.requires.small };
+        bytes_are = bytes
+            ∙ ap (λ k. spliced (content_of (content_in g (base blocks)) k) from piece) (block_is blocks tree draft has);
+        each = subst (λ (l : List ℕ). AreBytes l) (sym bytes)
+            (filled_are g (base blocks) tree draft.holds block from piece placed
+            (λ i. omega (arith, c.type_inv.piece i)));
+        size_is = c.greater-size.ensures;
+      }
+
+pub returns-in-Ok-filled-clause-ok : goal.returns-in-Ok-filled-clause-ok
+returns-in-Ok-filled-clause-ok c =
+    mapped _ _ (λ done leads yes blocks tree draft names.
+    let has = regular_of c.args.draft.now blocks tree c.args.number c.args.inode.now draft names in
+    piece_text c.args.draft.now c.place.new.draft blocks tree c.args.number c.args.inode.now c.place.new.inode
+    c.args.offset c.args.piece.now draft names
+    (leads yes blocks tree c.args.offset c.args.piece.now draft (writes c blocks tree draft has) refl
+    (block_is c blocks tree draft has))) c.place.result c.place.ensures.ok
+
+pub returns-in-Ok-filled-clause-room : goal.returns-in-Ok-filled-clause-room
+returns-in-Ok-filled-clause-room c =
     let offset = c.args.offset in
     let piece = c.args.piece.now in
-    mapped _ _ (λ done leads blocks tree node draft was room.
-    let there = c.args.draft.now.there in
-    let base = image_of blocks c.args.draft.now in
-    let told = told_there c.args.draft.now c.there.result.now blocks tree n (Some inode) c.there.ensures.there
-    (rw c.in-Ok-Some.field-0-is at c.in-Ok-Some.ensures.ok) draft in
-    let is = node_is there base tree n inode node told was in
-    leads blocks tree draft (has_regular there base tree n inode told.0 c.in-Regular.is)
-    (subst (λ (one : Node). cost (with_text offset piece one.body) - cost one.body ≤ free tree) is room))
-    c.write_in.result c.write_in.ensures.room
+    mapped _ _ (λ done leads blocks tree node draft names was room.
+    let has = regular_of c.args.draft.now blocks tree c.args.number c.args.inode.now draft names in
+    leads blocks tree offset piece draft (writes c blocks tree draft has) refl
+    (block_is c blocks tree draft has)
+    (subst (λ (one : Node). cost (with_text offset piece one.body) - cost one.body ≤ free tree)
+    (regular_node_is c.args.draft.now blocks tree c.args.number c.args.inode.now node draft names was) room))
+    c.place.result c.place.ensures.room
 
-pub returns-in-Regular-clause-pause : goal.returns-in-Regular-clause-pause
-returns-in-Regular-clause-pause c =
-    IfErr-weaker c.write_in.result _ _ (λ why pauses blocks tree draft.
-    pauses blocks tree draft
-    (has_regular c.args.draft.now.there (image_of blocks c.args.draft.now) tree c.args.number c.in-Ok-Some.inode
-    (told_there c.args.draft.now c.there.result.now blocks tree c.args.number (Some c.in-Ok-Some.inode)
-    c.there.ensures.there (rw c.in-Ok-Some.field-0-is at c.in-Ok-Some.ensures.ok) draft).0 c.in-Regular.is))
-    c.write_in.ensures.pause
-
-pub returns-in-Directory-clause-ok : goal.returns-in-Directory-clause-ok
-returns-in-Directory-clause-ok c = λ yes blocks tree draft.
-    let n = c.args.number in
-    let inode = c.in-Ok-Some.inode in
-    let there = c.args.draft.now.there in
-    let base = image_of blocks c.args.draft.now in
-    let told = told_there c.args.draft.now c.there.result.now blocks tree n (Some inode) c.there.ensures.there
-    (rw c.in-Ok-Some.field-0-is at c.in-Ok-Some.ensures.ok) draft in
-    let node = node_with inode (body_in there.geometry base inode) in
-    record {
-      node = node;
-      was = told.1;
-      is = record {
-        shows = draft.shows;
-        holds = same_holds there.geometry base tree n node (rewritten c.args.offset c.args.piece.now node) draft.holds
-            told.1 (same_file there base tree n inode node c.args.offset c.args.piece.now told told.1
-            (λ other. let clash : kinds.Directory ≡ kinds.Regular = sym c.in-Directory.is ∙ other in cc));
-      };
-    }
-
-pub returns-in-Link-clause-ok : goal.returns-in-Link-clause-ok
-returns-in-Link-clause-ok c = λ yes blocks tree draft.
-    let n = c.args.number in
-    let inode = c.in-Ok-Some.inode in
-    let there = c.args.draft.now.there in
-    let base = image_of blocks c.args.draft.now in
-    let told = told_there c.args.draft.now c.there.result.now blocks tree n (Some inode) c.there.ensures.there
-    (rw c.in-Ok-Some.field-0-is at c.in-Ok-Some.ensures.ok) draft in
-    let node = node_with inode (body_in there.geometry base inode) in
-    record {
-      node = node;
-      was = told.1;
-      is = record {
-        shows = draft.shows;
-        holds = same_holds there.geometry base tree n node (rewritten c.args.offset c.args.piece.now node) draft.holds
-            told.1 (same_file there base tree n inode node c.args.offset c.args.piece.now told told.1
-            (λ other. let clash : kinds.Link ≡ kinds.Regular = sym c.in-Link.is ∙ other in cc));
-      };
-    }
+pub returns-in-Ok-filled-clause-pause : goal.returns-in-Ok-filled-clause-pause
+returns-in-Ok-filled-clause-pause c =
+    IfErr-weaker c.place.result _ _ (λ why pauses blocks tree draft names.
+    pauses blocks tree draft names.less
+    (far_placed c.args.draft.now.there.geometry (image_of blocks c.args.draft.now) tree c.args.number
+    c.args.inode.now (regular_of c.args.draft.now blocks tree c.args.number c.args.inode.now draft names)))
+    c.place.ensures.pause

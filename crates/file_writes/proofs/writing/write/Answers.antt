@@ -1,71 +1,77 @@
-use Rattle.std.proofs.Common.{◌-◌, ◌≤◌, ◌+◌, sym, ◌∙◌, subst, take, drop, arith}
-use Rattle.model.specs.Cost.{cost}
-use Rattle.model.specs.Node.{Node}
-use Rattle.model.specs.Tree.{free, with_node}
-use Rattle.procedures.specs.Write.{with_text}
-use Rattle.drafts.proofs.OneFile.{here_next}
-use Rattle.file_writes.specs.Written.{WritesText, rewritten}
-use Rattle.file_writes.proofs.Steps.{middle, one_more, part_len, room_first, room_left, same_nodes}
+use Rattle.std.proofs.Common.{◌≡◌, sym, ◌∙◌, Some}
+use Rattle.std.proofs.lemmas.Result.{IfErr-weaker}
+use Rattle.disk.specs.Crash.{Image}
+use Rattle.model.specs.Tree.{Tree}
+use Rattle.layout.specs.declared.inode.InodeKind.TheVariants as kinds
+use Rattle.layout.specs.Decode.{node_with}
+use Rattle.inode.specs.Shown.{body_in}
+use Rattle.drafts.specs.Drafted.{IsDraft, image_of}
+use Rattle.drafts.proofs.PutThere.{told_there}
+use Rattle.bitmap.proofs.OfResults.{mapped}
+use Rattle.file_writes.specs.Written.{NamesRegular, rewritten}
+use Rattle.file_writes.proofs.Whole.{same_file, same_holds}
 use Rattle.file_writes.proofs.writing.write.Goals as goal
 
-pub returns-in-Ok-false-clause-room : goal.returns-in-Ok-false-clause-room
-returns-in-Ok-false-clause-room c = λ blocks tree node draft was room.
-    sym c.in-Ok-false.field-0-test ∙ c.in-Ok-false.ensures.room blocks tree node draft was
-    (room_first tree node c.args.offset c.piece_len-first.result c.args.text.now c.piece_len-first.ensures.some
-    c.piece_len-first.ensures.most room)
+-- the file's inode, as it was read
+abbrev told_of : (c : goal.After-write_all) (blocks : Image) (tree : Tree)
+    → IsDraft c.args.draft.now blocks tree → NamesRegular c.args.draft.now blocks c.args.number c.in-Ok-Some.inode
+told_of c blocks tree draft =
+    let told = told_there c.args.draft.now c.there.result.now blocks tree c.args.number (Some c.in-Ok-Some.inode)
+    c.there.ensures.there (rw c.in-Ok-Some.field-0-is at c.in-Ok-Some.ensures.ok) draft in
+    record { less = told.0.less; read = told.0.there; regular = c.in-Regular.is }
 
-pub returns-in-Ok-false-write_piece-clause-room : goal.returns-in-Ok-false-write_piece-clause-room
-returns-in-Ok-false-write_piece-clause-room c = λ blocks tree node draft was room.
-    let done = c.pieces.done in
-    let len = c.piece_len-len.result in
-    let text = c.args.text.now in
-    let n = c.args.number in
-    let had = c.pieces.invariant.3 blocks tree draft in
-    let border = c.pieces.invariant.2 c.pieces-test.true in
-    let most = c.piece_len-len.ensures.most in
-    let same = same_nodes tree n had.node node had.was was in
-    let small = subst (λ (one : Node). cost (with_text c.args.offset text one.body) - cost one.body ≤ free tree)
-    (sym same) room in
-    sym c.in-Ok-false-write_piece.field-0-test
-    ∙ c.in-Ok-false-write_piece.ensures.room blocks
-    (middle c.args.offset done len text c.pieces.invariant.0 c.piece_len-len.ensures.some
-    (omega (arith, most, c.pieces-test.true)) border tree n had.node)
-    (rewritten c.args.offset _ had.node) had.is (here_next tree n _)
-    (subst (λ k. cost (with_text (c.args.offset + done) (take k (drop done text))
-    (with_text c.args.offset (take done text) had.node.body))
-    - cost (with_text c.args.offset (take done text) had.node.body)
-    ≤ free (with_node tree n (rewritten c.args.offset (take done text) had.node))) (sym (part_len done len))
-    (room_left c.args.offset done len text c.pieces.invariant.0 c.piece_len-len.ensures.some
-    (omega (arith, most, c.pieces-test.true)) border tree n had.node had.was small))
+pub returns-in-Regular-clause-ok : goal.returns-in-Regular-clause-ok
+returns-in-Regular-clause-ok c =
+    mapped _ _ (λ done leads yes blocks tree draft. leads yes blocks tree draft (told_of c blocks tree draft))
+    c.write_all.result c.write_all.ensures.ok
 
-pub pieces-preserved : goal.pieces-preserved
-pieces-preserved c =
-    let offset = c.args.offset in
-    let done = c.pieces.done in
-    let len = c.piece_len-len.result in
-    let text = c.args.text.now in
+pub returns-in-Regular-clause-room : goal.returns-in-Regular-clause-room
+returns-in-Regular-clause-room c =
+    mapped _ _ (λ done leads blocks tree node draft was room.
+    leads blocks tree node draft (told_of c blocks tree draft) was room)
+    c.write_all.result c.write_all.ensures.room
+
+pub returns-in-Regular-clause-pause : goal.returns-in-Regular-clause-pause
+returns-in-Regular-clause-pause c =
+    IfErr-weaker c.write_all.result _ _ (λ why pauses blocks tree draft.
+    pauses blocks tree draft (told_of c blocks tree draft)) c.write_all.ensures.pause
+
+pub returns-in-Directory-clause-ok : goal.returns-in-Directory-clause-ok
+returns-in-Directory-clause-ok c = λ yes blocks tree draft.
     let n = c.args.number in
-    let some = c.pieces.invariant.0 in
-    let more = c.piece_len-len.ensures.some in
-    let most = c.piece_len-len.ensures.most in
-    let low = c.pieces-test.true in
-    let border = c.pieces.invariant.2 low in
-    let within = c.piece_len-len.ensures.within in
-    let whole = c.piece_len-len.ensures.whole in
-    let spends = c.in-Ok-true-write_piece.ensures.spent in
-    let spent = c.pieces.invariant.5 in (
-      omega (arith, some),
-      omega (arith, most, low),
-      λ less. omega (arith, whole (omega (arith, less, low))),
-      λ blocks tree draft.
-          let had = c.pieces.invariant.3 blocks tree draft in
-          one_more offset done len text some more (omega (arith, most, low)) border tree n c.pieces.draft
-          c.write_piece-in-pieces.new.draft blocks had
-          (subst (λ k. WritesText c.write_piece-in-pieces.new.draft blocks
-          (with_node tree n (rewritten offset (take done text) had.node)) n (offset + done) (take k (drop done text)))
-          (part_len done len)
-          (c.in-Ok-true-write_piece.ensures.ok c.in-Ok-true-write_piece.field-0-test blocks
-          (middle offset done len text some more (omega (arith, most, low)) border tree n had.node) had.is)),
-      c.in-Ok-true-write_piece.ensures.seen ∙ c.pieces.invariant.4,
-      omega (arith, spends, spent, border, within, some, more),
-    )
+    let inode = c.in-Ok-Some.inode in
+    let there = c.args.draft.now.there in
+    let base = image_of blocks c.args.draft.now in
+    let told = told_there c.args.draft.now c.there.result.now blocks tree n (Some inode) c.there.ensures.there
+    (rw c.in-Ok-Some.field-0-is at c.in-Ok-Some.ensures.ok) draft in
+    let node = node_with inode (body_in there.geometry base inode) in
+    record {
+      node = node;
+      was = told.1;
+      is = record {
+        shows = draft.shows;
+        holds = same_holds there.geometry base tree n node (rewritten c.args.offset c.args.text.now node) draft.holds
+            told.1 (same_file there base tree n inode node c.args.offset c.args.text.now told told.1
+            (λ other. let clash : kinds.Directory ≡ kinds.Regular = sym c.in-Directory.is ∙ other in cc));
+      };
+    }
+
+pub returns-in-Link-clause-ok : goal.returns-in-Link-clause-ok
+returns-in-Link-clause-ok c = λ yes blocks tree draft.
+    let n = c.args.number in
+    let inode = c.in-Ok-Some.inode in
+    let there = c.args.draft.now.there in
+    let base = image_of blocks c.args.draft.now in
+    let told = told_there c.args.draft.now c.there.result.now blocks tree n (Some inode) c.there.ensures.there
+    (rw c.in-Ok-Some.field-0-is at c.in-Ok-Some.ensures.ok) draft in
+    let node = node_with inode (body_in there.geometry base inode) in
+    record {
+      node = node;
+      was = told.1;
+      is = record {
+        shows = draft.shows;
+        holds = same_holds there.geometry base tree n node (rewritten c.args.offset c.args.text.now node) draft.holds
+            told.1 (same_file there base tree n inode node c.args.offset c.args.text.now told told.1
+            (λ other. let clash : kinds.Link ≡ kinds.Regular = sym c.in-Link.is ∙ other in cc));
+      };
+    }

@@ -1,4 +1,4 @@
-use Rattle.std.proofs.Common.{rules, refl, ◌≡◌, sym, All, ap, ◌∙◌, subst, false, List}
+use Rattle.std.proofs.Common.{rules, refl, ◌≡◌, sym, All, ap, ◌∙◌, subst, false, List, [], ◌∷◌, ◌++◌}
 use Rattle.std.proofs.lemmas.List.Elements.{All-push}
 use Rattle.layout.specs.Objects.{IsObject}
 use Rattle.inode.specs.Snap.{MayWrite}
@@ -12,6 +12,7 @@ use Rattle.drafts.specs.Laid.{laid}
 use Rattle.layout.specs.declared.geometry.Geometry.{Geometry}
 use Rattle.drafts.proofs.Kept.{kept_with}
 use Rattle.drafts.proofs.LaidObjects.{seen_laid}
+use Rattle.drafts.proofs.Spent.{more_fresh, more_once, more_spent, same_fresh, same_once}
 use Rattle.drafts.proofs.Written.{behind_others, shows_laid}
 use Rattle.drafts.proofs.draft.Draft.put.Goals as goal
 
@@ -84,3 +85,37 @@ returns-clause-image c = λ blocks.
   where
     block : c.new-object.result.addr.block.0 ≡ c.args.addr.block.0
     block = ap (λ (a : Addr). a.block.0) c.new-object.ensures.addr
+
+pub returns-clause-spent : goal.returns-clause-spent
+returns-clause-spent c =
+    more_spent c.args.self.now.written c.push.new.self.items c.new-object.result c.args.addr c.new-object.ensures.addr
+    (c.in-Ok.ensures.items ∙ ap (λ (d : Drafted). d.written ++ c.new-object.result ∷ []) c.self.view_is)
+
+pub returns-clause-once : goal.returns-clause-once
+returns-clause-once c =
+    more_once c.args.self.now _ c.new-object.result c.args.addr c.new-object.ensures.addr
+    (c.in-Ok.ensures.items ∙ ap (λ (d : Drafted). d.written ++ c.new-object.result ∷ []) c.self.view_is)
+
+pub returns-clause-stays : goal.returns-clause-stays
+returns-clause-stays c =
+    more_fresh c.args.self.now _ c.new-object.result c.args.addr c.new-object.ensures.addr
+    (c.in-Ok.ensures.items ∙ ap (λ (d : Drafted). d.written ++ c.new-object.result ∷ []) c.self.view_is)
+
+pub returns-in_err-reserve-clause-once : goal.returns-in_err-reserve-clause-once
+returns-in_err-reserve-clause-once c =
+    same_once c.args.self.now _ c.args.addr.block.0 c.args.addr.offset c.args.addr.len
+    (ap (λ (d : Drafted). d.written) c.self.view_is)
+
+pub returns-in_err-reserve-clause-stays : goal.returns-in_err-reserve-clause-stays
+returns-in_err-reserve-clause-stays c = λ block offset len.
+    same_fresh c.args.self.now _ block offset len (ap (λ (d : Drafted). d.written) c.self.view_is)
+
+pub returns-in-Err-clause-once : goal.returns-in-Err-clause-once
+returns-in-Err-clause-once c =
+    same_once c.args.self.now _ c.args.addr.block.0 c.args.addr.offset c.args.addr.len
+    (c.in-Err.ensures.items ∙ ap (λ (d : Drafted). d.written) c.self.view_is)
+
+pub returns-in-Err-clause-stays : goal.returns-in-Err-clause-stays
+returns-in-Err-clause-stays c = λ block offset len.
+    same_fresh c.args.self.now _ block offset len
+    (c.in-Err.ensures.items ∙ ap (λ (d : Drafted). d.written) c.self.view_is)

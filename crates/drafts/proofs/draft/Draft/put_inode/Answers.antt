@@ -5,6 +5,7 @@ use Rattle.layout.specs.Places.{inode_block}
 use Rattle.inode.specs.declared.snap.Snap.{Snap}
 use Rattle.drafts.specs.Drafted.{Shows, image_of}
 use Rattle.drafts.proofs.PutThere.{put_there}
+use Rattle.drafts.proofs.Spent.{inode_once}
 use Rattle.drafts.proofs.draft.Draft.put_inode.Goals as goal
 
 pub put-requires-clause-object : goal.put-requires-clause-object
@@ -29,3 +30,15 @@ returns-clause-image c = λ blocks.
     c.inode_addr.result c.in_ok-bytes.bytes.items (inode_bytes c.args.inode.now)
     (c.inode_addr.ensures.block ∙ ap (λ (s : Snap). inode_block s.geometry c.args.number) c.there.ensures.there)
     c.inode_addr.ensures.offset c.in_ok-bytes.ensures.bytes
+
+pub returns-clause-once : goal.returns-clause-once
+returns-clause-once c =
+    inode_once c.args.self.now c.put.new.self c.args.number c.put.ensures.geometry c.inode_addr.result
+    (c.inode_addr.ensures.block ∙ ap (λ (s : Snap). inode_block s.geometry c.args.number) c.there.ensures.there)
+    c.inode_addr.ensures.offset c.inode_addr.ensures.len c.put.ensures.once
+
+pub returns-in_err-put-clause-once : goal.returns-in_err-put-clause-once
+returns-in_err-put-clause-once c =
+    inode_once c.args.self.now c.put.new.self c.args.number c.put.ensures.geometry c.inode_addr.result
+    (c.inode_addr.ensures.block ∙ ap (λ (s : Snap). inode_block s.geometry c.args.number) c.there.ensures.there)
+    c.inode_addr.ensures.offset c.inode_addr.ensures.len c.put.ensures.once

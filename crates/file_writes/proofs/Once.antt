@@ -1,0 +1,108 @@
+-- What a piece spends for its file: its own block, and the inode and the indirect block where they are new.
+use Rattle.std.proofs.Common.{◌≡◌, ℕ, ◌+◌, ◌≤◌, ap, Bool, true, false, cond, nat_eq, arith}
+use Rattle.limits.specs.declared.TheConstants.{BLOCK_BYTES}
+use Rattle.objects.specs.declared.addr.Addr.{Addr}
+use Rattle.layout.specs.declared.geometry.Geometry.{Geometry}
+use Rattle.layout.specs.Places.{is_data}
+use Rattle.drafts.specs.Drafted.{Drafted, fresh, fresh_block, fresh_inode, is_written, spent}
+use Rattle.drafts.proofs.Spent.{inode_stays}
+use Rattle.file_writes.specs.Spent.{unspent}
+use Rattle.file_writes.proofs.PieceWritten.{not_zero}
+
+one_at_most : (t : Bool) → cond t 0 1 ≤ 1
+one_at_most true = omega arith
+one_at_most false = omega arith
+
+fresh_few : (block offset len : ℕ) (draft : Drafted) → fresh block offset len draft ≤ 1
+unfolding fresh
+fresh_few block offset len draft = one_at_most (is_written block offset len draft.written)
+
+inode_few : (draft : Drafted) (n : ℕ) → fresh_inode draft n ≤ 1
+unfolding fresh_inode
+inode_few draft n = fresh_few _ _ _ draft
+
+block_few : (draft : Drafted) (far : ℕ) → fresh_block draft far ≤ 1
+unfolding fresh_block
+block_few draft far = fresh_few _ _ _ draft
+
+-- a whole block that is written
+pub block_once : (old new : Drafted) (n : ℕ) (addr : Addr) → addr.block.0 ≡ n → addr.offset ≡ 0
+    → addr.len ≡ BLOCK_BYTES
+    → spent new + fresh addr.block.0 addr.offset addr.len new
+    ≤ spent old + fresh addr.block.0 addr.offset addr.len old
+    → spent new + fresh_block new n ≤ spent old + fresh_block old n
+unfolding fresh_block
+block_once old new n addr block offset len once =
+    let one : ◌≡◌ {A = ℕ} (fresh addr.block.0 addr.offset addr.len new) (fresh n 0 BLOCK_BYTES new) =
+    (λ i. fresh (block i) (offset i) (len i) new) in
+    let two : ◌≡◌ {A = ℕ} (fresh addr.block.0 addr.offset addr.len old) (fresh n 0 BLOCK_BYTES old) =
+    (λ i. fresh (block i) (offset i) (len i) old) in
+    omega (arith, one, two, once)
+
+-- both at most
+pub unspent_few : (draft : Drafted) (n far : ℕ) → unspent draft n far ≤ 2
+unfolding unspent
+unspent_few draft n far =
+    let one = inode_few draft n in
+    let two = by_test (nat_eq far 0) (fresh_block draft far) (block_few draft far) in omega (arith, one, two)
+  where
+    by_test : (t : Bool) (k : ℕ) → k ≤ 1 → cond t 1 k ≤ 1
+    by_test true k few = omega arith
+    by_test false k few = few
+
+-- a file that has no indirect block yet takes this one
+pub unspent_first : (draft : Drafted) (n far none : ℕ) → nat_eq none 0 ≡ true
+    → unspent draft n far ≤ unspent draft n none
+unfolding unspent
+unspent_first draft n far none is =
+    let new : ◌≡◌ {A = ℕ} (cond (nat_eq none 0) 1 (fresh_block draft none)) 1 =
+    ap (λ t. cond t 1 (fresh_block draft none)) is in
+    let few = by_test (nat_eq far 0) (fresh_block draft far) (block_few draft far) in omega (arith, new, few)
+  where
+    by_test : (t : Bool) (k : ℕ) → k ≤ 1 → cond t 1 k ≤ 1
+    by_test true k few = omega arith
+    by_test false k few = few
+
+module _ (old new : Drafted) (n far : ℕ) (geometry : new.there.geometry ≡ old.there.geometry)
+    (stays : (block offset len : ℕ) → fresh block offset len new ≤ fresh block offset len old) where
+  block_stays : fresh_block new far ≤ fresh_block old far
+  unfolding fresh_block
+  block_stays = stays far 0 BLOCK_BYTES
+
+  far_stays : cond (nat_eq far 0) 1 (fresh_block new far) ≤ cond (nat_eq far 0) 1 (fresh_block old far)
+  far_stays = by_test (nat_eq far 0) (fresh_block new far) (fresh_block old far) block_stays
+    where
+      by_test : (t : Bool) (j k : ℕ) → j ≤ k → cond t 1 j ≤ cond t 1 k
+      by_test true j k less = omega arith
+      by_test false j k less = less
+
+  pub unspent_stays : unspent new n far ≤ unspent old n far
+  unfolding unspent
+  unspent_stays =
+      let one = inode_stays old new n geometry stays in let two = far_stays in omega (arith, one, two)
+
+  -- behind a write that spends nothing
+  pub nothing_spent : spent new ≤ spent old → spent new + unspent new n far ≤ spent old + unspent old n far
+  nothing_spent less = let one = unspent_stays in omega (arith, one, less)
+
+  -- behind a block of one's own
+  pub one_spent : spent new ≤ spent old + 1 → spent new + unspent new n far ≤ spent old + unspent old n far + 1
+  one_spent less = let one = unspent_stays in omega (arith, one, less)
+
+  -- behind the inode
+  pub inode_spent : spent new + fresh_inode new n ≤ spent old + fresh_inode old n
+      → spent new + unspent new n far ≤ spent old + unspent old n far
+  unfolding unspent
+  inode_spent once = let one = far_stays in omega (arith, one, once)
+
+  -- behind the indirect block
+  pub far_spent : (g : Geometry) → is_data g far ≡ true
+      → spent new + fresh_block new far ≤ spent old + fresh_block old far
+      → spent new + unspent new n far ≤ spent old + unspent old n far
+  unfolding unspent
+  far_spent g lies once =
+      let is : ◌≡◌ {A = ℕ} (cond (nat_eq far 0) 1 (fresh_block new far)) (fresh_block new far) =
+      ap (λ t. cond t 1 (fresh_block new far)) (not_zero g far lies) in
+      let was : ◌≡◌ {A = ℕ} (cond (nat_eq far 0) 1 (fresh_block old far)) (fresh_block old far) =
+      ap (λ t. cond t 1 (fresh_block old far)) (not_zero g far lies) in
+      let one = inode_stays old new n geometry stays in omega (arith, one, is, was, once)
