@@ -1,5 +1,5 @@
 -- The blocks that are in memory besides the log's, and how often each block is pinned.
-use Rattle.std.specs.Prelude.{◌≡◌, ℕ, ◌+◌, ◌-◌, Bool, ◌||◌, true, if◌then◌else◌, List, All, is_none, nat_eq, nat_lt}
+use Rattle.std.specs.Prelude.{◌≡◌, ℕ, ◌+◌, ◌-◌, Bool, ◌||◌, if◌then◌else◌, List, is_none, nat_eq, nat_lt}
 use Rattle.std.specs.List.{filter}
 use Rattle.std.specs.Map.{lookup}
 use Rattle.std.specs.Option.{unwrap_or}
@@ -7,7 +7,7 @@ use Rattle.disk.specs.declared.block.BlockNo.{BlockNo}
 use Rattle.objects.specs.declared.present.Present.{Present}
 
 -- The blocks in memory, and the counts of pins by the blocks' numbers. A block may be pinned while it isn't in
--- memory.
+-- memory, and in memory while it isn't pinned.
 pub record Resident : Type 0 where
   pub blocks : List Present
   pub counts : List (ℕ × ℕ)
@@ -28,13 +28,13 @@ once_at block at = if nat_eq at.0 block.0 then 1 else 0
 abbrev pub is_wanted : (BlockNo → ℕ) → Present → Bool
 is_wanted pins resident = is_none resident.content || nat_lt 0 (pins resident.block)
 
--- each block in memory is pinned, or its fetch is pending
-abbrev pub AreWanted : (BlockNo → ℕ) → List Present → Type 0
-AreWanted pins blocks = All (λ resident. is_wanted pins resident ≡ true) blocks
+-- the blocks that are pinned, or whose fetch is pending, and those that are spared besides
+abbrev pub spared : (Present → Bool) → (BlockNo → ℕ) → List Present → List Present
+spared spare pins blocks = filter (λ resident. spare resident || is_wanted pins resident) blocks
 
--- the blocks that are pinned, or whose fetch is pending
-abbrev pub wanted : (BlockNo → ℕ) → List Present → List Present
-wanted pins blocks = filter (is_wanted pins) blocks
+-- no block goes that is pinned, or whose fetch is pending, and what stays is as it was
+abbrev pub LetsGo : (BlockNo → ℕ) → List Present → List Present → Type 0
+LetsGo pins old new = (spare : Present → Bool) × (new ≡ spared spare pins old)
 
 -- each block is pinned so many times as before
 abbrev pub PinsStay : Resident → Resident → Type 0
@@ -44,7 +44,7 @@ PinsStay old new = (at : BlockNo) → pins_of new at ≡ pins_of old at
 abbrev pub Pins : Resident → (BlockNo → ℕ) → Resident → Type 0
 Pins old more new = ((at : BlockNo) → pins_of new at ≡ pins_of old at + more at) × (new.blocks ≡ old.blocks)
 
--- each block is pinned so many times less, and those go that nobody wants then
+-- each block is pinned so many times less, and some may go that nobody wants then
 abbrev pub Unpins : Resident → (BlockNo → ℕ) → Resident → Type 0
 Unpins old less new =
-    ((at : BlockNo) → pins_of new at ≡ pins_of old at - less at) × (new.blocks ≡ wanted (pins_of new) old.blocks)
+    ((at : BlockNo) → pins_of new at ≡ pins_of old at - less at) × LetsGo (pins_of new) old.blocks new.blocks

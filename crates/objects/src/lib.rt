@@ -3,11 +3,13 @@
 
 mod addr;
 mod blocks;
+mod clean;
 mod mode;
 mod object;
 mod parts;
 mod pins;
 mod present;
+mod recent;
 mod residency;
 mod shared;
 

@@ -1,11 +1,14 @@
 //! The blocks in memory.
-ghost use Rattle.std.specs.Prelude.{◌≡◌, ◌<◌, ◌+◌, ◌-◌, ◌^◌, ◌↔◌, IsTrue, OnErr, OnOk, [], option_map};
+ghost use Rattle.std.specs.Prelude.{◌≡◌, ◌<◌, ◌+◌, ◌-◌, ◌^◌, ◌↔◌, Bool, IsTrue, OnErr, OnOk, [], option_map};
 ghost use Rattle.disk.specs.declared.block.BlockNo.{BlockNo};
-ghost use Rattle.objects.specs.Pins.{AreWanted, Pins, PinsStay, Unpins, once_at, pins_of, wanted};
+ghost use Rattle.objects.specs.Pins.{Pins, PinsStay, Unpins, once_at, pins_of, spared};
 ghost use Rattle.objects.specs.Present.{present_of, content_in, is_pending, IsOnce, with_block, filled};
 ghost use Rattle.objects.specs.Present.{without_pending, without_block, renewed};
+ghost use Rattle.objects.specs.declared.present.Present.{Present as Resident};
 
-use crate::blocks::{add, fill, is_there, let_go, present_of, renew_each, take_back, unpin};
+use crate::blocks::{add, fill, is_there, let_go, present_of, renew_each, take_back};
+use crate::clean::keep_clean;
+use crate::recent::Recent;
 use crate::{Present, pins};
 use disk::{Block, BlockNo};
 use std::alloc::{AllocError, Global};
@@ -14,12 +17,14 @@ use std::marker::Model;
 
 /// The blocks in memory besides the log's, each with its current content, those whose fetch is pending, and how
 /// often each block is pinned. Its type keeps that a block has one resident, so that at most one fetch of it is
-/// pending, and that nothing is in memory that isn't pinned. A block may be pinned while it isn't in memory.
+/// pending. A block may be pinned while it isn't in memory, and may be in memory while nobody has pinned it.
 #[derive(Drop)]
 pub struct Residency {
     blocks: Vec<Present>,
     // How often a block is pinned, by its number.
     pins: HashMap<u32, u64>,
+    // Which of those that nobody has pinned go first.
+    recent: Recent,
 }
 
 impl Model for Residency {
@@ -33,10 +38,8 @@ impl Model for Residency {
     } };
 
     ghost use Rattle.objects.specs.Present.{IsOnce};
-    ghost use Rattle.objects.specs.Pins.{AreWanted, count_in};
 
-    ghost invariant = { λ residency. IsOnce residency.blocks.items
-        × AreWanted (count_in residency.pins.entries) residency.blocks.items };
+    ghost invariant = { λ residency. IsOnce residency.blocks.items };
 }
 
 impl Residency {
@@ -48,13 +51,13 @@ impl Residency {
         Residency {
             blocks: Vec::new(alloc),
             pins: HashMap::new(alloc),
+            recent: Recent::new(alloc),
         }
     }
 
-    /// A block has one resident, and is pinned, or its fetch is pending.
+    /// A block has one resident.
     pub fn lawful(&self)
-        ensures once { IsOnce self.now.blocks }
-        ensures wanted { AreWanted (pins_of self.now) self.now.blocks }
+        ensures { IsOnce self.now.blocks }
     {
         let _ = &self.blocks;
     }
@@ -123,13 +126,22 @@ impl Residency {
         Ok(())
     }
 
-    /// Takes one pin off a block. It goes from memory with the last one, but a fetch that is pending stays so.
+    /// Takes one pin off a block. After the last one it may stay in memory, or go, and another that nobody has
+    /// pinned may go for it. A fetch that is pending stays so.
     pub fn unpin(&mut self, block: BlockNo)
         ensures { Unpins self.old (once_at block) self.new }
     {
         if pins::take(&mut self.pins, block) == 0 {
-            unpin(&mut self.blocks, block);
+            keep_clean(&mut self.blocks, &self.pins, &mut self.recent, block);
         }
+    }
+
+    /// Takes one pin off a block again, as one that was put on it in vain. What is in memory stays.
+    pub fn take_pin_back(&mut self, block: BlockNo)
+        ensures pins { (at : BlockNo) → pins_of self.new at ≡ pins_of self.old at - once_at block at }
+        ensures blocks { self.new.blocks ≡ self.old.blocks }
+    {
+        let _ = pins::take(&mut self.pins, block);
     }
 
     /// Takes one pin off a block and lets it go, whether it is in memory or is being fetched, as one that was
@@ -142,15 +154,16 @@ impl Residency {
         take_back(&mut self.blocks, block);
     }
 
-    /// Puts the content of a block in its place, where its fetch is pending. It goes where nobody has pinned it.
+    /// Puts the content of a block in its place, where its fetch is pending. Where nobody has pinned it, it may stay
+    /// or go, and another that nobody has pinned may go for it.
     pub fn fetched(&mut self, block: BlockNo, content: Block)
-        ensures { self.new ≡ record self.old {
-          blocks = wanted (pins_of self.old) (filled self.old.blocks block content);
-        } }
+        ensures { (spare : Resident → Bool) × (self.new ≡ record self.old {
+          blocks = spared spare (pins_of self.old) (filled self.old.blocks block content);
+        }) }
     {
         fill(&mut self.blocks, block, content);
         if pins::count_of(&self.pins, block) == 0 {
-            unpin(&mut self.blocks, block);
+            keep_clean(&mut self.blocks, &self.pins, &mut self.recent, block);
         }
     }
 

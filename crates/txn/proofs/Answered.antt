@@ -140,7 +140,7 @@ module _ (P : ℕ → ℕ → List ObjectBytes → List ObjectBytes → Type 0) 
       → P plan.blocks plan.inodes plan.read plan.written → IsLawfulCore P old → IsLawfulCore P new
   commit_law old new tx plan change (commit.Committed place) h lawful whole is_plan core =
       subst (λ (now : CoreState). IsLawfulCore P now) (sym h.core)
-      (lawful_commit P old tx plan h.group.group new.log h.tried.own h.group.sizes h.group.blocks
+      (lawful_commit P h.spare old tx plan h.group.group new.log h.tried.own h.group.sizes h.group.blocks
       h.group.contents
       h.group.grown h.still.blocks lawful whole is_plan core)
   commit_law old new tx plan change (commit.Full back same) h lawful whole is_plan core =
@@ -158,7 +158,7 @@ pub commit_keeps : {C : Type 0} (old new : CoreState) (tx : ℕ) (plan : Planned
     → IsLawful old.log → AreTidy old → IsCommitExactly old tx plan change answer new → KeepsHome old new
 commit_keeps old new tx plan change (commit.Committed place) lawful tidy h base home =
     subst (λ (now : CoreState). IsHomeOf base now) (sym h.core)
-    (commit_home base old tx plan h.group.group new.log lawful tidy h.tried.own h.group.sizes h.group.blocks
+    (commit_home h.spare base old tx plan h.group.group new.log lawful tidy h.tried.own h.group.sizes h.group.blocks
     h.group.contents h.group.grown h.still.blocks home)
 commit_keeps old new tx plan change (commit.Full back same) lawful tidy h base home =
     same_home old new h.0.core base home
@@ -263,7 +263,7 @@ pub commit_reads : {C : Type 0} (P : ℕ → ℕ → List ObjectBytes → List O
     → IsCommitExactly old tx plan change answer new → (other : ℕ) → (other ≡ tx → ⊥) → KeepsReads old new other
 commit_reads P old new tx plan change (commit.Committed place) core h other differ =
     subst (λ (now : CoreState). KeepsReads old now other) (sym h.core)
-    (reads_commit core.home.0 old tx plan h.group.group new.log other core.log core.tidy
+    (reads_commit h.spare core.home.0 old tx plan h.group.group new.log other core.log core.tidy
     h.tried.own h.group.sizes
     h.group.blocks h.group.contents h.group.grown h.still.blocks core.home.1 differ)
 commit_reads P old new tx plan change (commit.Full back same) core h other differ =
@@ -314,7 +314,7 @@ place_leaves old new tx plan place tidy h = record {
   }) (sym h.core);
   leaves = subst (λ (core : CoreState). Leaves core (but_by tx (taken_by old)) (is_fetching old)
       (λ block. refreshed_content (in_memory old block) (newest new.log block.0))) (sym h.core)
-      (leaves_commit old tx plan new.log tidy);
+      (leaves_commit h.spare old tx plan new.log tidy);
   law = h.law;
 }
 

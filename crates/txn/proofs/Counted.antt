@@ -10,7 +10,7 @@ use Rattle.std.specs.List.{list_any, filter}
 use Rattle.std.specs.Prelude.{is_some}
 use Rattle.disk.specs.declared.block.BlockNo.{BlockNo}
 use Rattle.objects.specs.Object.{ObjectBytes}
-use Rattle.objects.specs.Pins.{once_at, wanted}
+use Rattle.objects.specs.Pins.{once_at, spared}
 use Rattle.objects.specs.declared.addr.Addr.{Addr}
 use Rattle.objects.specs.declared.present.Present.{Present}
 use Rattle.objects.proofs.Residents.{same_block}
@@ -87,12 +87,12 @@ kept_is records at =
     (λ (object : ObjectBytes). once_at object.addr.block at) (λ object. once_some object.addr.block at) kept.read)
     records
 
--- what is pinned is what a sweep leaves
-pub swept_is : (holds : List Hold) (records : List Footprint) (pins : BlockNo → ℕ) (blocks : List Present)
-    → ((at : BlockNo) → pins at ≡ holds_in holds at + reads_in records at)
-    → wanted pins blocks ≡ swept holds records blocks
-swept_is holds records pins blocks counted =
-    λ i. filter (λ resident. one resident i) blocks
+-- what is pinned is what a sweep leaves, besides what is spared
+pub swept_is : (spare : Present → Bool) (holds : List Hold) (records : List Footprint) (pins : BlockNo → ℕ)
+    (blocks : List Present) → ((at : BlockNo) → pins at ≡ holds_in holds at + reads_in records at)
+    → spared spare pins blocks ≡ swept spare holds records blocks
+swept_is spare holds records pins blocks counted =
+    λ i. filter (λ resident. spare resident || one resident i) blocks
   where
     or_assoc : (u a b : Bool) → (u || (a || b)) ≡ ((u || a) || b)
     or_assoc true a b = refl

@@ -40,29 +40,29 @@ recorded f log plan installed place xs x first last is =
     go false = refl
 
 -- a commit leaves what it should, told by the parts
-pub committed_is : (old new : CoreState) (tx : ℕ) (plan : Planned) (log : Log) (present : List Present)
-    (records : List Footprint)
-    → new ≡ ended (record old { log = log; present = present; records = records }) tx
+pub committed_is : (spare : Present → Bool) (old new : CoreState) (tx : ℕ) (plan : Planned) (log : Log)
+    (present : List Present) (records : List Footprint)
+    → new ≡ ended spare (record old { log = log; present = present; records = records }) tx
     → present ≡ refreshed log old.present → records ≡ with_record log log.places plan old.records
-    → new ≡ committed old tx plan new.log
-committed_is old new tx plan log present records is here kept =
-    let one : new ≡ committed old tx plan log =
-    is ∙ ap (λ (xs : List Present). ended (record old { log = log; present = xs; records = records }) tx) here
-    ∙ ap (λ (rs : List Footprint). ended (record old
+    → new ≡ committed spare old tx plan new.log
+committed_is spare old new tx plan log present records is here kept =
+    let one : new ≡ committed spare old tx plan log =
+    is ∙ ap (λ (xs : List Present). ended spare (record old { log = log; present = xs; records = records }) tx) here
+    ∙ ap (λ (rs : List Footprint). ended spare (record old
     { log = log; present = refreshed log old.present; records = rs })
     tx) kept in
-    one ∙ ap (λ (l : Log). committed old tx plan l) (sym (ap (λ (core : CoreState). core.log) one))
+    one ∙ ap (λ (l : Log). committed spare old tx plan l) (sym (ap (λ (core : CoreState). core.log) one))
 
 -- an end of a transaction leaves what it should, told by the parts
-pub ended_is : (old : CoreState) (tx : ℕ) (out : List ℕ) (holds : List Hold) (present : List Present)
+pub ended_is : (spare : Present → Bool) (old : CoreState) (tx : ℕ) (out : List ℕ) (holds : List Hold) (present : List Present)
     → out ≡ without tx old.out → holds ≡ released old.holds tx
-    → present ≡ swept (released old.holds tx) old.records old.present
-    → record old { out = out; holds = holds; present = present } ≡ ended old tx
-ended_is old tx out holds present o h p = λ i. record old { out = o i; holds = h i; present = p i }
+    → present ≡ swept spare (released old.holds tx) old.records old.present
+    → record old { out = out; holds = holds; present = present } ≡ ended spare old tx
+ended_is spare old tx out holds present o h p = λ i. record old { out = o i; holds = h i; present = p i }
 
 -- so does an installation
-pub installed_is : (old : CoreState) (log : Log) (records : List Footprint) (present : List Present)
-    → records ≡ past (installed_place log) old.records
-    → present ≡ swept old.holds (past (installed_place log) old.records) old.present
-    → record old { log = log; records = records; present = present } ≡ installed old log
-installed_is old log records present r p = λ i. record old { log = log; records = r i; present = p i }
+pub installed_is : (spare : Present → Bool) (old : CoreState) (log : Log) (records : List Footprint)
+    (present : List Present) → records ≡ past (installed_place log) old.records
+    → present ≡ swept spare old.holds (past (installed_place log) old.records) old.present
+    → record old { log = log; records = records; present = present } ≡ installed spare old log
+installed_is spare old log records present r p = λ i. record old { log = log; records = r i; present = p i }

@@ -12,7 +12,7 @@ use Rattle.wal_law.specs.Effects.{is_all_home, HasAppended, HasGoneOn}
 use Rattle.wal_law.specs.declared.change.LogChange.{LogChange}
 use Rattle.txn_law.specs.Commit.{Planned, footprint, with_record, refreshed}
 use Rattle.txn_law.specs.Core.{past}
-use Rattle.objects.specs.Pins.{Resident, Pins, PinsStay, Unpins, is_wanted, pins_of, wanted}
+use Rattle.objects.specs.Pins.{Resident, Pins, PinsStay, Unpins, is_wanted, pins_of, spared}
 use Rattle.objects.specs.Present.{present_of, with_block, filled, without_pending}
 use Rattle.objects.specs.declared.present.Present.{Present}
 use Rattle.objects.proofs.Kept.{with_absent}
@@ -116,13 +116,13 @@ neat_failed log holds records old block neat = record {
 }
 
 -- where a block was fetched
-pub neat_fetched : (log : Log) (holds : List Hold) (records : List Footprint) (old : Resident)
+pub neat_fetched : (spare : Present → Bool) (log : Log) (holds : List Hold) (records : List Footprint) (old : Resident)
     (block : BlockNo) (content : Content) → IsNeat log holds records old
     → IsNeat log holds records
-    (record old { blocks = wanted (pins_of old) (filled old.blocks block content) })
-neat_fetched log holds records old block content neat = record {
+    (record old { blocks = spared spare (pins_of old) (filled old.blocks block content) })
+neat_fetched spare log holds records old block content neat = record {
   counted = neat.counted;
-  logged = All-filter (is_wanted (pins_of old)) (IsAsLogged log) (filled old.blocks block content)
+  logged = All-filter (λ resident. spare resident || is_wanted (pins_of old) resident) (IsAsLogged log) (filled old.blocks block content)
       (logged_filled log block content old.blocks neat.logged);
   kept = neat.kept;
 }
@@ -131,8 +131,8 @@ neat_fetched log holds records old block content neat = record {
 logged_left : (log : Log) (old new : Resident) (less : BlockNo → ℕ) → Unpins old less new
     → All (IsAsLogged log) old.blocks → All (IsAsLogged log) new.blocks
 logged_left log old new less unpins h =
-    subst (λ (blocks : List Present). All (IsAsLogged log) blocks) (sym unpins.1)
-    (All-filter (is_wanted (pins_of new)) (IsAsLogged log) old.blocks h)
+    subst (λ (blocks : List Present). All (IsAsLogged log) blocks) (sym unpins.1.1)
+    (All-filter (λ resident. unpins.1.0 resident || is_wanted (pins_of new) resident) (IsAsLogged log) old.blocks h)
 
 -- where a transaction has ended
 pub neat_ended : (log : Log) (holds : List Hold) (tx : ℕ) (records : List Footprint) (old new : Resident)

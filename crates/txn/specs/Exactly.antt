@@ -1,7 +1,8 @@
 -- What the answers of the private state say: as those of the core, and exactly what they make of its lists.
-use Rattle.std.specs.Prelude.{◌≡◌, ℕ, ◌+◌}
+use Rattle.std.specs.Prelude.{◌≡◌, ℕ, ◌+◌, Bool}
 use Rattle.objects.specs.declared.addr.Addr.{Addr}
 use Rattle.objects.specs.declared.mode.Mode.{Mode}
+use Rattle.objects.specs.declared.present.Present.{Present}
 use Rattle.wal_law.specs.Calls.{KeepsAgreement}
 use Rattle.wal_law.specs.Grows.{StandsStill}
 use Rattle.wal_law.specs.declared.outcomes.Room.TheVariants as room
@@ -29,7 +30,9 @@ pub record TakesPlaceExactly (old : CoreState) (tx : ℕ) (plan : Planned) (plac
   pub group : BringsGroup old plan new
   pub still : StandsStill old.log new.log
   pub places : new.log.places ≡ old.log.places + 1
-  pub core : new ≡ committed old tx plan new.log
+  -- which blocks stay in memory besides those that are needed
+  pub spare : Present → Bool
+  pub core : new ≡ committed spare old tx plan new.log
   pub law : KeepsAgreement old.log new.log
 
 abbrev pub IsCommitExactly : {C : Type 0} → CoreState → ℕ → Planned → C → Commit C → CoreState → Type 0

@@ -1,6 +1,6 @@
 -- What is true of the lists of every core: each block is pinned once for each hold of a part of it and once for each
 -- object that a kept commit read in it, each block in memory that the log has is what the log has, and each commit
--- that is kept is still to be installed. What isn't pinned goes from memory by itself.
+-- that is kept is still to be installed. What isn't pinned may stay in memory.
 use Rattle.std.specs.Prelude.{◌≡◌, ◌+◌, ◌<◌, ◌≤◌, Some, List, All}
 use Rattle.disk.specs.Device.{Content}
 use Rattle.disk.specs.declared.block.BlockNo.{BlockNo}

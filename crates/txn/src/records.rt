@@ -45,7 +45,6 @@ fn pin_each(present: &mut Residency, objects: &[Object])
 fn unpin_each(present: &mut Residency, objects: &[Object])
     ensures { Unpins present.old (objects_in objects.now) present.new }
 {
-    present.lawful();
     for object in objects {
         let block = object.addr().block;
         present.unpin(block);
@@ -87,7 +86,6 @@ fn forget_one<C: Change>(present: &mut Residency, kept: &Record<C>, installed: S
         else objects_in (C.planned kept.now.change).read at) present.new }
 {
     if is_past(kept.place, installed) {
-        present.lawful();
         return;
     }
     unpin_each(present, kept.change.read());
@@ -98,7 +96,6 @@ fn forget_each<C: Change>(present: &mut Residency, records: &VecDeque<Record<C>>
     ensures { Unpins present.old (λ at. total (λ kept. if nat_lt installed.0 kept.place.0 then 0
         else objects_in (C.planned kept.change).read at) records.now.items) present.new }
 {
-    present.lawful();
     for i in 0..records.len() {
         forget_one(present, &records[i], installed);
     }
@@ -124,7 +121,6 @@ fn unpin_hold(present: &mut Residency, transaction: u64, hold: &Hold)
         else once_at hold.now.addr.block at) present.new }
 {
     if hold.transaction != transaction {
-        present.lawful();
         return;
     }
     present.unpin(hold.addr.block);
@@ -134,7 +130,6 @@ fn unpin_hold(present: &mut Residency, transaction: u64, hold: &Hold)
 pub(crate) fn unpin_holds(present: &mut Residency, holds: &Table, transaction: u64)
     ensures { Unpins present.old (own_in transaction holds.now) present.new }
 {
-    present.lawful();
     for hold in holds.holds() {
         unpin_hold(present, transaction, hold);
     }

@@ -2,7 +2,7 @@
 //! commits that aren't installed.
 ghost use Rattle.std.specs.Prelude.{◌≡◌, ◌≤◌, ◌<◌, ◌+◌, ◌^◌, ◌↔◌, IsTrue, IsSome, IsNone, IfSome, IsErrOf, OnErr};
 ghost use Rattle.std.specs.List.{list_any};
-ghost use Rattle.std.specs.Prelude.{nat_eq, IfOk, ◌∷◌, true, false, is_some, if◌then◌else◌, [], length, All};
+ghost use Rattle.std.specs.Prelude.{Bool, nat_eq, IfOk, ◌∷◌, true, false, is_some, if◌then◌else◌, [], length, All};
 ghost use Rattle.limits.specs.declared.TheConstants.{CHANGED_BLOCKS};
 ghost use Rattle.wal_law.specs.Grows.{IsWholeChange};
 ghost use Rattle.wal_law.specs.Log.{settled_place, tail_count, added_blocks, IsHomeOn};
@@ -15,6 +15,7 @@ ghost use Rattle.wal_law.specs.Installer.{IsNextInstCall, may_install, with_inst
 ghost use Rattle.wal_law.specs.Installer.{with_inst_back};
 ghost use Rattle.txn_law.specs.Core.{IsOut, with_begun, without, ended, installed};
 ghost use Rattle.txn_law.specs.Wishes.{IsInside};
+ghost use Rattle.objects.specs.declared.present.Present.{Present};
 
 use crate::outcomes::BeginFault;
 use crate::records::{Record, forget, unpin_holds};
@@ -41,7 +42,7 @@ pub(crate) struct State<C: Change> {
     pub(crate) out: Vec<u64>,
     pub(crate) holds: Table,
     // Each block that is held or that a kept record read, with its current content, those that are being fetched,
-    // and how often each is pinned.
+    // and some that nobody needs, with their current contents; and how often each is pinned.
     pub(crate) present: Residency,
     // The commits that aren't installed, oldest first.
     pub(crate) records: VecDeque<Record<C>>,
@@ -150,15 +151,15 @@ impl<C: Change> State<C> {
 
     /// Ends a transaction without a change, and lets go of what it has taken.
     pub(crate) fn abort(&mut self, tx: Tx)
-        ensures { self.new ≡ ended self.old tx }
+        ensures { (spare : Present → Bool) × (self.new ≡ ended spare self.old tx) }
     {
         let Tx { number } = tx;
         self.close(number);
     }
 
-    // Lets go of what a transaction has taken, and of the blocks that nobody needs any more.
+    // Lets go of what a transaction has taken. Blocks that nobody needs any more may stay in memory, or go.
     pub(crate) fn close(&mut self, transaction: u64)
-        ensures { self.new ≡ ended self.old transaction }
+        ensures { (spare : Present → Bool) × (self.new ≡ ended spare self.old transaction) }
     {
         leave(&mut self.out, transaction);
         unpin_holds(&mut self.present, &self.holds, transaction);
@@ -267,14 +268,13 @@ impl<C: Change> State<C> {
         ensures log { self.new.log ≡ (if is_inst_out self.old.log io then with_inst_back self.old.log ok
             else self.old.log) }
         ensures blocks { self.new.log.blocks ≡ self.old.log.blocks }
-        ensures others { self.new ≡ installed self.old self.new.log }
+        ensures others { (spare : Present → Bool) × (self.new ≡ installed spare self.old self.new.log) }
         ensures law { InstCallComesBack self.old.log io ok self.new.log }
     {
         let before = self.log.installed();
         self.log.inst_done(io, ok);
         let installed = self.log.installed();
         if is_at_most(installed, before) {
-            self.present.lawful();
             return;
         }
         forget(&mut self.records, &mut self.present, installed);

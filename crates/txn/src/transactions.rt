@@ -146,7 +146,7 @@ impl<C: Change> Core<C> {
     }
 
     /// Gives a fetch back with what was read. The block is in memory then while anyone has taken a part of
-    /// it, where its fetch was pending; else nothing changes. What the disk has of a pending block is what is
+    /// it, where its fetch was pending; else nothing comes. What the disk has of a pending block is what is
     /// at home.
     pub fn fetched(&mut self, io: FetchIo)
         ensures only { self.new ≡ record self.old { present = self.new.present } }

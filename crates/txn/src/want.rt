@@ -1,7 +1,8 @@
 //! Reading and claiming what a transaction works on.
-ghost use Rattle.std.specs.Prelude.{◌≡◌, ◌<◌, ◌-◌, if◌then◌else◌, IfOk, OnOk, OnErr, None, Some, false, true};
+ghost use Rattle.std.specs.Prelude.{◌≡◌, ◌-◌, Bool, if◌then◌else◌, IfOk, OnOk, OnErr, None, Some, false, true};
 ghost use Rattle.disk.specs.declared.block.BlockNo.{BlockNo as BlockNumber};
 ghost use Rattle.objects.specs.Pins.{Pins, PinsStay, once_at, pins_of};
+ghost use Rattle.objects.specs.declared.present.Present.{Present};
 ghost use Rattle.txn.specs.Pinned.{newly_in};
 ghost use Rattle.disk.specs.Device.{Content};
 ghost use Rattle.wal_law.specs.Log.{newest};
@@ -143,9 +144,10 @@ impl<C: Change> State<C> {
         Ok(())
     }
 
-    /// Gives a fetch back with what was read. The block stays in memory while anyone has taken a part of it.
+    /// Gives a fetch back with what was read. The block stays in memory while anyone has taken a part of it, and may
+    /// stay longer.
     pub(crate) fn fetched(&mut self, io: FetchIo)
-        ensures { self.new ≡ fetched self.old io.block io.content }
+        ensures { (spare : Present → Bool) × (self.new ≡ fetched spare self.old io.block io.content) }
     {
         let FetchIo { block, buffer } = io;
         self.present.fetched(block, buffer);
@@ -162,14 +164,12 @@ impl<C: Change> State<C> {
 
 // Takes one pin off again, where the block was pinned for a hold that there was before and is pinned for it still.
 fn settle(present: &mut Residency, block: BlockNo, again: bool)
-    requires { again ≡ true → 1 < pins_of present.old block }
     ensures pins { (at : BlockNumber) → pins_of present.new at
         ≡ pins_of present.old at - (if again then once_at block at else 0) }
     ensures blocks { present.new.blocks ≡ present.old.blocks }
 {
     if again {
-        present.lawful();
-        present.unpin(block);
+        present.take_pin_back(block);
     }
 }
 
@@ -186,11 +186,10 @@ fn take(holds: &mut Table, present: &mut Residency, hold: Hold) -> Result<(), Al
     if holds.is_held_by(hold.transaction, hold.addr) {
         return note(holds, hold);
     }
-    present.lawful();
     let block = hold.addr.block;
     present.pin(block)?;
     if let Err(none) = note(holds, hold) {
-        present.unpin(block);
+        present.take_pin_back(block);
         return Err(none);
     }
     Ok(())

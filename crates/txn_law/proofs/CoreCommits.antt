@@ -106,8 +106,8 @@ first_none : (a b : Option Content) → or_else a b ≡ None → a ≡ None
 first_none (Some x) b e = absurd (cc)
 first_none None b e = refl
 
-module _ (base : Image) (old : CoreState) (tx : ℕ) (plan : Planned) (group : List (BlockNo × Content))
-    (log : Log) (lawful : IsLawful old.log)
+module _ (spare : Present → Bool) (base : Image) (old : CoreState) (tx : ℕ) (plan : Planned)
+    (group : List (BlockNo × Content)) (log : Log) (lawful : IsLawful old.log)
     (h : IsCommitted base old tx plan group log) (window : IsCoreWindow base old) where
   abbrev commit : Footprint
   commit = record { place = log.places; read = plan.read; written = plan.written }
@@ -185,9 +185,9 @@ module _ (base : Image) (old : CoreState) (tx : ℕ) (plan : Planned) (group : L
         | false ↦ older
       ]
 
-  pub core_committed : IsCoreWindow base (committed old tx plan log)
+  pub core_committed : IsCoreWindow base (committed spare old tx plan log)
   core_committed =
-      window_swept base log (with_commit log commit old.records) (released old.holds tx)
+      window_swept spare base log (with_commit log commit old.records) (released old.holds tx)
       (refreshed log old.present)
       (kept_by_commit base old.log log old.records (held_of old.present) kept commit group lawful h.grown refl
       is_brought (all_refreshed log now (with_objects now plan.written) fresh old.present window.memory)
@@ -198,6 +198,6 @@ module _ (base : Image) (old : CoreState) (tx : ℕ) (plan : Planned) (group : L
       ≡ with_objects now plan.written block
   core_now block =
       sym (tail_is_now base log (with_commit log commit old.records)
-      (held_of (committed old tx plan log).present) block core_committed)
+      (held_of (committed spare old tx plan log).present) block core_committed)
       ∙ all_new base old.log log old.records (held_of old.present) [] commit group lawful h.grown refl
       is_brought (All-nil (IsCurrent (with_objects now plan.written))) window block

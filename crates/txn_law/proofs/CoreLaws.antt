@@ -31,6 +31,7 @@ use Rattle.txn_law.specs.Tidy.{IsOfOne, AreTidy}
 use Rattle.txn_law.specs.Window.{Footprint, IsWindowOver}
 use Rattle.txn_law.specs.Lists.{IsHeldExactly, IsFetchedExactly, claimed}
 use Rattle.txn_law.specs.Wishes.{IsOpen, IsWhole}
+use Rattle.objects.specs.declared.present.Present.{Present}
 use Rattle.txn_law.proofs.Commits.{past-drop}
 use Rattle.txn_law.proofs.Fetches.{core_fetch_failed}
 use Rattle.txn_law.proofs.Fresh.{fresh_window}
@@ -64,8 +65,8 @@ home_fetch old new tx addr mode io fetch base h = record {
 pub home_claim : (old : CoreState) (tx : ℕ) (addr : Addr) → KeepsHome old (claimed old tx addr)
 home_claim old tx addr base h = record { whole = h.whole; window = core_claim base old tx addr h.window }
 
-pub home_end : (old : CoreState) (tx : ℕ) → KeepsHome old (ended old tx)
-home_end old tx base h = record { whole = h.whole; window = core_end base old tx h.window }
+pub home_end : (spare : Present → Bool) (old : CoreState) (tx : ℕ) → KeepsHome old (ended spare old tx)
+home_end spare old tx base h = record { whole = h.whole; window = core_end spare base old tx h.window }
 
 pub home_failed : (old : CoreState) (block : BlockNo) → KeepsHome old (fetch_failed old block)
 home_failed old block base h = record { whole = h.whole; window = core_fetch_failed base old block h.window }
@@ -145,19 +146,20 @@ all_past base core h =
 
 -- The installer's call is given back, or one that isn't out: then from what is at home after it, and the
 -- kept commits follow from there.
-pub home_inst_done : (base : Image) (old : CoreState) (is_out ok : Bool) → IsLawful old.log → AreTidy old
+pub home_inst_done : (spare : Present → Bool) (base : Image) (old : CoreState) (is_out ok : Bool)
+    → IsLawful old.log → AreTidy old
     → IsHomeOf base old
     → IsHomeOf (if is_out then home_after base old.log ok else base)
-    (installed old (if is_out then with_inst_back old.log ok else old.log))
-home_inst_done base old true ok lawful tidy h = record {
+    (installed spare old (if is_out then with_inst_back old.log ok else old.log))
+home_inst_done spare base old true ok lawful tidy h = record {
   whole = subst (λ (n : ℕ). AreBlocks n (home_after base old.log ok))
       (sym (seen_inst_done old.log true ok lawful).blocks)
       (whole_after old.log.blocks base old.log ok tidy.changes h.whole);
-  window = core_installed base old ok lawful h.window;
+  window = core_installed spare base old ok lawful h.window;
 }
-home_inst_done base old false ok lawful tidy h = record {
+home_inst_done spare base old false ok lawful tidy h = record {
   whole = h.whole;
-  window = window_swept base old.log (past (installed_place old.log) old.records) old.holds old.present
+  window = window_swept spare base old.log (past (installed_place old.log) old.records) old.holds old.present
       (subst (λ (rs : List Footprint). IsWindowOver base old.log rs (held_of old.present))
       (sym (all_past base old h.window)) h.window);
 }
@@ -289,20 +291,22 @@ module _ (P : ℕ → ℕ → List ObjectBytes → List ObjectBytes → Type 0) 
     planned = h.planned;
   }
 
-  pub lawful_end : (old : CoreState) (tx : ℕ) → IsLawfulCore P old → IsLawfulCore P (ended old tx)
-  lawful_end old tx h = record {
+  pub lawful_end : (spare : Present → Bool) (old : CoreState) (tx : ℕ) → IsLawfulCore P old → IsLawfulCore P
+      (ended spare old tx)
+  lawful_end spare old tx h = record {
     log = h.log;
-    tidy = tidy_end old tx h.tidy;
-    home = (h.home.0, home_end old tx h.home.0 h.home.1);
+    tidy = tidy_end spare old tx h.tidy;
+    home = (h.home.0, home_end spare old tx h.home.0 h.home.1);
     planned = h.planned;
   }
 
-  pub lawful_fetched : (old : CoreState) (block : BlockNo) (content : Content) → length content ≡ BLOCK_BYTES
-      → IsLawfulCore P old → IsLawfulCore P (fetched old block content)
-  lawful_fetched old block content size h = record {
+  pub lawful_fetched : (spare : Present → Bool) (old : CoreState) (block : BlockNo) (content : Content)
+      → length content ≡ BLOCK_BYTES
+      → IsLawfulCore P old → IsLawfulCore P (fetched spare old block content)
+  lawful_fetched spare old block content size h = record {
     log = h.log;
-    tidy = tidy_fetched old block content h.tidy;
-    home = fetched_some_home old block content h.tidy size h.home;
+    tidy = tidy_fetched spare old block content h.tidy;
+    home = fetched_some_home spare old block content h.tidy size h.home;
     planned = h.planned;
   }
 
@@ -351,37 +355,38 @@ module _ (P : ℕ → ℕ → List ObjectBytes → List ObjectBytes → Type 0) 
         (sym (out_blocks old.log)) h.planned;
   }
 
-  pub lawful_inst_done : (old : CoreState) (is_out ok : Bool)
+  pub lawful_inst_done : (spare : Present → Bool) (old : CoreState) (is_out ok : Bool)
       → IsLawful (if is_out then with_inst_back old.log ok else old.log) → IsLawfulCore P old
-      → IsLawfulCore P (installed old (if is_out then with_inst_back old.log ok else old.log))
-  lawful_inst_done old is_out ok lawful h =
+      → IsLawfulCore P (installed spare old (if is_out then with_inst_back old.log ok else old.log))
+  lawful_inst_done spare old is_out ok lawful h =
       let log : Log = if is_out then with_inst_back old.log ok else old.log in
       let seen : HasGoneOn old.log log = seen_inst_done old.log is_out ok h.log in record {
         log = lawful;
-        tidy = tidy_installed old log seen.blocks
+        tidy = tidy_installed spare old log seen.blocks
             (λ block none. (either (newest log block) (brought_home old.log block)
             (sym (seen.newest_content block) ∙ none)).0) (done_changes old.log is_out ok h.tidy.changes) h.tidy;
         home = (
           (if is_out then home_after h.home.0 old.log ok else h.home.0),
-          home_inst_done h.home.0 old is_out ok h.log h.tidy h.home.1,
+          home_inst_done spare h.home.0 old is_out ok h.log h.tidy h.home.1,
         );
         planned = All-filter (λ kept. nat_lt (installed_place log) kept.place)
             (IsPlanned P log.blocks old.inodes) old.records
             (subst (λ (n : ℕ). All (IsPlanned P n old.inodes) old.records) (sym seen.blocks) h.planned);
       }
 
-  pub lawful_commit : (old : CoreState) (tx : ℕ) (plan : Planned) (group : List (BlockNo × Content)) (log : Log)
+  pub lawful_commit : (spare : Present → Bool) (old : CoreState) (tx : ℕ) (plan : Planned)
+      (group : List (BlockNo × Content)) (log : Log)
       → IsOwn old tx plan → All (λ object. length object.bytes ≡ object.addr.len) plan.written
       → group_blocks group ≡ blocks_of plan.written → All (IsLaid old.present old.log plan.written) group
       → GrowsBy old.log group log → log.blocks ≡ old.log.blocks → IsLawful log → All IsWholeChange log.changes
       → P plan.blocks plan.inodes plan.read plan.written → IsLawfulCore P old
-      → IsLawfulCore P (committed old tx plan log)
-  lawful_commit old tx plan group log own sizes blocks contents grown same lawful whole is_plan h = record {
+      → IsLawfulCore P (committed spare old tx plan log)
+  lawful_commit spare old tx plan group log own sizes blocks contents grown same lawful whole is_plan h = record {
     log = lawful;
-    tidy = tidy_commit old tx plan group log own blocks grown h.tidy same whole;
+    tidy = tidy_commit spare old tx plan group log own blocks grown h.tidy same whole;
     home = (
       h.home.0,
-      commit_home h.home.0 old tx plan group log h.log h.tidy own sizes blocks contents grown same h.home.1,
+      commit_home spare h.home.0 old tx plan group log h.log h.tidy own sizes blocks contents grown same h.home.1,
     );
     planned = go (nat_lt (installed_place log) log.places);
   }

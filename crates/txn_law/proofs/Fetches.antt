@@ -79,13 +79,13 @@ module _ (number : ℕ) (old : Content) (block : BlockNo) (content : Content) wh
           in_beside number old (λ x. true) resident.block resident.content (held_of later)
           (held_of (filled later block content)) rest h
 
-pub core_fetched : (base : Image) (core : CoreState) (block : BlockNo) (content : Content)
+pub core_fetched : (spare : Present → Bool) (base : Image) (core : CoreState) (block : BlockNo) (content : Content)
     → newest core.log block.0 ≡ None → content ≡ base block.0 → IsCoreWindow base core
-    → IsCoreWindow base (fetched core block content)
-core_fetched base core block content none is h =
+    → IsCoreWindow base (fetched spare core block content)
+core_fetched spare base core block content none is h =
     let now : Image = now_of base core.log core.records in
     let kept : List (ℕ × Content) = held_of (filled core.present block content) in
-    window_swept base core.log core.records core.holds (filled core.present block content)
+    window_swept spare base core.log core.records core.holds (filled core.present block content)
     (other_memory base core.log core.records (held_of core.present) kept
     (all_filled (IsCurrent now) block content (is
     ∙ home_is_current base core.log core.records (held_of core.present) block.0 none h) core.present h.memory)

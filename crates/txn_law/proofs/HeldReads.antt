@@ -17,6 +17,7 @@ use Rattle.txn_law.specs.Holds.{is_taken, is_hold_of, hold_of, is_read, joined, 
 use Rattle.objects.specs.Present.{present_of, content_in}
 use Rattle.txn_law.specs.Lists.{taken, IsHeldExactly, IsFetchedExactly, claimed}
 use Rattle.txn_law.specs.declared.hold.Hold.{Hold}
+use Rattle.objects.specs.declared.present.Present.{Present}
 use Rattle.txn_law.proofs.Claims.{found_by, all_four}
 use Rattle.objects.proofs.Residents.{same_block, filled_content}
 use Rattle.txn_law.proofs.TakenBy.{taken_with, taken_released}
@@ -92,17 +93,18 @@ pub left : (holds : List Hold) (tx t : ℕ) (a : Addr) → (t ≡ tx → ⊥)
 left holds tx t a differ =
     taken_released holds tx t a ∙ ap (λ (b : Bool). if b then None else hold_of holds t a) (ne_eqb t tx differ)
 
-pub reads_end : (old : CoreState) (tx t : ℕ) → (t ≡ tx → ⊥) → KeepsReads old (ended old tx) t
-reads_end old tx t differ =
-    keeps old (ended old tx) t (λ a reads. ap is_read (left old.holds tx t a differ) ∙ reads)
-    (λ a c reads e. taken_stays (released old.holds tx) old.records old.present a.block c
+pub reads_end : (spare : Present → Bool) (old : CoreState) (tx t : ℕ) → (t ≡ tx → ⊥) → KeepsReads old
+    (ended spare old tx) t
+reads_end spare old tx t differ =
+    keeps old (ended spare old tx) t (λ a reads. ap is_read (left old.holds tx t a differ) ∙ reads)
+    (λ a c reads e. taken_stays spare (released old.holds tx) old.records old.present a.block c
     (taken_read (released old.holds tx) t a (ap is_read (left old.holds tx t a differ) ∙ reads)) e)
 
-pub reads_fetched : (old : CoreState) (block : BlockNo) (content : Content) (t : ℕ)
-    → KeepsReads old (fetched old block content) t
-reads_fetched old block content t =
-    keeps old (fetched old block content) t (λ a reads. reads)
-    (λ a c reads e. taken_stays old.holds old.records (filled old.present block content) a.block c
+pub reads_fetched : (spare : Present → Bool) (old : CoreState) (block : BlockNo) (content : Content) (t : ℕ)
+    → KeepsReads old (fetched spare old block content) t
+reads_fetched spare old block content t =
+    keeps old (fetched spare old block content) t (λ a reads. reads)
+    (λ a c reads e. taken_stays spare old.holds old.records (filled old.present block content) a.block c
     (taken_read old.holds t a reads) (filled_content block content old.present a.block c e))
 
 pub reads_failed : (old : CoreState) (block : BlockNo) (t : ℕ) → KeepsReads old (fetch_failed old block) t
@@ -113,8 +115,9 @@ reads_failed old block t =
 pub reads_log : (old : CoreState) (log : Log) (t : ℕ) → KeepsReads old (record old { log = log }) t
 reads_log old log t = keeps old (record old { log = log }) t (λ a reads. reads) (λ a c reads e. e)
 
-pub reads_installed : (old : CoreState) (log : Log) (t : ℕ) → KeepsReads old (installed old log) t
-reads_installed old log t =
-    keeps old (installed old log) t (λ a reads. reads)
-    (λ a c reads e. taken_stays old.holds (past (installed_place log) old.records) old.present a.block c
+pub reads_installed : (spare : Present → Bool) (old : CoreState) (log : Log) (t : ℕ) → KeepsReads old
+    (installed spare old log) t
+reads_installed spare old log t =
+    keeps old (installed spare old log) t (λ a reads. reads)
+    (λ a c reads e. taken_stays spare old.holds (past (installed_place log) old.records) old.present a.block c
     (taken_read old.holds t a reads) e)

@@ -193,31 +193,33 @@ pending_is_home d base core logging installing block tidy agrees readable conten
     (home.1, inr (omega (arith, low))) (unlogged_block core block tidy waits)).1
 
 -- a fetch that brings what is at home, where it is pending, keeps what may be at home
-pub fetched_home : (base : Image) (core : CoreState) (block : BlockNo) (content : Content) → AreTidy core
+pub fetched_home : (spare : Present → Bool) (base : Image) (core : CoreState) (block : BlockNo)
+    (content : Content) → AreTidy core
     → (is_pending (present_of core.present block) ≡ true → content ≡ base block.0) → IsHomeOf base core
-    → IsHomeOf base (fetched core block content)
-fetched_home base core block content tidy brought h =
+    → IsHomeOf base (fetched spare core block content)
+fetched_home spare base core block content tidy brought h =
     record { whole = h.whole; window = go (is_pending (present_of core.present block)) refl }
   where
     go : (t : Bool) → is_pending (present_of core.present block) ≡ t
-        → IsCoreWindow base (fetched core block content)
-    go true e = core_fetched base core block content (unlogged_block core block tidy e) (brought e) h.window
-    go false e = window_swept base core.log core.records core.holds (filled core.present block content)
+        → IsCoreWindow base (fetched spare core block content)
+    go true e = core_fetched spare base core block content (unlogged_block core block tidy e) (brought e) h.window
+    go false e = window_swept spare base core.log core.records core.holds (filled core.present block content)
         (subst (λ (xs : List Present). IsCoreWindow base (record core { present = xs }))
         (sym (not_filled core.present block content e)) h.window)
 
 -- whatever it brings, there are blocks that may be at home
-pub fetched_some_home : (core : CoreState) (block : BlockNo) (content : Content) → AreTidy core
+pub fetched_some_home : (spare : Present → Bool) (core : CoreState) (block : BlockNo) (content : Content)
+    → AreTidy core
     → length content ≡ BLOCK_BYTES → ((base : Image) × IsHomeOf base core)
-    → (base : Image) × IsHomeOf base (fetched core block content)
-fetched_some_home core block content tidy size (base, h) = go (is_pending (present_of core.present block)) refl
+    → (base : Image) × IsHomeOf base (fetched spare core block content)
+fetched_some_home spare core block content tidy size (base, h) = go (is_pending (present_of core.present block)) refl
   where
     go : (t : Bool) → is_pending (present_of core.present block) ≡ t
-        → (base : Image) × IsHomeOf base (fetched core block content)
+        → (base : Image) × IsHomeOf base (fetched spare core block content)
     go true e =
         let other : Image = with_home base block.0 content in (
           other,
-          fetched_home other core block content tidy
+          fetched_home spare other core block content tidy
               (λ waits. sym (ap (λ (t : Bool). if t then content else base block.0)
               (eq-eqb block.0 block.0 refl)))
               (record {
@@ -227,7 +229,7 @@ fetched_some_home core block content tidy size (base, h) = go (is_pending (prese
                     (λ c. waits_away core.present block c tidy.once e) h.window;
               }),
         )
-    go false e = (base, fetched_home base core block content tidy (λ waits. absurd (cc)) h)
+    go false e = (base, fetched_home spare base core block content tidy (λ waits. absurd (cc)) h)
 
 among_all : (P : BlockNo → Type 0) (block : BlockNo) (blocks : List BlockNo) → All P blocks
     → is_among block blocks ≡ true → P block
@@ -257,15 +259,16 @@ is_committed base old tx plan group log tidy own sizes blocks contents grown h =
   );
 }
 
-pub commit_home : (base : Image) (old : CoreState) (tx : ℕ) (plan : Planned) (group : List (BlockNo × Content))
+pub commit_home : (spare : Present → Bool) (base : Image) (old : CoreState) (tx : ℕ) (plan : Planned)
+    (group : List (BlockNo × Content))
     (log : Log) → IsLawful old.log → AreTidy old → IsOwn old tx plan
     → All (λ object. length object.bytes ≡ object.addr.len) plan.written
     → group_blocks group ≡ blocks_of plan.written → All (IsLaid old.present old.log plan.written) group
     → GrowsBy old.log group log → log.blocks ≡ old.log.blocks → IsHomeOf base old
-    → IsHomeOf base (committed old tx plan log)
-commit_home base old tx plan group log lawful tidy own sizes blocks contents grown same h = record {
+    → IsHomeOf base (committed spare old tx plan log)
+commit_home spare base old tx plan group log lawful tidy own sizes blocks contents grown same h = record {
   whole = subst (λ (n : ℕ). AreBlocks n base) (sym same) h.whole;
-  window = core_committed base old tx plan group log lawful
+  window = core_committed spare base old tx plan group log lawful
       (is_committed base old tx plan group log tidy own sizes blocks contents grown h) h.window;
 }
 
@@ -278,5 +281,5 @@ pub commit_sets : (base : Image) (old : CoreState) (tx : ℕ) (plan : Planned) (
     → now_of base log (with_record log log.places plan old.records) block
     ≡ with_objects (now_of base old.log old.records) plan.written block
 commit_sets base old tx plan group log lawful tidy own sizes blocks contents grown h =
-    core_now base old tx plan group log lawful
+    core_now (λ resident. true) base old tx plan group log lawful
     (is_committed base old tx plan group log tidy own sizes blocks contents grown h) h.window

@@ -32,36 +32,36 @@ use Rattle.txn_law.proofs.Memory.{filled_memory, filled_fetches, failed_memory, 
 use Rattle.txn_law.proofs.Memory.{refreshed_memory, refreshed_fetches}
 use Rattle.txn_law.proofs.TakenBy.{is_hold_by, taken_with, taken_released}
 
-pub leaves_end : (old : CoreState) (tx : ℕ) → AreTidy old
-    → Leaves (ended old tx) (but_by tx (taken_by old)) (is_fetching old) (in_memory old)
-leaves_end old tx tidy = record {
+pub leaves_end : (spare : Present → Bool) (old : CoreState) (tx : ℕ) → AreTidy old
+    → Leaves (ended spare old tx) (but_by tx (taken_by old)) (is_fetching old) (in_memory old)
+leaves_end spare old tx tidy = record {
   holds = taken_released old.holds tx;
-  fetches = λ block. swept_fetches (released old.holds tx) old.records old.present block tidy.once;
-  comes = λ block. swept_comes (released old.holds tx) old.records old.present block tidy.once;
-  stays = swept_stays (released old.holds tx) old.records old.present;
+  fetches = λ block. swept_fetches spare (released old.holds tx) old.records old.present block tidy.once;
+  comes = λ block. swept_comes spare (released old.holds tx) old.records old.present block tidy.once;
+  stays = swept_stays spare (released old.holds tx) old.records old.present;
 }
 
-pub leaves_installed : (old : CoreState) (log : Log) → AreTidy old
-    → Leaves (installed old log) (taken_by old) (is_fetching old) (in_memory old)
-leaves_installed old log tidy = record {
+pub leaves_installed : (spare : Present → Bool) (old : CoreState) (log : Log) → AreTidy old
+    → Leaves (installed spare old log) (taken_by old) (is_fetching old) (in_memory old)
+leaves_installed spare old log tidy = record {
   holds = λ t a. refl;
-  fetches = λ block. swept_fetches old.holds (past (installed_place log) old.records) old.present
+  fetches = λ block. swept_fetches spare old.holds (past (installed_place log) old.records) old.present
       block tidy.once;
-  comes = λ block. swept_comes old.holds (past (installed_place log) old.records) old.present block tidy.once;
-  stays = swept_stays old.holds (past (installed_place log) old.records) old.present;
+  comes = λ block. swept_comes spare old.holds (past (installed_place log) old.records) old.present block tidy.once;
+  stays = swept_stays spare old.holds (past (installed_place log) old.records) old.present;
 }
 
-pub leaves_fetched : (old : CoreState) (block : BlockNo) (content : Content) → AreTidy old
-    → Leaves (fetched old block content) (taken_by old) (without_fetch block (is_fetching old))
+pub leaves_fetched : (spare : Present → Bool) (old : CoreState) (block : BlockNo) (content : Content) → AreTidy old
+    → Leaves (fetched spare old block content) (taken_by old) (without_fetch block (is_fetching old))
     (if is_fetching old block then with_content block content (in_memory old) else in_memory old)
-leaves_fetched old block content tidy = record {
+leaves_fetched spare old block content tidy = record {
   holds = λ t a. refl;
-  fetches = λ at. swept_fetches old.holds old.records (filled old.present block content) at once
+  fetches = λ at. swept_fetches spare old.holds old.records (filled old.present block content) at once
       ∙ filled_fetches old.present block content at;
   comes = λ at c e. there at (is_fetching old block)
       (sym (filled_memory old.present block content at)
-      ∙ swept_comes old.holds old.records (filled old.present block content) at once c e);
-  stays = λ at c e. swept_stays old.holds old.records (filled old.present block content) at c
+      ∙ swept_comes spare old.holds old.records (filled old.present block content) at once c e);
+  stays = λ at c e. swept_stays spare old.holds old.records (filled old.present block content) at c
       (filled_memory old.present block content at ∙ from at (is_fetching old block) e);
 }
   where
@@ -89,17 +89,17 @@ leaves_failed old block tidy = record {
   stays = λ at c e needed. failed_memory old.present block at tidy.once ∙ e;
 }
 
-pub leaves_commit : (old : CoreState) (tx : ℕ) (plan : Planned) (log : Log) → AreTidy old
-    → Leaves (committed old tx plan log) (but_by tx (taken_by old)) (is_fetching old)
+pub leaves_commit : (spare : Present → Bool) (old : CoreState) (tx : ℕ) (plan : Planned) (log : Log) → AreTidy old
+    → Leaves (committed spare old tx plan log) (but_by tx (taken_by old)) (is_fetching old)
     (λ block. refreshed_content (in_memory old block) (newest log block.0))
-leaves_commit old tx plan log tidy = record {
+leaves_commit spare old tx plan log tidy = record {
   holds = taken_released old.holds tx;
-  fetches = λ at. swept_fetches (released old.holds tx) (with_record log log.places plan old.records)
+  fetches = λ at. swept_fetches spare (released old.holds tx) (with_record log log.places plan old.records)
       (refreshed log old.present) at once ∙ refreshed_fetches log old.present at;
   comes = λ at c e. sym (refreshed_memory log old.present at)
-      ∙ swept_comes (released old.holds tx) (with_record log log.places plan old.records)
+      ∙ swept_comes spare (released old.holds tx) (with_record log log.places plan old.records)
       (refreshed log old.present) at once c e;
-  stays = λ at c e. swept_stays (released old.holds tx) (with_record log log.places plan old.records)
+  stays = λ at c e. swept_stays spare (released old.holds tx) (with_record log log.places plan old.records)
       (refreshed log old.present) at c (refreshed_memory log old.present at ∙ e);
 }
   where

@@ -14,7 +14,7 @@ use Rattle.objects.specs.Present.{filled, without_pending}
 use Rattle.txn_law.specs.Holds.{is_taken}
 use Rattle.objects.specs.Present.{with_block}
 use Rattle.objects.specs.Present.{present_of, content_in, is_pending}
-use Rattle.txn_law.specs.Records.{is_kept, swept}
+use Rattle.txn_law.specs.Records.{is_kept, is_left, swept}
 use Rattle.objects.specs.Present.{IsOnce}
 use Rattle.txn_law.specs.Window.{Footprint}
 use Rattle.txn_law.specs.declared.hold.Hold.{Hold}
@@ -57,61 +57,62 @@ found_at xs block x e =
     same_block x.block block (eqb-true x.block.0 block.0 same)
 
 -- What is in memory after a sweep.
-module _ (holds : List Hold) (records : List Footprint) (present : List Present) (block : BlockNo)
-    (once : IsOnce present) where
-  abbrev needed : Present → Bool
-  needed resident = is_none resident.content || is_taken holds resident.block || is_kept records resident.block
+module _ (spare : Present → Bool) (holds : List Hold) (records : List Footprint) (present : List Present)
+    (block : BlockNo) (once : IsOnce present) where
+  abbrev stays : Present → Bool
+  stays = is_left spare holds records
 
-  pub swept_fetches : is_pending (present_of (swept holds records present) block)
+  pub swept_fetches : is_pending (present_of (swept spare holds records present) block)
       ≡ is_pending (present_of present block)
-  swept_fetches = ap is_pending (present_filter needed present block once) ∙ go (present_of present block)
+  swept_fetches = ap is_pending (present_filter stays present block once) ∙ go (present_of present block)
     where
-      one : (x : Present) (c : Option Content) → x.content ≡ c → (u : Bool) → needed x ≡ u
+      one : (x : Present) (c : Option Content) → x.content ≡ c → (u : Bool) → stays x ≡ u
           → is_pending (cond u (Some x) None) ≡ is_none x.content
       one x c e true is = refl
       one x (Some d) e false is = sym (ap is_none e)
       one x None e false is =
-          absurd (let yes : needed x ≡ true = ap (λ (o : Option Content). is_none o || is_taken holds x.block
-          || is_kept records x.block) e in cc)
+          absurd (let yes : stays x ≡ true = ap (λ (o : Option Content). spare x
+          || (is_none o || is_taken holds x.block || is_kept records x.block)) e ∙ or-true (spare x) in cc)
 
-      go : (o : Option Present) → is_pending (kept_if needed o) ≡ is_pending o
+      go : (o : Option Present) → is_pending (kept_if stays o) ≡ is_pending o
       go None = refl
-      go (Some x) = one x x.content refl (needed x) refl
+      go (Some x) = one x x.content refl (stays x) refl
 
-  pub swept_comes : (c : Content) → content_in (present_of (swept holds records present) block) ≡ Some c
+  pub swept_comes : (c : Content) → content_in (present_of (swept spare holds records present) block) ≡ Some c
       → content_in (present_of present block) ≡ Some c
   swept_comes c e =
-      go (present_of present block) (sym (ap content_in (present_filter needed present block once)) ∙ e)
+      go (present_of present block) (sym (ap content_in (present_filter stays present block once)) ∙ e)
     where
       one : (x : Present) (u : Bool) → content_in (cond u (Some x) None) ≡ Some c → x.content ≡ Some c
       one x true e = e
       one x false e = absurd (cc)
 
-      go : (o : Option Present) → content_in (kept_if needed o) ≡ Some c → content_in o ≡ Some c
+      go : (o : Option Present) → content_in (kept_if stays o) ≡ Some c → content_in o ≡ Some c
       go None e = e
-      go (Some x) e = one x (needed x) e
+      go (Some x) e = one x (stays x) e
 
 or-both : (a b c : Bool) → (b || c) ≡ true → (a || b || c) ≡ true
 or-both true b c e = refl
 or-both false b c e = e
 
 -- a block that is needed stays in memory
-pub swept_stays : (holds : List Hold) (records : List Footprint) (present : List Present) (block : BlockNo)
+pub swept_stays : (spare : Present → Bool) (holds : List Hold) (records : List Footprint)
+    (present : List Present) (block : BlockNo)
     (c : Content) → content_in (present_of present block) ≡ Some c
     → (is_taken holds block || is_kept records block) ≡ true
-    → content_in (present_of (swept holds records present) block) ≡ Some c
-swept_stays holds records present block c e is = go (present_of present block) refl e
+    → content_in (present_of (swept spare holds records present) block) ≡ Some c
+swept_stays spare holds records present block c e is = go (present_of present block) refl e
   where
     go : (o : Option Present) → present_of present block ≡ o → content_in o ≡ Some c
-        → content_in (present_of (swept holds records present) block) ≡ Some c
+        → content_in (present_of (swept spare holds records present) block) ≡ Some c
     go None there e = absurd (cc)
     go (Some x) there e =
         let at : x.block ≡ block = found_at present block x there in
-        let kept : (is_none x.content || is_taken holds x.block || is_kept records x.block) ≡ true =
-        ap (λ (b : BlockNo). is_none x.content || is_taken holds b || is_kept records b) at
-        ∙ or-both (is_none x.content) (is_taken holds block) (is_kept records block) is in
-        ap content_in (find_kept (is_of block) (λ (resident : Present). is_none resident.content
-        || is_taken holds resident.block || is_kept records resident.block) present x there kept) ∙ e
+        let kept : is_left spare holds records x ≡ true =
+        ap (λ (b : BlockNo). spare x || (is_none x.content || is_taken holds b || is_kept records b)) at
+        ∙ ap (λ t. spare x || t) (or-both (is_none x.content) (is_taken holds block) (is_kept records block) is)
+        ∙ or-true (spare x) in
+        ap content_in (find_kept (is_of block) (is_left spare holds records) present x there kept) ∙ e
 
 -- What is in memory once a block is there too.
 module _ (present : List Present) (block : BlockNo) (content : Option Content) (at : BlockNo) where

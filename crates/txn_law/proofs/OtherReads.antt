@@ -1,5 +1,5 @@
 -- Lemma: what another transaction holds for reading stays through a commit, with its bytes.
-use Rattle.std.proofs.Common.{◌≡◌, ℕ, ◌<◌, true, ◌||◌, nat_eq, ◌⊎◌, inl, inr, List, length, All}
+use Rattle.std.proofs.Common.{◌≡◌, ℕ, Bool, ◌<◌, true, ◌||◌, nat_eq, ◌⊎◌, inl, inr, List, length, All}
 use Rattle.std.proofs.Common.{Option, Some, None, refl, sym, ap, subst, ◌∙◌, arith}
 use Rattle.std.specs.Prelude.{Contains}
 use Rattle.std.proofs.Common.{get_or}
@@ -24,6 +24,7 @@ use Rattle.txn_law.specs.Records.{is_kept}
 use Rattle.txn_law.specs.Tidy.{AreBeside, AreApart, IsOfOne, AreTidy}
 use Rattle.txn_law.specs.Window.{IsCurrent, now_of, part, with_objects}
 use Rattle.txn_law.specs.declared.hold.Hold.{Hold}
+use Rattle.objects.specs.declared.present.Present.{Present}
 use Rattle.txn_law.proofs.Again.{one_or_apart}
 use Rattle.txn_law.proofs.Beside.{stays_beside}
 use Rattle.txn_law.proofs.Claims.{found_by, all_four, held_alone}
@@ -89,13 +90,14 @@ beside core tx t read written tidy differ reads writes over =
       omega (arith, a, b, c, d, more),
     )
 
-pub reads_commit : (base : Image) (old : CoreState) (tx : ℕ) (plan : Planned) (group : List (BlockNo × Content))
+pub reads_commit : (spare : Present → Bool) (base : Image) (old : CoreState) (tx : ℕ) (plan : Planned)
+    (group : List (BlockNo × Content))
     (log : Log) (t : ℕ) → IsLawful old.log → AreTidy old → IsOwn old tx plan
     → All (λ object. length object.bytes ≡ object.addr.len) plan.written
     → group_blocks group ≡ blocks_of plan.written → All (IsLaid old.present old.log plan.written) group
     → GrowsBy old.log group log → log.blocks ≡ old.log.blocks → IsHomeOf base old → (t ≡ tx → ⊥)
-    → KeepsReads old (committed old tx plan log) t
-reads_commit base old tx plan group log t lawful tidy own sizes blocks contents grown same home
+    → KeepsReads old (committed spare old tx plan log) t
+reads_commit spare base old tx plan group log t lawful tidy own sizes blocks contents grown same home
     differ object h =
     record {
       held = held;
@@ -108,8 +110,8 @@ reads_commit base old tx plan group log t lawful tidy own sizes blocks contents 
     content : Content
     content = content_or (newest log object.addr.block.0) h.current.content
 
-    in_new : in_memory (committed old tx plan log) object.addr.block ≡ Some content
-    in_new = (leaves_commit old tx plan log tidy).stays object.addr.block content
+    in_new : in_memory (committed spare old tx plan log) object.addr.block ≡ Some content
+    in_new = (leaves_commit spare old tx plan log tidy).stays object.addr.block content
         (ap (λ (o : Option Content). refreshed_content o (newest log object.addr.block.0)) h.current.there)
         (ap (λ b. b || is_kept (with_record log log.places plan old.records) object.addr.block)
         (taken_read (released old.holds tx) t object.addr held))
@@ -120,13 +122,13 @@ reads_commit base old tx plan group log t lawful tidy own sizes blocks contents 
         (object.addr.block.0, h.current.content) home.window.memory
         (found_in old.present object.addr.block h.current.content h.current.there)
 
-    later : IsHomeOf base (committed old tx plan log)
-    later = commit_home base old tx plan group log lawful tidy own sizes blocks contents grown same home
+    later : IsHomeOf base (committed spare old tx plan log)
+    later = commit_home spare base old tx plan group log lawful tidy own sizes blocks contents grown same home
 
     behind : content ≡ with_objects (now_of base old.log old.records) plan.written object.addr.block.0
     behind = All-contains (IsCurrent (now_of base log (with_record log log.places plan old.records)))
-        (held_of (committed old tx plan log).present) (object.addr.block.0, content) later.window.memory
-        (found_in (committed old tx plan log).present object.addr.block content in_new)
+        (held_of (committed spare old tx plan log).present) (object.addr.block.0, content) later.window.memory
+        (found_in (committed spare old tx plan log).present object.addr.block content in_new)
         ∙ commit_sets base old tx plan group log lawful tidy own sizes blocks contents grown home
         object.addr.block.0
 

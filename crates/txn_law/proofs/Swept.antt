@@ -14,7 +14,7 @@ use Rattle.wal_law.specs.Log.{Log, IsLawful, installed_place}
 use Rattle.txn_law.specs.Core.{CoreState, past, installed}
 use Rattle.txn_law.specs.Holds.{is_taken}
 use Rattle.objects.specs.Object.{ObjectBytes}
-use Rattle.txn_law.specs.Records.{lies_in, is_kept, swept}
+use Rattle.txn_law.specs.Records.{lies_in, is_kept, is_left, swept}
 use Rattle.txn_law.specs.Window.{Footprint}
 use Rattle.txn_law.specs.declared.hold.Hold.{Hold}
 use Rattle.objects.specs.declared.present.Present.{Present}
@@ -100,31 +100,31 @@ module _ (block : ℕ) (content : Content) (test : Present → Bool) where
           rest (in_behind resident.block resident.content (held_of later)
           (λ same. absurd (let no : true ≡ false = sym (passes resident same) ∙ e in cc)) h)
 
-module _ (holds : List Hold) (kept : List Footprint) (present : List Present) where
+module _ (spare : Present → Bool) (holds : List Hold) (kept : List Footprint) (present : List Present) where
   pinned_one : (object : ObjectBytes) → is_kept kept object.addr.block ≡ true
-      → IsPinned (held_of present) object → IsPinned (held_of (swept holds kept present)) object
+      → IsPinned (held_of present) object → IsPinned (held_of (swept spare holds kept present)) object
   pinned_one object read (content, there) = (
     content,
-    in_kept object.addr.block.0 content (λ resident. is_none resident.content
-        || is_taken holds resident.block || is_kept kept resident.block) present passes there,
+    in_kept object.addr.block.0 content (is_left spare holds kept) present passes there,
   )
     where
       passes : (resident : Present) → resident.block.0 ≡ object.addr.block.0
-          → (is_none resident.content || is_taken holds resident.block || is_kept kept resident.block) ≡ true
+          → is_left spare holds kept resident ≡ true
       passes resident same =
           let here : is_kept kept resident.block ≡ true =
           ap (λ (n : ℕ). list_any
           (λ (commit : Footprint). list_any (λ (o : ObjectBytes). nat_eq o.addr.block.0 n) commit.read)
           kept) same ∙ read in
-          ap (λ t. is_none resident.content || is_taken holds resident.block || t) here
-          ∙ or-true (is_none resident.content || is_taken holds resident.block)
+          ap (λ t. spare resident || (is_none resident.content || is_taken holds resident.block || t)) here
+          ∙ ap (λ t. spare resident || t) (or-true (is_none resident.content || is_taken holds resident.block))
+          ∙ or-true (spare resident)
 
   pinned_objects : (objects : List ObjectBytes)
       → ((block : BlockNo) → lies_in objects block ≡ true → is_kept kept block ≡ true)
       → All (IsPinned (held_of present)) objects
-      → All (IsPinned (held_of (swept holds kept present))) objects
-  pinned_objects [] within h = All-nil (IsPinned (held_of (swept holds kept present)))
-  pinned_objects (o ∷ os) within h = All-cons (IsPinned (held_of (swept holds kept present))) o os
+      → All (IsPinned (held_of (swept spare holds kept present))) objects
+  pinned_objects [] within h = All-nil (IsPinned (held_of (swept spare holds kept present)))
+  pinned_objects (o ∷ os) within h = All-cons (IsPinned (held_of (swept spare holds kept present))) o os
       (pinned_one o (within o.addr.block
       (ap (λ t. t || lies_in os o.addr.block) (eq-eqb o.addr.block.0 o.addr.block.0 refl)))
       (All-head (IsPinned (held_of present)) o os h))
@@ -134,28 +134,27 @@ module _ (holds : List Hold) (kept : List Footprint) (present : List Present) wh
   pinned_commits : (commits : List Footprint)
       → ((block : BlockNo) → is_kept commits block ≡ true → is_kept kept block ≡ true)
       → All (ArePinned (held_of present)) commits
-      → All (ArePinned (held_of (swept holds kept present))) commits
-  pinned_commits [] within h = All-nil (ArePinned (held_of (swept holds kept present)))
-  pinned_commits (c ∷ cs) within h = All-cons (ArePinned (held_of (swept holds kept present))) c cs
+      → All (ArePinned (held_of (swept spare holds kept present))) commits
+  pinned_commits [] within h = All-nil (ArePinned (held_of (swept spare holds kept present)))
+  pinned_commits (c ∷ cs) within h = All-cons (ArePinned (held_of (swept spare holds kept present))) c cs
       (pinned_objects c.read (λ block e. within block (ap (λ t. t || is_kept cs block) e))
       (All-head (ArePinned (held_of present)) c cs h))
       (pinned_commits cs (λ block e. within block (ap (λ t. lies_in c.read block || t) e
       ∙ or-true (lies_in c.read block))) (All-tail (ArePinned (held_of present)) c cs h))
 
-pub window_swept : (base : Image) (log : Log) (commits : List Footprint) (holds : List Hold)
+pub window_swept : (spare : Present → Bool) (base : Image) (log : Log) (commits : List Footprint) (holds : List Hold)
     (present : List Present) → IsWindowOver base log commits (held_of present)
-    → IsWindowOver base log commits (held_of (swept holds commits present))
-window_swept base log commits holds present h =
-    other_memory base log commits (held_of present) (held_of (swept holds commits present))
-    (all_kept (IsCurrent (now_of base log commits)) (λ resident. is_none resident.content
-    || is_taken holds resident.block || is_kept commits resident.block) present h.memory)
-    (pinned_commits holds commits present commits (λ block e. e) h.pinned) h
+    → IsWindowOver base log commits (held_of (swept spare holds commits present))
+window_swept spare base log commits holds present h =
+    other_memory base log commits (held_of present) (held_of (swept spare holds commits present))
+    (all_kept (IsCurrent (now_of base log commits)) (is_left spare holds commits) present h.memory)
+    (pinned_commits spare holds commits present commits (λ block e. e) h.pinned) h
 
-pub core_installed : (base : Image) (core : CoreState) (ok : Bool) → IsLawful core.log
+pub core_installed : (spare : Present → Bool) (base : Image) (core : CoreState) (ok : Bool) → IsLawful core.log
     → IsCoreWindow base core
-    → IsCoreWindow (home_after base core.log ok) (installed core (with_inst_back core.log ok))
-core_installed base core ok lawful h =
+    → IsCoreWindow (home_after base core.log ok) (installed spare core (with_inst_back core.log ok))
+core_installed spare base core ok lawful h =
     let new : Log = with_inst_back core.log ok in
-    window_swept (home_after base core.log ok) new (past (installed_place new) core.records) core.holds
+    window_swept spare (home_after base core.log ok) new (past (installed_place new) core.records) core.holds
     core.present
     (window_inst_back base core.log core.records (held_of core.present) ok lawful h)

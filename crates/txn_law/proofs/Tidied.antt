@@ -24,7 +24,7 @@ use Rattle.objects.specs.Present.{filled, without_pending}
 use Rattle.txn_law.specs.Holds.{KeepsOff, IsHoldOf, IsFree, for_reading, for_fetching, for_writing, is_taken}
 use Rattle.txn_law.specs.Holds.{is_hold_of, hold_of, without_hold, joined, with_hold, released}
 use Rattle.objects.specs.Present.{present_of, content_in, is_pending}
-use Rattle.txn_law.specs.Records.{is_kept, swept}
+use Rattle.txn_law.specs.Records.{is_kept, is_left, swept}
 use Rattle.txn_law.specs.Tidy.{AreBeside, AreApart, IsReadHere, IsClaimedWhole, IsUnlogged, IsOfOne}
 use Rattle.objects.specs.Present.{IsOnce}
 use Rattle.txn_law.specs.Tidy.{IsPlaced}
@@ -355,21 +355,22 @@ taken_one (x ∷ xs) hold h = go (taken_one xs hold) (in_cons x hold xs h)
         ∙ or-true (nat_eq x.addr.block.0 hold.addr.block.0)
 
 -- a block that is taken stays in memory
-pub taken_stays : (holds : List Hold) (records : List Footprint) (present : List Present) (block : BlockNo)
+pub taken_stays : (spare : Present → Bool) (holds : List Hold) (records : List Footprint)
+    (present : List Present) (block : BlockNo)
     (c : Content) → is_taken holds block ≡ true → content_in (present_of present block) ≡ Some c
-    → content_in (present_of (swept holds records present) block) ≡ Some c
-taken_stays holds records present block c is e =
-    swept_stays holds records present block c e (ap (λ b. b || is_kept records block) is)
+    → content_in (present_of (swept spare holds records present) block) ≡ Some c
+taken_stays spare holds records present block c is e =
+    swept_stays spare holds records present block c e (ap (λ b. b || is_kept records block) is)
 
-pub read_swept : (holds : List Hold) (records : List Footprint) (old new : List Present)
+pub read_swept : (spare : Present → Bool) (holds : List Hold) (records : List Footprint) (old new : List Present)
     → ((block : BlockNo) (content : Content) → content_in (present_of old block) ≡ Some content
     → content_in (present_of new block) ≡ Some content)
-    → All (IsReadHere old) holds → All (IsReadHere (swept holds records new)) holds
-read_swept holds records old new stays each =
-    All-weaker (λ x. IsReadHere old x × Contains holds x) (IsReadHere (swept holds records new))
+    → All (IsReadHere old) holds → All (IsReadHere (swept spare holds records new)) holds
+read_swept spare holds records old new stays each =
+    All-weaker (λ x. IsReadHere old x × Contains holds x) (IsReadHere (swept spare holds records new))
     (λ x h is. let (content, there) = h.0 is in (
       content,
-      taken_stays holds records new x.addr.block content (taken_one holds x h.1)
+      taken_stays spare holds records new x.addr.block content (taken_one holds x h.1)
           (stays x.addr.block content there),
     )) holds
     (λ k d lt. (each k d lt, All-contains_itself holds k d lt))
@@ -392,12 +393,12 @@ out_still (o ∷ os) tx t differ e = go (out_still os tx t differ) (nat_eq o t) 
     go rest false is true same e = rest e
     go rest false is false other e = ap (λ b. b || list_any (λ x. nat_eq x t) (without tx os)) is ∙ rest e
 
-pub owned_end : (old : CoreState) (tx : ℕ) → AreTidy old
-    → All (λ hold. IsOut (ended old tx) hold.transaction × IsHomeOn old.log.blocks hold.addr.block)
+pub owned_end : (spare : Present → Bool) (old : CoreState) (tx : ℕ) → AreTidy old
+    → All (λ hold. IsOut (ended spare old tx) hold.transaction × IsHomeOn old.log.blocks hold.addr.block)
     (released old.holds tx)
-owned_end old tx tidy =
+owned_end spare old tx tidy =
     All-weaker (λ hold. (not (nat_eq hold.transaction tx) ≡ true) × IsOfOne old hold)
-    (λ hold. IsOut (ended old tx) hold.transaction × IsHomeOn old.log.blocks hold.addr.block)
+    (λ hold. IsOut (ended spare old tx) hold.transaction × IsHomeOn old.log.blocks hold.addr.block)
     (λ hold h. (out_still old.out tx hold.transaction (differs (nat_eq hold.transaction tx) h.0) h.1.0, h.1.1))
     (released old.holds tx)
     (passing (IsOfOne old) (λ hold. not (nat_eq hold.transaction tx)) old.holds tidy.owned)
@@ -406,38 +407,32 @@ owned_end old tx tidy =
     differs true e = absurd (cc)
     differs false e = refl
 
-pub tidy_end : (old : CoreState) (tx : ℕ) → AreTidy old → AreTidy (ended old tx)
-tidy_end old tx tidy = record {
-  owned = owned_end old tx tidy;
-  placed = All-filter (λ resident. is_none resident.content || is_taken (released old.holds tx) resident.block
-      || is_kept old.records resident.block) (IsPlaced old.log.blocks) old.present tidy.placed;
+pub tidy_end : (spare : Present → Bool) (old : CoreState) (tx : ℕ) → AreTidy old → AreTidy (ended spare old tx)
+tidy_end spare old tx tidy = record {
+  owned = owned_end spare old tx tidy;
+  placed = All-filter (is_left spare (released old.holds tx) old.records) (IsPlaced old.log.blocks) old.present tidy.placed;
   apart = apart_filter (λ hold. not (nat_eq hold.transaction tx)) old.holds tidy.apart;
-  read = read_swept (released old.holds tx) old.records old.present old.present (λ at c e. e)
+  read = read_swept spare (released old.holds tx) old.records old.present old.present (λ at c e. e)
       (All-filter (λ hold. not (nat_eq hold.transaction tx)) (IsReadHere old.present) old.holds tidy.read);
   claimed = All-filter (λ hold. not (nat_eq hold.transaction tx)) IsClaimedWhole old.holds tidy.claimed;
-  once = once_filter (λ resident. is_none resident.content || is_taken (released old.holds tx) resident.block
-      || is_kept old.records resident.block) old.present tidy.once;
-  pending = All-filter (λ resident. is_none resident.content || is_taken (released old.holds tx) resident.block
-      || is_kept old.records resident.block) (IsUnlogged old.log) old.present tidy.pending;
+  once = once_filter (is_left spare (released old.holds tx) old.records) old.present tidy.once;
+  pending = All-filter (is_left spare (released old.holds tx) old.records) (IsUnlogged old.log) old.present tidy.pending;
   changes = tidy.changes;
 }
 
-pub tidy_fetched : (old : CoreState) (block : BlockNo) (content : Content) → AreTidy old
-    → AreTidy (fetched old block content)
-tidy_fetched old block content tidy = record {
+pub tidy_fetched : (spare : Present → Bool) (old : CoreState) (block : BlockNo) (content : Content) → AreTidy old
+    → AreTidy (fetched spare old block content)
+tidy_fetched spare old block content tidy = record {
   owned = tidy.owned;
-  placed = All-filter (λ resident. is_none resident.content || is_taken old.holds resident.block
-      || is_kept old.records resident.block) (IsPlaced old.log.blocks) (filled old.present block content)
+  placed = All-filter (is_left spare old.holds old.records) (IsPlaced old.log.blocks) (filled old.present block content)
       (each_filled block content (IsPlaced old.log.blocks) (λ x h. h) old.present tidy.placed);
   apart = tidy.apart;
-  read = read_swept old.holds old.records old.present (filled old.present block content)
+  read = read_swept spare old.holds old.records old.present (filled old.present block content)
       (filled_content block content old.present) tidy.read;
   claimed = tidy.claimed;
-  once = once_filter (λ resident. is_none resident.content || is_taken old.holds resident.block
-      || is_kept old.records resident.block) (filled old.present block content)
+  once = once_filter (is_left spare old.holds old.records) (filled old.present block content)
       (once_filled block content old.present tidy.once);
-  pending = All-filter (λ resident. is_none resident.content || is_taken old.holds resident.block
-      || is_kept old.records resident.block) (IsUnlogged old.log) (filled old.present block content)
+  pending = All-filter (is_left spare old.holds old.records) (IsUnlogged old.log) (filled old.present block content)
       (each_filled block content (IsUnlogged old.log) (λ x h none. absurd (some x.content none)) old.present
       tidy.pending);
   changes = tidy.changes;
@@ -481,23 +476,20 @@ tidy_failed old block tidy = record {
 }
 
 -- the log has moved on, and has lost no block
-pub tidy_installed : (old : CoreState) (log : Log) → log.blocks ≡ old.log.blocks
+pub tidy_installed : (spare : Present → Bool) (old : CoreState) (log : Log) → log.blocks ≡ old.log.blocks
     → ((block : ℕ) → newest old.log block ≡ None → newest log block ≡ None)
-    → All IsWholeChange log.changes → AreTidy old → AreTidy (installed old log)
-tidy_installed old log same none whole tidy = record {
+    → All IsWholeChange log.changes → AreTidy old → AreTidy (installed spare old log)
+tidy_installed spare old log same none whole tidy = record {
   owned = subst (λ (n : ℕ). All (λ hold. IsOut old hold.transaction × IsHomeOn n hold.addr.block) old.holds)
       (sym same) tidy.owned;
-  placed = All-filter (λ resident. is_none resident.content || is_taken old.holds resident.block
-      || is_kept (past (installed_place log) old.records) resident.block) (IsPlaced log.blocks) old.present
+  placed = All-filter (is_left spare old.holds (past (installed_place log) old.records)) (IsPlaced log.blocks) old.present
       (subst (λ (n : ℕ). All (IsPlaced n) old.present) (sym same) tidy.placed);
   apart = tidy.apart;
-  read = read_swept old.holds (past (installed_place log) old.records) old.present old.present (λ at c e. e)
+  read = read_swept spare old.holds (past (installed_place log) old.records) old.present old.present (λ at c e. e)
       tidy.read;
   claimed = tidy.claimed;
-  once = once_filter (λ resident. is_none resident.content || is_taken old.holds resident.block
-      || is_kept (past (installed_place log) old.records) resident.block) old.present tidy.once;
-  pending = All-filter (λ resident. is_none resident.content || is_taken old.holds resident.block
-      || is_kept (past (installed_place log) old.records) resident.block) (IsUnlogged log) old.present
+  once = once_filter (is_left spare old.holds (past (installed_place log) old.records)) old.present tidy.once;
+  pending = All-filter (is_left spare old.holds (past (installed_place log) old.records)) (IsUnlogged log) old.present
       (All-weaker (IsUnlogged old.log) (IsUnlogged log) (λ x h e. none x.block.0 (h e)) old.present
       tidy.pending);
   changes = whole;

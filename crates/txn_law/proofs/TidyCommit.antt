@@ -18,10 +18,10 @@ use Rattle.txn_law.specs.Commit.{refreshed}
 use Rattle.txn_law.specs.Commit.{committed}
 use Rattle.txn_law.specs.Core.{CoreState, IsOut, ended}
 use Rattle.txn_law.specs.Group.{is_among, blocks_of}
-use Rattle.txn_law.specs.Holds.{is_taken, released}
+use Rattle.txn_law.specs.Holds.{released}
 use Rattle.objects.specs.Object.{ObjectBytes}
 use Rattle.objects.specs.Present.{present_of, content_in, is_pending}
-use Rattle.txn_law.specs.Records.{lies_in, is_kept}
+use Rattle.txn_law.specs.Records.{lies_in, is_left}
 use Rattle.wal_law.specs.Grows.{IsWholeChange}
 use Rattle.txn_law.specs.Tidy.{IsReadHere, IsClaimedWhole, IsUnlogged, IsPlaced, AreTidy}
 use Rattle.objects.specs.Present.{IsOnce}
@@ -70,7 +70,8 @@ pub nothing : (o : Option Content) → is_some o ≡ false → o ≡ None
 nothing None e = refl
 nothing (Some c) e = absurd (cc)
 
-module _ (old : CoreState) (tx : ℕ) (plan : Planned) (group : List (BlockNo × Content)) (log : Log)
+module _ (spare : Present → Bool) (old : CoreState) (tx : ℕ) (plan : Planned) (group : List (BlockNo × Content))
+    (log : Log)
     (own : IsOwn old tx plan) (blocks : group_blocks group ≡ blocks_of plan.written)
     (grown : GrowsBy old.log group log) (tidy : AreTidy old) where
   unlogged : (x : Present) → IsUnlogged old.log x → present_of old.present x.block ≡ Some x
@@ -107,27 +108,24 @@ module _ (old : CoreState) (tx : ℕ) (plan : Planned) (group : List (BlockNo ×
       )
 
   pub tidy_commit : log.blocks ≡ old.log.blocks → All IsWholeChange log.changes
-      → AreTidy (committed old tx plan log)
+      → AreTidy (committed spare old tx plan log)
   tidy_commit same whole = record {
-    owned = subst (λ (n : ℕ). All (λ hold. IsOut (ended old tx) hold.transaction × IsHomeOn n hold.addr.block)
-        (released old.holds tx)) (sym same) (owned_end old tx tidy);
-    placed = All-filter (λ resident. is_none resident.content || is_taken (released old.holds tx) resident.block
-        || is_kept (with_record log log.places plan old.records) resident.block) (IsPlaced log.blocks)
+    owned = subst (λ (n : ℕ). All (λ hold. IsOut (ended spare old tx) hold.transaction × IsHomeOn n hold.addr.block)
+        (released old.holds tx)) (sym same) (owned_end spare old tx tidy);
+    placed = All-filter (is_left spare (released old.holds tx) (with_record log log.places plan old.records)) (IsPlaced log.blocks)
         (refreshed log old.present)
         (All-map (IsPlaced log.blocks) (refreshed_resident log) old.present
         (subst (λ (n : ℕ). All (IsPlaced n) old.present) (sym same) tidy.placed));
     apart = apart_filter (λ hold. not (nat_eq hold.transaction tx)) old.holds tidy.apart;
-    read = read_swept (released old.holds tx) (with_record log log.places plan old.records)
+    read = read_swept spare (released old.holds tx) (with_record log log.places plan old.records)
         (refreshed log old.present) (refreshed log old.present) (λ at c e. e)
         (All-weaker (IsReadHere old.present) (IsReadHere (refreshed log old.present))
         (λ x h is. let (content, there) = h is in stays x.addr.block content there) (released old.holds tx)
         (All-filter (λ hold. not (nat_eq hold.transaction tx)) (IsReadHere old.present) old.holds tidy.read));
     claimed = All-filter (λ hold. not (nat_eq hold.transaction tx)) IsClaimedWhole old.holds tidy.claimed;
-    once = once_filter (λ resident. is_none resident.content || is_taken (released old.holds tx) resident.block
-        || is_kept (with_record log log.places plan old.records) resident.block) (refreshed log old.present)
+    once = once_filter (is_left spare (released old.holds tx) (with_record log log.places plan old.records)) (refreshed log old.present)
         (once_refreshed log old.present tidy.once);
-    pending = All-filter (λ resident. is_none resident.content || is_taken (released old.holds tx) resident.block
-        || is_kept (with_record log log.places plan old.records) resident.block) (IsUnlogged log)
+    pending = All-filter (is_left spare (released old.holds tx) (with_record log log.places plan old.records)) (IsUnlogged log)
         (refreshed log old.present)
         (All-map (IsUnlogged log) (refreshed_resident log) old.present
         (λ k d lt. unlogged (get_or old.present k d) (tidy.pending k d lt)

@@ -108,6 +108,6 @@ pub core_claim : (base : Image) (old : CoreState) (tx : ℕ) (addr : Addr) → I
     → IsCoreWindow base (claimed old tx addr)
 core_claim base old tx addr h = h
 
-pub core_end : (base : Image) (old : CoreState) (tx : ℕ) → IsCoreWindow base old
-    → IsCoreWindow base (ended old tx)
-core_end base old tx h = window_swept base old.log old.records (released old.holds tx) old.present h
+pub core_end : (spare : Present → Bool) (base : Image) (old : CoreState) (tx : ℕ) → IsCoreWindow base old
+    → IsCoreWindow base (ended spare old tx)
+core_end spare base old tx h = window_swept spare base old.log old.records (released old.holds tx) old.present h

@@ -1,5 +1,5 @@
 -- What a commit of the core needs, and what it leaves.
-use Rattle.std.specs.Prelude.{◌≡◌, ℕ, true, false, if◌then◌else◌, Option, Some, None, List, [], ◌∷◌, ◌++◌}
+use Rattle.std.specs.Prelude.{◌≡◌, ℕ, Bool, true, false, if◌then◌else◌, Option, Some, None, List, [], ◌∷◌, ◌++◌}
 use Rattle.std.specs.Prelude.{length, map, nat_lt, All}
 use Rattle.limits.specs.declared.TheConstants.{BLOCK_BYTES}
 use Rattle.disk.specs.Device.{Content}
@@ -76,11 +76,11 @@ abbrev pub refreshed : Log → List Present → List Present
 refreshed log present = map (refreshed_resident log) present
 
 -- the core once the change is committed
-abbrev pub committed : CoreState → ℕ → Planned → Log → CoreState
-committed old tx plan log = record (ended old tx) {
+abbrev pub committed : (Present → Bool) → CoreState → ℕ → Planned → Log → CoreState
+committed spare old tx plan log = record (ended spare old tx) {
   log = log;
   records = with_record log log.places plan old.records;
-  present = swept (released old.holds tx) (with_record log log.places plan old.records)
+  present = swept spare (released old.holds tx) (with_record log log.places plan old.records)
       (refreshed log old.present);
 }
 

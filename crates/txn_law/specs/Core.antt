@@ -1,5 +1,5 @@
 -- What a contract sees of the core. Its lists have no promised order, but that of the commits.
-use Rattle.std.specs.Prelude.{◌≡◌, ℕ, ◌+◌, not, true, List, ◌∷◌, nat_eq, nat_lt}
+use Rattle.std.specs.Prelude.{◌≡◌, ℕ, ◌+◌, Bool, not, true, List, ◌∷◌, nat_eq, nat_lt}
 use Rattle.std.specs.List.{filter, list_any}
 use Rattle.wal_law.specs.Log.{Log, installed_place}
 use Rattle.txn_law.specs.Holds.{released}
@@ -36,12 +36,12 @@ with_begun core = record core { begun = core.begun + 1; out = (core.begun + 1) �
 abbrev pub without : ℕ → List ℕ → List ℕ
 without tx out = filter (λ other. not (nat_eq other tx)) out
 
--- the core once the transaction has ended
-abbrev pub ended : CoreState → ℕ → CoreState
-ended core tx = record core {
+-- the core once the transaction has ended, where these blocks are spared
+abbrev pub ended : (Present → Bool) → CoreState → ℕ → CoreState
+ended spare core tx = record core {
   out = without tx core.out;
   holds = released core.holds tx;
-  present = swept (released core.holds tx) core.records core.present;
+  present = swept spare (released core.holds tx) core.records core.present;
 }
 
 -- the records of the commits past a place
@@ -49,9 +49,9 @@ abbrev pub past : ℕ → List Footprint → List Footprint
 past place records = filter (λ kept. nat_lt place kept.place) records
 
 -- the core once its log has gone on, without the records of the commits that it has installed
-abbrev pub installed : CoreState → Log → CoreState
-installed core log = record core {
+abbrev pub installed : (Present → Bool) → CoreState → Log → CoreState
+installed spare core log = record core {
   log = log;
   records = past (installed_place log) core.records;
-  present = swept core.holds (past (installed_place log) core.records) core.present;
+  present = swept spare core.holds (past (installed_place log) core.records) core.present;
 }

@@ -16,8 +16,15 @@ lies_in objects block = list_any (λ object. nat_eq object.addr.block.0 block.0)
 abbrev pub is_kept : List Footprint → BlockNo → Bool
 is_kept records block = list_any (λ kept. lies_in kept.read block) records
 
--- the blocks that somebody has taken, that a kept record read, or whose fetch is pending
-abbrev pub swept : List Hold → List Footprint → List Present → List Present
-swept holds records present =
-    filter (λ resident. is_none resident.content || is_taken holds resident.block || is_kept records resident.block)
-    present
+-- whether its fetch is pending, somebody has taken a part of the block, or a kept record read one
+abbrev pub is_needed : List Hold → List Footprint → Present → Bool
+is_needed holds records resident =
+    is_none resident.content || is_taken holds resident.block || is_kept records resident.block
+
+-- whether it stays in memory: it is spared, or needed
+abbrev pub is_left : (Present → Bool) → List Hold → List Footprint → Present → Bool
+is_left spare holds records resident = spare resident || is_needed holds records resident
+
+-- the blocks that are needed, and those that are spared besides
+abbrev pub swept : (Present → Bool) → List Hold → List Footprint → List Present → List Present
+swept spare holds records present = filter (is_left spare holds records) present

@@ -146,25 +146,26 @@ pub fn an_absorbing_append_grows_the_log()
         ≡ tail_count log + length (fresh (drop (log.logged + log.taken) log.changes) group) }
 {}
 
-/// What the core lets go of memory was read by no commit that it keeps.
+/// What the core lets go of memory was read by no commit that it keeps, whichever other blocks it spares.
 pub fn a_sweep_keeps_the_window()
-    ensures { (base : Image) (log : Log) (commits : List Footprint) (holds : List Hold)
+    ensures { (spare : Present → Bool) (base : Image) (log : Log) (commits : List Footprint) (holds : List Hold)
         (present : List Present) → IsWindowOver base log commits (held_of present)
-        → IsWindowOver base log commits (held_of (swept holds commits present)) }
+        → IsWindowOver base log commits (held_of (swept spare holds commits present)) }
 {}
 
 /// A call of the installer that is given back keeps the window of the core.
 pub fn an_installation_keeps_the_window_of_the_core()
-    ensures { (base : Image) (core : CoreState) (ok : Bool) → IsLawful core.log → IsCoreWindow base core
-        → IsCoreWindow (home_after base core.log ok) (installed core (with_inst_back core.log ok)) }
+    ensures { (spare : Present → Bool) (base : Image) (core : CoreState) (ok : Bool) → IsLawful core.log
+        → IsCoreWindow base core
+        → IsCoreWindow (home_after base core.log ok) (installed spare core (with_inst_back core.log ok)) }
 {}
 
 /// A commit keeps the window of the core.
 pub fn a_commit_keeps_the_window_of_the_core()
-    ensures { (base : Image) (old : CoreState) (tx : ℕ) (plan : Planned) (group : List (BlockNo × Content))
-        (log : Log) → IsLawful old.log
+    ensures { (spare : Present → Bool) (base : Image) (old : CoreState) (tx : ℕ) (plan : Planned)
+        (group : List (BlockNo × Content)) (log : Log) → IsLawful old.log
         → IsCommitted base old tx plan group log → IsCoreWindow base old
-        → IsCoreWindow base (committed old tx plan log) }
+        → IsCoreWindow base (committed spare old tx plan log) }
 {}
 
 /// What a transaction writes in a block that isn't in memory is the whole block.
@@ -185,16 +186,16 @@ pub fn a_transaction_keeps_the_window_of_the_core()
         → IsCoreWindow base new }
     ensures claim { (base : Image) (old : CoreState) (tx : ℕ) (addr : Addr) → IsCoreWindow base old
         → IsCoreWindow base (claimed old tx addr) }
-    ensures end { (base : Image) (old : CoreState) (tx : ℕ) → IsCoreWindow base old
-        → IsCoreWindow base (ended old tx) }
+    ensures end { (spare : Present → Bool) (base : Image) (old : CoreState) (tx : ℕ) → IsCoreWindow base old
+        → IsCoreWindow base (ended spare old tx) }
 {}
 
 /// A fetch that is given back keeps the window of the core, where the log still doesn't have the block; and
 /// what is at home of such a block stays.
 pub fn a_fetch_keeps_the_window_of_the_core()
-    ensures done { (base : Image) (core : CoreState) (block : BlockNo) (content : Content)
+    ensures done { (spare : Present → Bool) (base : Image) (core : CoreState) (block : BlockNo) (content : Content)
         → newest core.log block.0 ≡ None → content ≡ base block.0
-        → IsCoreWindow base core → IsCoreWindow base (fetched core block content) }
+        → IsCoreWindow base core → IsCoreWindow base (fetched spare core block content) }
     ensures failed { (base : Image) (core : CoreState) (block : BlockNo) → IsCoreWindow base core
         → IsCoreWindow base (fetch_failed core block) }
     ensures stays { (base : Image) (log : Log) (ok : Bool) (block : ℕ) → newest log block ≡ None

@@ -7,7 +7,7 @@ use Rattle.txn.proofs.Counted.{total_more}
 use Rattle.txn.proofs.records.forget_each.Goals as goal
 
 pub loop-i-init : goal.loop-i-init
-loop-i-init g c = unpins_none c.args.present.now c.lawful.ensures.wanted
+loop-i-init g c = unpins_none c.args.present.now
 
 step : {X : Type 0} (count : BlockNo → X → ℕ) (xs : List X) (i : ℕ) (x : X) (one two three : Resident)
     → i < length xs → x ≡ get_or xs i x → Unpins one (λ at. total (count at) (take i xs)) two

@@ -1,6 +1,6 @@
 use Rattle.std.proofs.Common.{◌≡◌, ◌-◌, ◌∙◌, if◌then◌else◌, nat_lt, arith, ap, sym, Bool, true}
 use Rattle.objects.specs.Pins.{Resident, pins_of}
-use Rattle.objects.proofs.Wanted.{wanted_all}
+use Rattle.objects.proofs.Wanted.{lets_none}
 use Rattle.txn.specs.Pinned.{objects_in}
 use Rattle.txn.proofs.records.forget_one.Goals as goal
 
@@ -13,5 +13,5 @@ returns-then-is_past g c =
           let none = ap (λ (t : Bool). pins_of present at
           - (if t then 0 else objects_in (g.C.Change.planned c.args.kept.now.change).read at)) past in
           omega (arith, none)),
-      sym (wanted_all (pins_of present) present.blocks c.lawful.ensures.wanted),
+      lets_none (pins_of present) present.blocks,
     )

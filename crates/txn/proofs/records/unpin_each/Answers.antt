@@ -9,7 +9,7 @@ use Rattle.txn.proofs.Counted.{total_more}
 use Rattle.txn.proofs.records.unpin_each.Goals as goal
 
 pub loop-object-init : goal.loop-object-init
-loop-object-init c = unpins_none c.args.present.now c.lawful.ensures.wanted
+loop-object-init c = unpins_none c.args.present.now
 
 pub loop-object-preserved : goal.loop-object-preserved
 loop-object-preserved c =

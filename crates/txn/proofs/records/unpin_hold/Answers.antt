@@ -1,6 +1,6 @@
-use Rattle.std.proofs.Common.{◌≡◌, ◌-◌, if◌then◌else◌, nat_eq, not, arith, ap, sym, Bool, false, ne_eqb}
+use Rattle.std.proofs.Common.{◌≡◌, ◌-◌, if◌then◌else◌, nat_eq, not, arith, ap, Bool, false, ne_eqb}
 use Rattle.objects.specs.Pins.{Resident, once_at, pins_of}
-use Rattle.objects.proofs.Wanted.{wanted_all}
+use Rattle.objects.proofs.Wanted.{lets_none}
 use Rattle.txn.proofs.records.unpin_hold.Goals as goal
 
 pub returns-then-hold-transaction : goal.returns-then-hold-transaction
@@ -12,5 +12,5 @@ returns-then-hold-transaction c =
           let none = ap (λ (t : Bool). pins_of present at
           - (if not t then 0 else once_at c.args.hold.now.addr.block at)) other in
           omega (arith, none)),
-      sym (wanted_all (pins_of present) present.blocks c.lawful.ensures.wanted),
+      lets_none (pins_of present) present.blocks,
     )

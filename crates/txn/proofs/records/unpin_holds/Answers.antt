@@ -13,7 +13,7 @@ abbrev counts : ℕ → BlockNo → Hold → ℕ
 counts tx at hold = if not (nat_eq hold.transaction tx) then 0 else once_at hold.addr.block at
 
 pub loop-hold-init : goal.loop-hold-init
-loop-hold-init c = unpins_none c.args.present.now c.lawful.ensures.wanted
+loop-hold-init c = unpins_none c.args.present.now
 
 pub loop-hold-preserved : goal.loop-hold-preserved
 loop-hold-preserved c =

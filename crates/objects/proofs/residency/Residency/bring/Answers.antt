@@ -1,10 +1,8 @@
 use Rattle.std.proofs.Common.{◌≡◌, ◌∙◌, ◌++◌, ◌∷◌, [], List, None, ap, subst, sym}
-use Rattle.objects.specs.Pins.{AreWanted, count_in}
 use Rattle.objects.specs.Present.{IsOnce, present_of}
 use Rattle.objects.specs.declared.present.Present.{Present}
 use Rattle.objects.proofs.Residents.{once_push}
 use Rattle.objects.proofs.Kept.{none_of}
-use Rattle.objects.proofs.Wanted.{wanted_push}
 use Rattle.objects.proofs.residency.Residency.bring.Goals as goal
 
 pub invariant_of-self-then-not-is_there : goal.invariant_of-self-then-not-is_there
@@ -16,9 +14,5 @@ invariant_of-self-then-not-is_there c =
     subst (λ (xs : List Present). present_of xs c.args.block ≡ None) (c.deref.ensures.value ∙ one)
     (none_of (present_of c.deref.result.now c.args.block) (sym c.is_there.ensures ∙ c.if-not-is_there.true)) in
     let is : c.add-then-not-is_there.new.present.items ≡ blocks ++ resident ∷ [] =
-    c.add-then-not-is_there.ensures ∙ ap (λ (xs : List Present). xs ++ resident ∷ []) one in (
-      subst IsOnce (sym is) (once_push blocks resident absent c.self.invariant.0),
-      subst (AreWanted (count_in c.add.new.pins.entries)) (sym is)
-          (wanted_push (count_in c.self.inside.pins.entries) (count_in c.add.new.pins.entries) blocks
-          c.args.block c.args.content c.in_ok-add.ensures.added c.self.invariant.1),
-    )
+    c.add-then-not-is_there.ensures ∙ ap (λ (xs : List Present). xs ++ resident ∷ []) one in
+    subst IsOnce (sym is) (once_push blocks resident absent c.self.invariant)

@@ -1,15 +1,9 @@
 use Rattle.std.proofs.Common.{subst, sym}
-use Rattle.objects.specs.Pins.{AreWanted, count_in}
 use Rattle.objects.specs.Present.{IsOnce}
 use Rattle.objects.proofs.Kept.{once_renewed}
-use Rattle.objects.proofs.Wanted.{wanted_renewed}
 use Rattle.objects.proofs.residency.Residency.renew.Goals as goal
 
 pub invariant_of-self : goal.invariant_of-self
-invariant_of-self c = (
-  subst IsOnce (sym c.renew_each.ensures)
-      (once_renewed c.args.block c.args.content.now c.self.inside.blocks.items c.self.invariant.0),
-  subst (AreWanted (count_in c.self.inside.pins.entries)) (sym c.renew_each.ensures)
-      (wanted_renewed (count_in c.self.inside.pins.entries) c.args.block c.args.content.now
-      c.self.inside.blocks.items c.self.invariant.1),
-)
+invariant_of-self c =
+    subst IsOnce (sym c.renew_each.ensures)
+    (once_renewed c.args.block c.args.content.now c.self.inside.blocks.items c.self.invariant)

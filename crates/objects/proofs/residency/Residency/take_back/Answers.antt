@@ -1,17 +1,11 @@
 use Rattle.std.proofs.Common.{not, nat_eq, subst, sym}
-use Rattle.objects.specs.Pins.{AreWanted, count_in}
 use Rattle.objects.specs.Present.{IsOnce}
 use Rattle.objects.specs.declared.present.Present.{Present}
 use Rattle.objects.proofs.Residents.{once_filter}
-use Rattle.objects.proofs.Wanted.{wanted_without}
 use Rattle.objects.proofs.residency.Residency.take_back.Goals as goal
 
 pub invariant_of-self : goal.invariant_of-self
-invariant_of-self c = (
-  subst IsOnce (sym c.take_back.ensures)
-      (once_filter (λ (resident : Present). not (nat_eq resident.block.0 c.args.block.0))
-      c.self.inside.blocks.items c.self.invariant.0),
-  subst (AreWanted (count_in c.take.new.pins.entries)) (sym c.take_back.ensures)
-      (wanted_without (count_in c.self.inside.pins.entries) (count_in c.take.new.pins.entries) c.args.block
-      c.take.ensures.counts c.self.inside.blocks.items c.self.invariant.1),
-)
+invariant_of-self c =
+    subst IsOnce (sym c.take_back.ensures)
+    (once_filter (λ (resident : Present). not (nat_eq resident.block.0 c.args.block.0))
+    c.self.inside.blocks.items c.self.invariant)

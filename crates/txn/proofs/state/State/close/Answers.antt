@@ -1,9 +1,10 @@
-use Rattle.std.proofs.Common.{◌≡◌, ◌∙◌, ap, map, sym, subst, List}
+use Rattle.std.proofs.Common.{◌≡◌, Bool, ◌∙◌, ap, map, sym, subst, List}
 use Rattle.txn.proofs.Counted.{swept_is}
 use Rattle.txn.proofs.Mapped.{ended_is}
 use Rattle.txn.proofs.Neat.{neat_ended}
 use Rattle.txn.specs.Neat.{IsNeat}
 use Rattle.objects.specs.Pins.{Resident, pins_of}
+use Rattle.objects.specs.declared.present.Present.{Present}
 use Rattle.txn_law.specs.Commit.{footprint}
 use Rattle.txn_law.specs.Core.{CoreState, ended}
 use Rattle.txn_law.specs.Holds.{released}
@@ -32,9 +33,10 @@ returns g c =
     let new : Resident = c.unpin_holds.new.present in
     let neat : IsNeat core.log (released core.holds tx) records new =
     neat_ended core.log core.holds tx records old new c.unpin_holds.ensures c.self.invariant in
-    let left : new.blocks ≡ swept (released core.holds tx) records old.blocks =
-    c.unpin_holds.ensures.1
-    ∙ swept_is (released core.holds tx) records (pins_of new) old.blocks neat.counted in
+    let spare : Present → Bool = c.unpin_holds.ensures.1.0 in
+    let left : new.blocks ≡ swept spare (released core.holds tx) records old.blocks =
+    c.unpin_holds.ensures.1.1
+    ∙ swept_is spare (released core.holds tx) records (pins_of new) old.blocks neat.counted in
     let seen : CoreState = record {
       log = core.log;
       inodes = core.inodes;
@@ -43,7 +45,9 @@ returns g c =
       holds = core.holds;
       present = old.blocks;
       records = records;
-    } in
-    ended_is seen tx c.leave.new.out.items c.release_all.new.self new.blocks
-    c.leave.ensures c.release_all.ensures left
-    ∙ ap (λ (seen : CoreState). ended seen tx) c.self.view_is
+    } in (
+      spare,
+      ended_is spare seen tx c.leave.new.out.items c.release_all.new.self new.blocks
+          c.leave.ensures c.release_all.ensures left
+          ∙ ap (λ (seen : CoreState). ended spare seen tx) c.self.view_is,
+    )

@@ -1,4 +1,4 @@
-use Rattle.std.proofs.Common.{◌≡◌, ◌∙◌, List, ap, map, subst, sym}
+use Rattle.std.proofs.Common.{◌≡◌, Bool, ◌∙◌, List, ap, map, subst, sym}
 use Rattle.objects.specs.Pins.{Resident, pins_of}
 use Rattle.objects.specs.Present.{filled}
 use Rattle.objects.specs.declared.present.Present.{Present}
@@ -18,8 +18,8 @@ invariant_of-self g c =
     let core = c.self.inside in
     let records : List Footprint =
     map (λ kept. footprint kept.place.0 (g.C.Change.planned kept.change)) core.records.items in
-    subst (λ (resident : Resident). IsNeat core.log core.holds records resident) (sym c.fetched.ensures)
-    (neat_fetched core.log core.holds records core.present c.io.inside.block c.io.inside.buffer c.self.invariant)
+    subst (λ (resident : Resident). IsNeat core.log core.holds records resident) (sym c.fetched.ensures.1)
+    (neat_fetched c.fetched.ensures.0 core.log core.holds records core.present c.io.inside.block c.io.inside.buffer c.self.invariant)
 
 pub returns : goal.returns
 returns g c =
@@ -28,10 +28,11 @@ returns g c =
     map (λ kept. footprint kept.place.0 (g.C.Change.planned kept.change)) core.records.items in
     let old : Resident = core.present in
     let new : Resident = c.fetched.new.self in
+    let spare : Present → Bool = c.fetched.ensures.0 in
     let left : new.blocks
-    ≡ swept core.holds records (filled old.blocks c.io.inside.block c.io.inside.buffer) =
-    ap (λ (r : Resident). r.blocks) c.fetched.ensures
-    ∙ swept_is core.holds records (pins_of old) (filled old.blocks c.io.inside.block c.io.inside.buffer)
+    ≡ swept spare core.holds records (filled old.blocks c.io.inside.block c.io.inside.buffer) =
+    ap (λ (r : Resident). r.blocks) c.fetched.ensures.1
+    ∙ swept_is spare core.holds records (pins_of old) (filled old.blocks c.io.inside.block c.io.inside.buffer)
     c.self.invariant.counted in
     let seen : CoreState = record {
       log = core.log;
@@ -41,7 +42,9 @@ returns g c =
       holds = core.holds;
       present = old.blocks;
       records = records;
-    } in
-    ap (λ (present : List Present). record seen { present = present }) left
-    ∙ ap (λ (io : Fetch). fetched seen io.block io.content) c.io.view_is
-    ∙ ap (λ (before : CoreState). fetched before c.args.io.block c.args.io.content) c.self.view_is
+    } in (
+      spare,
+      ap (λ (present : List Present). record seen { present = present }) left
+          ∙ ap (λ (io : Fetch). fetched spare seen io.block io.content) c.io.view_is
+          ∙ ap (λ (before : CoreState). fetched spare before c.args.io.block c.args.io.content) c.self.view_is,
+    )

@@ -1,8 +1,9 @@
-use Rattle.std.proofs.Common.{◌≡◌, ◌≤◌, ◌∙◌, ◌-◌, ℕ, if◌then◌else◌, ap, map, sym, subst, List, nat_lt, arith}
+use Rattle.std.proofs.Common.{◌≡◌, Bool, true, ◌≤◌, ◌∙◌, ◌-◌, ℕ, if◌then◌else◌, ap, map, sym, subst, List, nat_lt, arith}
 use Rattle.wal_law.specs.Calls.{InstCallComesBack}
 use Rattle.wal_law.specs.Log.{Log, installed_place}
 use Rattle.objects.specs.Pins.{Resident, Unpins, pins_of}
-use Rattle.objects.proofs.Wanted.{wanted_all}
+use Rattle.objects.proofs.Wanted.{spared_all}
+use Rattle.objects.specs.declared.present.Present.{Present}
 use Rattle.txn.proofs.Counted.{swept_is, total-map}
 use Rattle.txn.proofs.Mapped.{map_filter, installed_is}
 use Rattle.txn.proofs.Neat.{neat_installed, neat_on, past_same}
@@ -37,9 +38,7 @@ returns-then-is_at_most-clause-others g c =
     omega (arith, at, c.installed-installed.ensures, c.installed-before.ensures) in
     let past_is : past (installed_place log) records ≡ records =
     past_same (installed_place log) core.log records le c.self.invariant.kept in
-    let all : swept core.holds records resident.blocks ≡ resident.blocks =
-    sym (swept_is core.holds records (pins_of resident) resident.blocks c.self.invariant.counted)
-    ∙ wanted_all (pins_of resident) resident.blocks c.lawful.ensures.wanted in
+    let spare : Present → Bool = λ resident. true in
     let seen : CoreState = record {
       log = core.log;
       inodes = core.inodes;
@@ -48,10 +47,12 @@ returns-then-is_at_most-clause-others g c =
       holds = core.holds;
       present = resident.blocks;
       records = records;
-    } in
-    installed_is seen log records resident.blocks (sym past_is)
-    (sym (ap (λ (rs : List Footprint). swept core.holds rs resident.blocks) past_is ∙ all))
-    ∙ ap (λ (old : CoreState). installed old log) c.self.view_is
+    } in (
+      spare,
+      installed_is spare seen log records resident.blocks (sym past_is)
+          (spared_all (pins_of resident) resident.blocks)
+          ∙ ap (λ (old : CoreState). installed spare old log) c.self.view_is,
+    )
 
 pub returns-then-is_at_most-clause-law : goal.returns-then-is_at_most-clause-law
 returns-then-is_at_most-clause-law g c =
@@ -113,9 +114,10 @@ returns-clause-others g c =
     (dropped (λ kept. footprint kept.place.0 (g.C.Change.planned kept.change)) core.records.items
     c.installed-installed.result.0 (installed_place log) c.installed-installed.ensures old new
     c.forget.ensures.pins) c.self.invariant in
-    let left : new.blocks ≡ swept core.holds (past (installed_place log) before) old.blocks =
-    c.forget.ensures.pins.1
-    ∙ swept_is core.holds (past (installed_place log) before) (pins_of new) old.blocks neat.counted in
+    let spare : Present → Bool = c.forget.ensures.pins.1.0 in
+    let left : new.blocks ≡ swept spare core.holds (past (installed_place log) before) old.blocks =
+    c.forget.ensures.pins.1.1
+    ∙ swept_is spare core.holds (past (installed_place log) before) (pins_of new) old.blocks neat.counted in
     let seen : CoreState = record {
       log = core.log;
       inodes = core.inodes;
@@ -124,9 +126,11 @@ returns-clause-others g c =
       holds = core.holds;
       present = old.blocks;
       records = before;
-    } in
-    installed_is seen log records new.blocks kept_is left
-    ∙ ap (λ (before : CoreState). installed before log) c.self.view_is
+    } in (
+      spare,
+      installed_is spare seen log records new.blocks kept_is left
+          ∙ ap (λ (before : CoreState). installed spare before log) c.self.view_is,
+    )
 
 pub returns-clause-law : goal.returns-clause-law
 returns-clause-law g c =

@@ -100,7 +100,7 @@ invariant_of-self-in-Appended g c =
     then objects_in plan.read at else 0)) c.places-place.ensures in
     subst (λ (rs : List Footprint). IsNeat log core.holds rs there) (sym kept)
     (neat_with core.log log group plan before appended core.holds old there
-    (quiet_in seen c.args.tx plan group own (c.in-Ok.ensures.blocks ∙ c.requires.blocks) c.lawful.ensures.once)
+    (quiet_in seen c.args.tx plan group own (c.in-Ok.ensures.blocks ∙ c.requires.blocks) c.lawful.ensures)
     pins is c.self.invariant)
 
 pub returns-in-Appended : goal.returns-in-Appended
@@ -138,21 +138,22 @@ returns-in-Appended g c =
             All (λ object. length object.bytes ≡ object.addr.len) written) c.written.ensures c.are_sized.ensures;
         seen = subst (λ (l : Log). HasAppended l c.in-Ok.group.items c.close.new.self.log) seen
             (subst (λ (l : Log). HasAppended core.log c.in-Ok.group.items l)
-            (sym (ap (λ (now : CoreState). now.log) c.close.ensures)) (c.append.ensures.seen (search rules)));
+            (sym (ap (λ (now : CoreState). now.log) c.close.ensures.1)) (c.append.ensures.seen (search rules)));
         grown = subst (λ (l : Log). GrowsBy l c.in-Ok.group.items c.close.new.self.log) seen
             (subst (λ (l : Log). GrowsBy core.log c.in-Ok.group.items l)
-            (sym (ap (λ (now : CoreState). now.log) c.close.ensures)) (c.append.ensures.grows (search rules)));
+            (sym (ap (λ (now : CoreState). now.log) c.close.ensures.1)) (c.append.ensures.grows (search rules)));
       };
       still = search rules;
       places = search rules;
-      core = committed_is c.args.self.now c.close.new.self c.args.tx plan log there.blocks
-          records (c.close.ensures
-          ∙ ap (λ (old : CoreState). ended (record old {
+      spare = c.close.ensures.0;
+      core = committed_is c.close.ensures.0 c.args.self.now c.close.new.self c.args.tx plan log there.blocks
+          records (c.close.ensures.1
+          ∙ ap (λ (old : CoreState). ended c.close.ensures.0 (record old {
             log = log;
             present = there.blocks;
             records = records;
           }) c.tx.inside.number) c.self.view_is
-          ∙ ap (λ tx. ended (record c.args.self.now {
+          ∙ ap (λ tx. ended c.close.ensures.0 (record c.args.self.now {
             log = log;
             present = there.blocks;
             records = records;
@@ -164,5 +165,5 @@ returns-in-Appended g c =
           (kept ∙ ap (λ (old : CoreState). with_record log log.places plan old.records) c.self.view_is);
       law = subst (λ (l : Log). KeepsAgreement l c.close.new.self.log) seen
           (subst (λ (l : Log). KeepsAgreement core.log l) (sym (ap (λ (now : CoreState). now.log)
-          c.close.ensures)) c.append.ensures.law);
+          c.close.ensures.1)) c.append.ensures.law);
     }

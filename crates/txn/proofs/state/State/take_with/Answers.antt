@@ -1,15 +1,12 @@
 use Rattle.std.proofs.Common.{◌≡◌, ◌+◌, ◌-◌, ◌∙◌, ℕ, Bool, true, false, if◌then◌else◌, List, None, Some, ap, map}
-use Rattle.std.proofs.Common.{subst, sym, refl, arith}
-use Rattle.std.proofs.lemmas.Bool.{eq-eqb}
+use Rattle.std.proofs.Common.{subst, sym, arith}
 use Rattle.disk.specs.Device.{Content}
 use Rattle.disk.specs.declared.block.BlockNo.{BlockNo}
 use Rattle.objects.specs.Pins.{Resident, PinsStay, once_at, pins_of}
 use Rattle.objects.specs.Present.{present_of, without_block}
 use Rattle.objects.specs.declared.present.Present.{Present}
 use Rattle.objects.proofs.Kept.{back_as_before}
-use Rattle.objects.proofs.Wanted.{once_here}
 use Rattle.wal_law.specs.Log.{newest}
-use Rattle.txn.proofs.Counted.{held_pinned}
 use Rattle.txn.proofs.Neat.{neat_stay, neat_brought}
 use Rattle.txn.specs.Neat.{IsAsLogged, IsNeat}
 use Rattle.txn.specs.Pinned.{newly_in}
@@ -64,17 +61,6 @@ returns-in-Err-clause-refused g c =
     } in
     ap (λ (holds : List Hold). seen holds new.blocks) c.in-Err.ensures.refused
     ∙ ap (λ (present : List Present). seen core.holds present) back ∙ c.self.view_is
-
-pub settle-requires : goal.settle-requires
-settle-requires g c = λ e.
-    let core = c.self.inside in
-    let block : BlockNo = c.args.hold.addr.block in
-    let some = held_pinned c.args.hold.transaction c.args.hold.addr block core.holds
-    (sym c.is_held_by-again.ensures ∙ e) in
-    let counted = c.self.invariant.counted block in
-    let more = c.in_ok-bring.ensures.pinned block in
-    let one = once_here block block (eq-eqb block.0 block.0 refl) in
-    omega (arith, some, counted, more, one)
 
 -- the pin that was for a hold that there was is taken off again
 settled : (t again : Bool) (old brought new one : ℕ) → again ≡ t → brought ≡ old + one

@@ -19,12 +19,12 @@ use Rattle.txn.proofs.transactions.Core.fetched.Goals as goal
 
 pub invariant_of-self : goal.invariant_of-self
 invariant_of-self g c = (
-  subst (λ (core : CoreState). IsLawfulCore g.C.Change.is_plan core) (sym c.fetched.ensures)
-      (lawful_fetched g.C.Change.is_plan c.self.inside.state c.args.io.block c.args.io.content c.whole.ensures
+  subst (λ (core : CoreState). IsLawfulCore g.C.Change.is_plan core) (sym c.fetched.ensures.1)
+      (lawful_fetched g.C.Change.is_plan c.fetched.ensures.0 c.self.inside.state c.args.io.block c.args.io.content c.whole.ensures
       c.self.invariant.0),
   log_counts g.C.Change.are_counts c.self.inside.state c.fetched.new.self
-      (ap (λ (core : CoreState). core.log.blocks) c.fetched.ensures)
-      (ap (λ (core : CoreState). core.inodes) c.fetched.ensures) c.self.invariant.1,
+      (ap (λ (core : CoreState). core.log.blocks) c.fetched.ensures.1)
+      (ap (λ (core : CoreState). core.inodes) c.fetched.ensures.1) c.self.invariant.1,
 )
 
 pub returns-clause-keeps : goal.returns-clause-keeps
@@ -32,22 +32,22 @@ returns-clause-keeps g c =
     subst (λ (old : CoreState). (base : Image) → (IsPending old c.args.io.block
     → c.args.io.content ≡ base c.args.io.block.0) → IsHomeOf base old → IsHomeOf base c.fetched.new.self)
     c.self.view_is
-    (λ base brought h. subst (λ (core : CoreState). IsHomeOf base core) (sym c.fetched.ensures)
-    (fetched_home base c.self.inside.state c.args.io.block c.args.io.content c.self.invariant.0.tidy brought h))
+    (λ base brought h. subst (λ (core : CoreState). IsHomeOf base core) (sym c.fetched.ensures.1)
+    (fetched_home c.fetched.ensures.0 base c.self.inside.state c.args.io.block c.args.io.content c.self.invariant.0.tidy brought h))
 
 pub returns-clause-stays : goal.returns-clause-stays
 returns-clause-stays g c = λ other.
     subst (λ (old : CoreState). KeepsReads old c.fetched.new.self other) c.self.view_is
-    (subst (λ (core : CoreState). KeepsReads c.self.inside.state core other) (sym c.fetched.ensures)
-    (reads_fetched c.self.inside.state c.args.io.block c.args.io.content other))
+    (subst (λ (core : CoreState). KeepsReads c.self.inside.state core other) (sym c.fetched.ensures.1)
+    (reads_fetched c.fetched.ensures.0 c.self.inside.state c.args.io.block c.args.io.content other))
 
 pub returns-clause-leaves : goal.returns-clause-leaves
 returns-clause-leaves g c =
     subst (λ (old : CoreState). HasFetched old c.args.io.block c.args.io.content c.fetched.new.self)
     c.self.view_is
     (subst (λ (core : CoreState). HasFetched c.self.inside.state c.args.io.block c.args.io.content core)
-    (sym c.fetched.ensures)
-    (leaves_fetched c.self.inside.state c.args.io.block c.args.io.content c.self.invariant.0.tidy))
+    (sym c.fetched.ensures.1)
+    (leaves_fetched c.fetched.ensures.0 c.self.inside.state c.args.io.block c.args.io.content c.self.invariant.0.tidy))
 
 pub returns-clause-brings : goal.returns-clause-brings
 returns-clause-brings g c =

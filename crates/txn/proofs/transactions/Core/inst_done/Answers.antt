@@ -19,11 +19,11 @@ pub invariant_of-self : goal.invariant_of-self
 invariant_of-self g c = (
   let old : CoreState = c.self.inside.state in
       subst (λ (core : CoreState). IsLawfulCore g.C.Change.is_plan core)
-      (sym (c.inst_done.ensures.others ∙ ap (λ (log : Log). installed old log) c.inst_done.ensures.log))
-      (lawful_inst_done g.C.Change.is_plan old (is_inst_out old.log c.args.io) c.args.ok
+      (sym (c.inst_done.ensures.others.1 ∙ ap (λ (log : Log). installed c.inst_done.ensures.others.0 old log) c.inst_done.ensures.log))
+      (lawful_inst_done g.C.Change.is_plan c.inst_done.ensures.others.0 old (is_inst_out old.log c.args.io) c.args.ok
       (subst IsLawful c.inst_done.ensures.log c.lawful.ensures) c.self.invariant.0),
   log_counts g.C.Change.are_counts c.self.inside.state c.inst_done.new.self c.inst_done.ensures.blocks
-      (ap (λ (core : CoreState). core.inodes) c.inst_done.ensures.others) c.self.invariant.1,
+      (ap (λ (core : CoreState). core.inodes) c.inst_done.ensures.others.1) c.self.invariant.1,
 )
 
 pub returns-clause-law : goal.returns-clause-law
@@ -40,20 +40,20 @@ returns-clause-keeps g c =
     (λ base h. subst
     (λ (core : CoreState). IsHomeOf (if is_inst_out old.log c.args.io then home_after base old.log
     c.args.ok else base)
-    core) (sym (c.inst_done.ensures.others ∙ ap (λ (log : Log). installed old log) c.inst_done.ensures.log))
-    (home_inst_done base old (is_inst_out old.log c.args.io) c.args.ok c.self.invariant.0.log
+    core) (sym (c.inst_done.ensures.others.1 ∙ ap (λ (log : Log). installed c.inst_done.ensures.others.0 old log) c.inst_done.ensures.log))
+    (home_inst_done c.inst_done.ensures.others.0 base old (is_inst_out old.log c.args.io) c.args.ok c.self.invariant.0.log
     c.self.invariant.0.tidy h))
 
 pub returns-clause-stays : goal.returns-clause-stays
 returns-clause-stays g c = λ other.
     subst (λ (old : CoreState). KeepsReads old c.inst_done.new.self other) c.self.view_is
-    (subst (λ (core : CoreState). KeepsReads c.self.inside.state core other) (sym c.inst_done.ensures.others)
-    (reads_installed c.self.inside.state c.inst_done.new.self.log other))
+    (subst (λ (core : CoreState). KeepsReads c.self.inside.state core other) (sym c.inst_done.ensures.others.1)
+    (reads_installed c.inst_done.ensures.others.0 c.self.inside.state c.inst_done.new.self.log other))
 
 pub returns-clause-leaves : goal.returns-clause-leaves
 returns-clause-leaves g c =
     subst (λ (old : CoreState). Leaves c.inst_done.new.self (taken_by old) (is_fetching old) (in_memory old))
     c.self.view_is
     (subst (λ (core : CoreState). Leaves core (taken_by c.self.inside.state) (is_fetching c.self.inside.state)
-    (in_memory c.self.inside.state)) (sym c.inst_done.ensures.others)
-    (leaves_installed c.self.inside.state c.inst_done.new.self.log c.self.invariant.0.tidy))
+    (in_memory c.self.inside.state)) (sym c.inst_done.ensures.others.1)
+    (leaves_installed c.inst_done.ensures.others.0 c.self.inside.state c.inst_done.new.self.log c.self.invariant.0.tidy))
