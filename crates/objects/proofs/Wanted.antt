@@ -6,7 +6,7 @@ use Rattle.std.proofs.lemmas.Bool.{ltb-true, lt-ltb, eqb-true}
 use Rattle.std.proofs.lemmas.List.Elements.{All-head, All-tail}
 use Rattle.std.specs.List.{filter}
 use Rattle.disk.specs.declared.block.BlockNo.{BlockNo}
-use Rattle.objects.specs.Pins.{Resident, LetsGo, Pins, Unpins, is_wanted, once_at, pins_of, spared}
+use Rattle.objects.specs.Pins.{Residents, LetsGo, Pins, Unpins, is_wanted, once_at, pins_of, spared}
 use Rattle.objects.specs.Present.{IsOnce, without_clean}
 use Rattle.objects.specs.declared.present.Present.{Present}
 use Rattle.objects.proofs.Residents.{once_filter, same_block}
@@ -73,10 +73,10 @@ spared_then few many first second blocks le =
     both false spare true more = absurd (let no : false ≡ true = more refl in cc)
     both false spare false more = refl
 
-pub unpins_none : (resident : Resident) → Unpins resident (λ at. 0) resident
-unpins_none resident = ((λ at. omega arith), lets_none (pins_of resident) resident.blocks)
+pub unpins_none : (residents : Residents) → Unpins residents (λ at. 0) residents
+unpins_none residents = ((λ at. omega arith), lets_none (pins_of resident) resident.blocks)
 
-pub unpins_then : (one two three : Resident) (less more all : BlockNo → ℕ)
+pub unpins_then : (one two three : Residents) (less more all : BlockNo → ℕ)
     → ((at : BlockNo) → all at ≡ less at + more at) → Unpins one less two → Unpins two more three
     → Unpins one all three
 unpins_then one two three less more all sums first second =
@@ -91,10 +91,10 @@ unpins_then one two three less more all sums first second =
       ),
     )
 
-pub pins_none : (resident : Resident) → Pins resident (λ at. 0) resident
-pins_none resident = ((λ at. omega arith), refl)
+pub pins_none : (residents : Residents) → Pins residents (λ at. 0) residents
+pins_none residents = ((λ at. omega arith), refl)
 
-pub pins_then : (one two three : Resident) (more most all : BlockNo → ℕ)
+pub pins_then : (one two three : Residents) (more most all : BlockNo → ℕ)
     → ((at : BlockNo) → all at ≡ more at + most at) → Pins one more two → Pins two most three
     → Pins one all three
 pins_then one two three more most all sums first second =

@@ -8,7 +8,7 @@ use Rattle.objects.specs.declared.present.Present.{Present}
 
 -- The blocks in memory, and the counts of pins by the blocks' numbers. A block may be pinned while it isn't in
 -- memory, and in memory while it isn't pinned.
-pub record Resident : Type 0 where
+pub record Residents : Type 0 where
   pub blocks : List Present
   pub counts : List (ℕ × ℕ)
 
@@ -17,8 +17,8 @@ abbrev pub count_in : List (ℕ × ℕ) → BlockNo → ℕ
 count_in counts block = unwrap_or (lookup (nat_eq block.0) counts) 0
 
 -- how often the block is pinned
-abbrev pub pins_of : Resident → BlockNo → ℕ
-pins_of resident block = count_in resident.counts block
+abbrev pub pins_of : Residents → BlockNo → ℕ
+pins_of residents block = count_in residents.counts block
 
 -- one at this block
 abbrev pub once_at : BlockNo → BlockNo → ℕ
@@ -37,14 +37,14 @@ abbrev pub LetsGo : (BlockNo → ℕ) → List Present → List Present → Type
 LetsGo pins old new = (spare : Present → Bool) × (new ≡ spared spare pins old)
 
 -- each block is pinned so many times as before
-abbrev pub PinsStay : Resident → Resident → Type 0
+abbrev pub PinsStay : Residents → Residents → Type 0
 PinsStay old new = (at : BlockNo) → pins_of new at ≡ pins_of old at
 
 -- each block is pinned so many times more, and nothing else changes
-abbrev pub Pins : Resident → (BlockNo → ℕ) → Resident → Type 0
+abbrev pub Pins : Residents → (BlockNo → ℕ) → Residents → Type 0
 Pins old more new = ((at : BlockNo) → pins_of new at ≡ pins_of old at + more at) × (new.blocks ≡ old.blocks)
 
 -- each block is pinned so many times less, and some may go that nobody wants then
-abbrev pub Unpins : Resident → (BlockNo → ℕ) → Resident → Type 0
+abbrev pub Unpins : Residents → (BlockNo → ℕ) → Residents → Type 0
 Unpins old less new =
     ((at : BlockNo) → pins_of new at ≡ pins_of old at - less at) × LetsGo (pins_of new) old.blocks new.blocks

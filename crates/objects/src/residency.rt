@@ -28,9 +28,9 @@ pub struct Residency {
 }
 
 impl Model for Residency {
-    ghost use Rattle.objects.specs.Pins.{Resident};
+    ghost use Rattle.objects.specs.Pins.{Residents};
 
-    ghost Value = { Resident };
+    ghost Value = { Residents };
 
     ghost view = { λ residency. record {
       blocks = residency.blocks.items;

@@ -12,7 +12,7 @@ use Rattle.wal_law.specs.Effects.{is_all_home, HasAppended, HasGoneOn}
 use Rattle.wal_law.specs.declared.change.LogChange.{LogChange}
 use Rattle.txn_law.specs.Commit.{Planned, footprint, with_record, refreshed}
 use Rattle.txn_law.specs.Core.{past}
-use Rattle.objects.specs.Pins.{Resident, Pins, PinsStay, Unpins, is_wanted, pins_of, spared}
+use Rattle.objects.specs.Pins.{Residents, Pins, PinsStay, Unpins, is_wanted, pins_of, spared}
 use Rattle.objects.specs.Present.{present_of, with_block, filled, without_pending}
 use Rattle.objects.specs.declared.present.Present.{Present}
 use Rattle.objects.proofs.Kept.{with_absent}
@@ -52,7 +52,7 @@ kept_on old new records installed places kept =
     (λ commit to. (omega (arith, installed, to.0), omega (arith, places, to.1))) records kept
 
 -- the lists stay neat where nothing comes or goes
-pub neat_stay : (log : Log) (holds : List Hold) (records : List Footprint) (old new : Resident)
+pub neat_stay : (log : Log) (holds : List Hold) (records : List Footprint) (old new : Residents)
     → PinsStay old new → new.blocks ≡ old.blocks → IsNeat log holds records old → IsNeat log holds records new
 neat_stay log holds records old new stay same neat = record {
   counted = λ at. stay at ∙ neat.counted at;
@@ -61,7 +61,7 @@ neat_stay log holds records old new stay same neat = record {
 }
 
 -- where an address is taken
-pub neat_taken : (log : Log) (holds : List Hold) (hold : Hold) (records : List Footprint) (old new : Resident)
+pub neat_taken : (log : Log) (holds : List Hold) (hold : Hold) (records : List Footprint) (old new : Residents)
     → AreApart holds → Pins old (newly_in holds hold) new → IsNeat log holds records old
     → IsNeat log (with_hold holds hold) records new
 neat_taken log holds hold records old new apart pins neat = record {
@@ -73,7 +73,7 @@ neat_taken log holds hold records old new apart pins neat = record {
 
 -- where it is taken, or there was no room
 pub neat_took : {T E : Type 0} (log : Log) (holds : List Hold) (hold : Hold) (records : List Footprint)
-    (old : Resident) (answer : Result T E) (left : List Hold) (new : Resident) → AreApart holds
+    (old : Residents) (answer : Result T E) (left : List Hold) (new : Residents) → AreApart holds
     → OnOk answer (left ≡ with_hold holds hold) → OnOk answer (Pins old (newly_in holds hold) new)
     → OnErr answer (left ≡ holds) → OnErr answer (PinsStay old new) → new.blocks ≡ old.blocks
     → IsNeat log holds records old → IsNeat log left records new
@@ -86,7 +86,7 @@ neat_took log holds hold records old (Err none) left new apart taken pins refuse
 
 -- where a block that nobody had comes into memory with what is taken of it
 pub neat_brought : (log : Log) (holds : List Hold) (hold : Hold) (records : List Footprint)
-    (old new : Resident) (content : Option Content) → AreApart holds
+    (old new : Residents) (content : Option Content) → AreApart holds
     → present_of old.blocks hold.addr.block ≡ None
     → IsAsLogged log (record { block = hold.addr.block; content = content })
     → ((at : BlockNo) → pins_of new at ≡ pins_of old at + newly_in holds hold at)
@@ -105,7 +105,7 @@ neat_brought log holds hold records old new content apart absent fits pins is ne
 }
 
 -- where a fetch has failed
-pub neat_failed : (log : Log) (holds : List Hold) (records : List Footprint) (old : Resident) (block : BlockNo)
+pub neat_failed : (log : Log) (holds : List Hold) (records : List Footprint) (old : Residents) (block : BlockNo)
     → IsNeat log holds records old
     → IsNeat log holds records (record old { blocks = without_pending old.blocks block })
 neat_failed log holds records old block neat = record {
@@ -116,7 +116,7 @@ neat_failed log holds records old block neat = record {
 }
 
 -- where a block was fetched
-pub neat_fetched : (spare : Present → Bool) (log : Log) (holds : List Hold) (records : List Footprint) (old : Resident)
+pub neat_fetched : (spare : Present → Bool) (log : Log) (holds : List Hold) (records : List Footprint) (old : Residents)
     (block : BlockNo) (content : Content) → IsNeat log holds records old
     → IsNeat log holds records
     (record old { blocks = spared spare (pins_of old) (filled old.blocks block content) })
@@ -128,14 +128,14 @@ neat_fetched spare log holds records old block content neat = record {
 }
 
 -- what is left of what the log has is what it has
-logged_left : (log : Log) (old new : Resident) (less : BlockNo → ℕ) → Unpins old less new
+logged_left : (log : Log) (old new : Residents) (less : BlockNo → ℕ) → Unpins old less new
     → All (IsAsLogged log) old.blocks → All (IsAsLogged log) new.blocks
 logged_left log old new less unpins h =
     subst (λ (blocks : List Present). All (IsAsLogged log) blocks) (sym unpins.1.1)
     (All-filter (λ resident. unpins.1.0 resident || is_wanted (pins_of new) resident) (IsAsLogged log) old.blocks h)
 
 -- where a transaction has ended
-pub neat_ended : (log : Log) (holds : List Hold) (tx : ℕ) (records : List Footprint) (old new : Resident)
+pub neat_ended : (log : Log) (holds : List Hold) (tx : ℕ) (records : List Footprint) (old new : Residents)
     → Unpins old (own_in tx holds) new → IsNeat log holds records old
     → IsNeat log (released holds tx) records new
 neat_ended log holds tx records old new unpins neat = record {
@@ -146,7 +146,7 @@ neat_ended log holds tx records old new unpins neat = record {
 }
 
 -- where the installer has come further
-pub neat_installed : (before after : Log) (holds : List Hold) (records : List Footprint) (old new : Resident)
+pub neat_installed : (before after : Log) (holds : List Hold) (records : List Footprint) (old new : Residents)
     → HasGoneOn before after
     → Unpins old (λ at. total (λ kept. if nat_lt (installed_place after) kept.place then 0
     else objects_in kept.read at) records) new
@@ -201,7 +201,7 @@ module _ (old new : Log) (group : List (BlockNo × Content)) (plan : Planned) (r
       go false e = kept_before kept
 
   -- the lists stay neat where a commit is recorded
-  pub neat_with : (holds : List Hold) (present there : Resident) → All (IsQuiet group) present.blocks
+  pub neat_with : (holds : List Hold) (present there : Residents) → All (IsQuiet group) present.blocks
       → ((at : BlockNo) → pins_of there at ≡ pins_of present at
       + (if nat_lt (installed_place new) new.places then objects_in plan.read at else 0))
       → there.blocks ≡ refreshed new present.blocks → IsNeat old holds records present
@@ -215,11 +215,11 @@ module _ (old new : Log) (group : List (BlockNo × Content)) (plan : Planned) (r
   }
 
 -- where the logger or the installer has gone on, and nothing more is installed
-pub neat_on : (old new : Log) (holds : List Hold) (records : List Footprint) (resident : Resident)
-    → HasGoneOn old new → installed_place new ≤ installed_place old → IsNeat old holds records resident
-    → IsNeat new holds records resident
-neat_on old new holds records resident on installed neat = record {
+pub neat_on : (old new : Log) (holds : List Hold) (records : List Footprint) (residents : Residents)
+    → HasGoneOn old new → installed_place new ≤ installed_place old → IsNeat old holds records residents
+    → IsNeat new holds records residents
+neat_on old new holds records residents on installed neat = record {
   counted = neat.counted;
-  logged = logged_on old new on resident.blocks neat.logged;
+  logged = logged_on old new on residents.blocks neat.logged;
   kept = kept_on old new records installed (omega (arith, on.places)) neat.kept;
 }

@@ -7,7 +7,7 @@ use Rattle.disk.specs.declared.block.BlockNo.{BlockNo}
 use Rattle.wal_law.specs.Log.{Log, installed_place, newest}
 use Rattle.txn_law.specs.Window.{Footprint}
 use Rattle.txn_law.specs.declared.hold.Hold.{Hold}
-use Rattle.objects.specs.Pins.{Resident, pins_of}
+use Rattle.objects.specs.Pins.{Residents, pins_of}
 use Rattle.objects.specs.declared.present.Present.{Present}
 use Rattle.txn.specs.Pinned.{holds_in, reads_in}
 
@@ -20,8 +20,8 @@ IsAsLogged log resident =
 abbrev pub IsToInstall : Log → Footprint → Type 0
 IsToInstall log commit = (installed_place log < commit.place) × (commit.place ≤ log.places)
 
-pub record IsNeat (log : Log) (holds : List Hold) (records : List Footprint) (resident : Resident)
+pub record IsNeat (log : Log) (holds : List Hold) (records : List Footprint) (residents : Residents)
     : Type 0 where
-  pub counted : (at : BlockNo) → pins_of resident at ≡ holds_in holds at + reads_in records at
-  pub logged : All (IsAsLogged log) resident.blocks
+  pub counted : (at : BlockNo) → pins_of residents at ≡ holds_in holds at + reads_in records at
+  pub logged : All (IsAsLogged log) residents.blocks
   pub kept : All (IsToInstall log) records

@@ -4,7 +4,7 @@ use Rattle.std.specs.Prelude.{ℕ, ◌+◌, ◌<◌, ◌^◌, if◌then◌else�
 use Rattle.std.specs.Prelude.{is_some}
 use Rattle.disk.specs.declared.block.BlockNo.{BlockNo}
 use Rattle.objects.specs.Object.{ObjectBytes}
-use Rattle.objects.specs.Pins.{Resident, once_at, pins_of}
+use Rattle.objects.specs.Pins.{Residents, once_at, pins_of}
 use Rattle.txn_law.specs.Holds.{hold_of}
 use Rattle.txn_law.specs.Window.{Footprint}
 use Rattle.txn_law.specs.declared.hold.Hold.{Hold}
@@ -37,6 +37,6 @@ abbrev pub reads_in : List Footprint → BlockNo → ℕ
 reads_in records at = total (λ kept. objects_in kept.read at) records
 
 -- for each object, so many pins more of its block as there are objects can be counted
-abbrev pub AreCountable : Resident → List ObjectBytes → Type 0
-AreCountable resident objects =
-    All (λ object. pins_of resident object.addr.block + length objects < 2 ^ 64) objects
+abbrev pub AreCountable : Residents → List ObjectBytes → Type 0
+AreCountable residents objects =
+    All (λ object. pins_of residents object.addr.block + length objects < 2 ^ 64) objects

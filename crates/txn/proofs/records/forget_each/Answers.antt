@@ -1,6 +1,6 @@
 use Rattle.std.proofs.Common.{◌≡◌, ◌<◌, ◌+◌, ◌∙◌, ℕ, if◌then◌else◌, nat_lt, List, length, take, get_or, ap, sym, arith}
 use Rattle.disk.specs.declared.block.BlockNo.{BlockNo}
-use Rattle.objects.specs.Pins.{Resident, Unpins}
+use Rattle.objects.specs.Pins.{Residents, Unpins}
 use Rattle.objects.proofs.Wanted.{unpins_none, unpins_then}
 use Rattle.txn.specs.Pinned.{objects_in, total}
 use Rattle.txn.proofs.Counted.{total_more}
@@ -9,7 +9,7 @@ use Rattle.txn.proofs.records.forget_each.Goals as goal
 pub loop-i-init : goal.loop-i-init
 loop-i-init g c = unpins_none c.args.present.now
 
-step : {X : Type 0} (count : BlockNo → X → ℕ) (xs : List X) (i : ℕ) (x : X) (one two three : Resident)
+step : {X : Type 0} (count : BlockNo → X → ℕ) (xs : List X) (i : ℕ) (x : X) (one two three : Residents)
     → i < length xs → x ≡ get_or xs i x → Unpins one (λ at. total (count at) (take i xs)) two
     → Unpins two (λ at. count at x) three → Unpins one (λ at. total (count at) (take (i + 1) xs)) three
 step count xs i x one two three lt is first second =

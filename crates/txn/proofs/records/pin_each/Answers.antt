@@ -2,7 +2,7 @@ use Rattle.std.proofs.Common.{◌<◌, ◌+◌, ◌^◌, ◌∙◌, List, length
 use Rattle.std.proofs.lemmas.List.{take_all, length-take-le}
 use Rattle.objects.specs.Object.{ObjectBytes}
 use Rattle.objects.specs.declared.addr.Addr.{Addr}
-use Rattle.objects.specs.Pins.{Resident, Pins, once_at, pins_of}
+use Rattle.objects.specs.Pins.{Residents, Pins, once_at, pins_of}
 use Rattle.objects.proofs.Wanted.{pins_then}
 use Rattle.txn.specs.Pinned.{objects_in}
 use Rattle.txn.proofs.Counted.{total_more, objects_most}
@@ -16,8 +16,8 @@ pin_again-requires-clause-there c =
     let objects : List ObjectBytes = c.args.objects.now in
     let i = c.loop-object.object-index in
     let item : ObjectBytes = c.object-item.result in
-    let one : Resident = c.args.present.now in
-    let two : Resident = c.loop-object.present in
+    let one : Residents = c.args.present.now in
+    let two : Residents = c.loop-object.present in
     let some : 0 < pins_of one item.addr.block =
     subst (λ (o : ObjectBytes). 0 < pins_of one o.addr.block) (sym c.object-item.is)
     (c.requires.pinned i item c.loop-object-test.true) in
@@ -29,8 +29,8 @@ pin_again-requires-clause-room c =
     let objects : List ObjectBytes = c.args.objects.now in
     let i = c.loop-object.object-index in
     let item : ObjectBytes = c.object-item.result in
-    let one : Resident = c.args.present.now in
-    let two : Resident = c.loop-object.present in
+    let one : Residents = c.args.present.now in
+    let two : Residents = c.loop-object.present in
     let lt : i < length objects = c.loop-object-test.true in
     let room : pins_of one item.addr.block + length objects < 2 ^ 64 =
     subst (λ (o : ObjectBytes). pins_of one o.addr.block + length objects < 2 ^ 64) (sym c.object-item.is)
@@ -46,8 +46,8 @@ loop-object-preserved c =
     let objects : List ObjectBytes = c.args.objects.now in
     let i = c.loop-object.object-index in
     let item : ObjectBytes = c.object-item.result in
-    let two : Resident = c.loop-object.present in
-    let three : Resident = c.pin_again.new.self in
+    let two : Residents = c.loop-object.present in
+    let three : Residents = c.pin_again.new.self in
     pins_then c.args.present.now two three (objects_in (take i objects)) (once_at item.addr.block)
     (objects_in (take (i + 1) objects))
     (λ at. total_more (λ (object : ObjectBytes). once_at object.addr.block at) objects i item

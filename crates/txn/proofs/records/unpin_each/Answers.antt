@@ -2,7 +2,7 @@ use Rattle.std.proofs.Common.{◌+◌, ◌∙◌, List, take, ap, subst, sym}
 use Rattle.std.proofs.lemmas.List.{take_all}
 use Rattle.objects.specs.Object.{ObjectBytes}
 use Rattle.objects.specs.declared.addr.Addr.{Addr}
-use Rattle.objects.specs.Pins.{Resident, Unpins, once_at}
+use Rattle.objects.specs.Pins.{Residents, Unpins, once_at}
 use Rattle.objects.proofs.Wanted.{unpins_none, unpins_then}
 use Rattle.txn.specs.Pinned.{objects_in}
 use Rattle.txn.proofs.Counted.{total_more}
@@ -16,8 +16,8 @@ loop-object-preserved c =
     let objects : List ObjectBytes = c.args.objects.now in
     let i = c.loop-object.object-index in
     let item : ObjectBytes = c.object-item.result in
-    let two : Resident = c.loop-object.present in
-    let three : Resident = c.unpin.new.self in
+    let two : Residents = c.loop-object.present in
+    let three : Residents = c.unpin.new.self in
     unpins_then c.args.present.now two three (objects_in (take i objects)) (once_at item.addr.block)
     (objects_in (take (i + 1) objects))
     (λ at. total_more (λ (object : ObjectBytes). once_at object.addr.block at) objects i item

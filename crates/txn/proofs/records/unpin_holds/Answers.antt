@@ -1,7 +1,7 @@
 use Rattle.std.proofs.Common.{◌≡◌, ◌+◌, ◌∙◌, ℕ, if◌then◌else◌, not, nat_eq, List, take, ap, subst, sym}
 use Rattle.std.proofs.lemmas.List.{take_all}
 use Rattle.disk.specs.declared.block.BlockNo.{BlockNo}
-use Rattle.objects.specs.Pins.{Resident, Unpins, once_at}
+use Rattle.objects.specs.Pins.{Residents, Unpins, once_at}
 use Rattle.objects.proofs.Wanted.{unpins_none, unpins_then}
 use Rattle.txn.specs.Pinned.{own_in, total}
 use Rattle.txn.proofs.Counted.{total_more}
@@ -22,8 +22,8 @@ loop-hold-preserved c =
     let items : List Hold = c.holds-hold-items.result.now in
     let i = c.loop-hold.hold-index in
     let item : Hold = c.hold-item.result in
-    let two : Resident = c.loop-hold.present in
-    let three : Resident = c.unpin_hold.new.present in
+    let two : Residents = c.loop-hold.present in
+    let three : Residents = c.unpin_hold.new.present in
     unpins_then c.args.present.now two three (own_in tx (take i holds)) (λ at. counts tx at item)
     (own_in tx (take (i + 1) holds))
     (λ at. subst (λ (xs : List Hold). total (counts tx at) (take (i + 1) xs)

@@ -1,5 +1,5 @@
 use Rattle.std.proofs.Common.{◌∙◌, true, List, ap, subst, sym}
-use Rattle.objects.specs.Pins.{Resident, count_in, pins_of, spared}
+use Rattle.objects.specs.Pins.{Residents, count_in, pins_of, spared}
 use Rattle.objects.specs.Present.{IsOnce, filled}
 use Rattle.objects.specs.declared.present.Present.{Present}
 use Rattle.objects.proofs.Residents.{once_filled}
@@ -25,7 +25,7 @@ returns-else-count_of-eq0 c =
       ap (λ (xs : List Present). record { blocks = xs; counts = c.self.inside.pins.entries })
           (c.fill.ensures
           ∙ spared_all (count_in c.self.inside.pins.entries) (filled blocks c.args.block c.args.content))
-          ∙ ap (λ (old : Resident). record old {
+          ∙ ap (λ (old : Residents). record old {
             blocks = spared (λ resident. true) (pins_of old) (filled old.blocks c.args.block c.args.content);
           }) c.self.view_is,
     )

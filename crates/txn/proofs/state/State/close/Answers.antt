@@ -3,7 +3,7 @@ use Rattle.txn.proofs.Counted.{swept_is}
 use Rattle.txn.proofs.Mapped.{ended_is}
 use Rattle.txn.proofs.Neat.{neat_ended}
 use Rattle.txn.specs.Neat.{IsNeat}
-use Rattle.objects.specs.Pins.{Resident, pins_of}
+use Rattle.objects.specs.Pins.{Residents, pins_of}
 use Rattle.objects.specs.declared.present.Present.{Present}
 use Rattle.txn_law.specs.Commit.{footprint}
 use Rattle.txn_law.specs.Core.{CoreState, ended}
@@ -18,8 +18,8 @@ invariant_of-self g c =
     let core = c.self.inside in
     let records : List Footprint =
     map (λ kept. footprint kept.place.0 (g.C.Change.planned kept.change)) core.records.items in
-    let old : Resident = core.present in
-    let new : Resident = c.unpin_holds.new.present in
+    let old : Residents = core.present in
+    let new : Residents = c.unpin_holds.new.present in
     subst (λ (holds : List Hold). IsNeat core.log holds records new) (sym c.release_all.ensures)
     (neat_ended core.log core.holds c.args.transaction records old new c.unpin_holds.ensures c.self.invariant)
 
@@ -29,8 +29,8 @@ returns g c =
     let tx = c.args.transaction in
     let records : List Footprint =
     map (λ kept. footprint kept.place.0 (g.C.Change.planned kept.change)) core.records.items in
-    let old : Resident = core.present in
-    let new : Resident = c.unpin_holds.new.present in
+    let old : Residents = core.present in
+    let new : Residents = c.unpin_holds.new.present in
     let neat : IsNeat core.log (released core.holds tx) records new =
     neat_ended core.log core.holds tx records old new c.unpin_holds.ensures c.self.invariant in
     let spare : Present → Bool = c.unpin_holds.ensures.1.0 in

@@ -1,5 +1,5 @@
 use Rattle.std.proofs.Common.{◌≡◌, Bool, ◌∙◌, List, ap, map, subst, sym}
-use Rattle.objects.specs.Pins.{Resident, pins_of}
+use Rattle.objects.specs.Pins.{Residents, pins_of}
 use Rattle.objects.specs.Present.{filled}
 use Rattle.objects.specs.declared.present.Present.{Present}
 use Rattle.txn.proofs.Counted.{swept_is}
@@ -18,7 +18,7 @@ invariant_of-self g c =
     let core = c.self.inside in
     let records : List Footprint =
     map (λ kept. footprint kept.place.0 (g.C.Change.planned kept.change)) core.records.items in
-    subst (λ (resident : Resident). IsNeat core.log core.holds records resident) (sym c.fetched.ensures.1)
+    subst (λ (resident : Residents). IsNeat core.log core.holds records resident) (sym c.fetched.ensures.1)
     (neat_fetched c.fetched.ensures.0 core.log core.holds records core.present c.io.inside.block c.io.inside.buffer c.self.invariant)
 
 pub returns : goal.returns
@@ -26,12 +26,12 @@ returns g c =
     let core = c.self.inside in
     let records : List Footprint =
     map (λ kept. footprint kept.place.0 (g.C.Change.planned kept.change)) core.records.items in
-    let old : Resident = core.present in
-    let new : Resident = c.fetched.new.self in
+    let old : Residents = core.present in
+    let new : Residents = c.fetched.new.self in
     let spare : Present → Bool = c.fetched.ensures.0 in
     let left : new.blocks
     ≡ swept spare core.holds records (filled old.blocks c.io.inside.block c.io.inside.buffer) =
-    ap (λ (r : Resident). r.blocks) c.fetched.ensures.1
+    ap (λ (r : Residents). r.blocks) c.fetched.ensures.1
     ∙ swept_is spare core.holds records (pins_of old) (filled old.blocks c.io.inside.block c.io.inside.buffer)
     c.self.invariant.counted in
     let seen : CoreState = record {

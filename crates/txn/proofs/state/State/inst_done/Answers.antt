@@ -1,7 +1,7 @@
 use Rattle.std.proofs.Common.{◌≡◌, Bool, true, ◌≤◌, ◌∙◌, ◌-◌, ℕ, if◌then◌else◌, ap, map, sym, subst, List, nat_lt, arith}
 use Rattle.wal_law.specs.Calls.{InstCallComesBack}
 use Rattle.wal_law.specs.Log.{Log, installed_place}
-use Rattle.objects.specs.Pins.{Resident, Unpins, pins_of}
+use Rattle.objects.specs.Pins.{Residents, Unpins, pins_of}
 use Rattle.objects.proofs.Wanted.{spared_all}
 use Rattle.objects.specs.declared.present.Present.{Present}
 use Rattle.txn.proofs.Counted.{swept_is, total-map}
@@ -32,7 +32,7 @@ returns-then-is_at_most-clause-others g c =
     let log : Log = c.inst_done.new.self in
     let records : List Footprint =
     map (λ kept. footprint kept.place.0 (g.C.Change.planned kept.change)) core.records.items in
-    let resident : Resident = core.present in
+    let resident : Residents = core.present in
     let le : installed_place log ≤ installed_place core.log =
     let at = c.is_at_most.ensures.0 c.if-is_at_most.true in
     omega (arith, at, c.installed-installed.ensures, c.installed-before.ensures) in
@@ -61,7 +61,7 @@ returns-then-is_at_most-clause-law g c =
 
 -- what the records that go have read, told by what is made of them
 dropped : {X : Type 0} (f : X → Footprint) (xs : List X) (place other : ℕ) → place ≡ other
-    → (old new : Resident)
+    → (old new : Residents)
     → Unpins old (λ at. total (λ x. if nat_lt place (f x).place then 0 else objects_in (f x).read at) xs) new
     → Unpins old (λ at. total (λ kept. if nat_lt other kept.place then 0 else objects_in kept.read at)
     (map f xs)) new
@@ -86,8 +86,8 @@ invariant_of-self-2 g c =
     ∙ map_filter (λ kept. footprint kept.place.0 (g.C.Change.planned kept.change))
     (λ (kept : Footprint). nat_lt c.installed-installed.result.0 kept.place) core.records.items
     ∙ ap (λ place. past place before) c.installed-installed.ensures in
-    let old : Resident = core.present in
-    let new : Resident = c.forget.new.present in
+    let old : Residents = core.present in
+    let new : Residents = c.forget.new.present in
     subst (λ (rs : List Footprint). IsNeat log core.holds rs new) (sym kept_is)
     (neat_installed core.log log core.holds before old new c.inst_done.ensures.seen
     (dropped (λ kept. footprint kept.place.0 (g.C.Change.planned kept.change)) core.records.items
@@ -107,8 +107,8 @@ returns-clause-others g c =
     ∙ map_filter (λ kept. footprint kept.place.0 (g.C.Change.planned kept.change))
     (λ (kept : Footprint). nat_lt c.installed-installed.result.0 kept.place) core.records.items
     ∙ ap (λ place. past place before) c.installed-installed.ensures in
-    let old : Resident = core.present in
-    let new : Resident = c.forget.new.present in
+    let old : Residents = core.present in
+    let new : Residents = c.forget.new.present in
     let neat : IsNeat log core.holds (past (installed_place log) before) new =
     neat_installed core.log log core.holds before old new c.inst_done.ensures.seen
     (dropped (λ kept. footprint kept.place.0 (g.C.Change.planned kept.change)) core.records.items

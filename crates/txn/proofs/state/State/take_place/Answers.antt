@@ -6,7 +6,7 @@ use Rattle.wal_law.specs.Effects.{HasAppended}
 use Rattle.wal_law.specs.Grows.{GrowsBy}
 use Rattle.txn_law.specs.Group.{IsLaid}
 use Rattle.objects.specs.Object.{ObjectBytes}
-use Rattle.objects.specs.Pins.{Resident, pins_of}
+use Rattle.objects.specs.Pins.{Residents, pins_of}
 use Rattle.wal_law.specs.Log.{Log, installed_place}
 use Rattle.disk.specs.Device.{Content}
 use Rattle.disk.specs.declared.block.BlockNo.{BlockNo}
@@ -26,7 +26,7 @@ pub keep-requires-clause-pinned : goal.keep-requires-clause-pinned
 keep-requires-clause-pinned g c =
     let core = c.self.inside in
     let plan : Planned = g.C.Change.planned c.args.change in
-    let there : Resident = c.refresh.new.present in
+    let there : Residents = c.refresh.new.present in
     let seen : CoreState = record {
       log = core.log;
       inodes = core.inodes;
@@ -43,14 +43,14 @@ keep-requires-clause-pinned g c =
     let some = held_pinned c.args.tx object.addr object.addr.block core.holds
     (read_is_held (hold_of core.holds c.args.tx object.addr) read.held) in
     let counted = c.self.invariant.counted object.addr.block in
-    let same = ap (λ (r : Resident). pins_of r object.addr.block) c.refresh.ensures in
+    let same = ap (λ (r : Residents). pins_of r object.addr.block) c.refresh.ensures in
     omega (arith, some, counted, same)) plan.read own.read
 
 pub keep-requires-clause-countable : goal.keep-requires-clause-countable
 keep-requires-clause-countable g c =
     let core = c.self.inside in
     let plan : Planned = g.C.Change.planned c.args.change in
-    subst (λ (r : Resident). AreCountable r plan.read) (sym c.refresh.ensures)
+    subst (λ (r : Residents). AreCountable r plan.read) (sym c.refresh.ensures)
     (subst (λ (read : List ObjectBytes). AreCountable core.present read) c.read.ensures
     (c.can_pin_each.ensures.0 c.if-not-can_pin_each.false))
 
@@ -72,8 +72,8 @@ invariant_of-self-in-Appended g c =
     (map (λ kept. footprint kept.place.0 (g.C.Change.planned kept.change)) xs)) c.reserve.ensures.items in
     let group : List (BlockNo × Content) = c.in-Ok.group.items in
     let appended : HasAppended core.log group log = c.append.ensures.seen (search rules) in
-    let old : Resident = core.present in
-    let there : Resident = c.keep.new.present in
+    let old : Residents = core.present in
+    let there : Residents = c.keep.new.present in
     let seen : CoreState = record {
       log = core.log;
       inodes = core.inodes;
@@ -86,13 +86,13 @@ invariant_of-self-in-Appended g c =
     let own : IsOwn seen c.args.tx plan =
     subst (λ (old : CoreState). IsOwn old c.args.tx plan) (sym c.self.view_is) c.requires.own in
     let is : there.blocks ≡ refreshed log old.blocks =
-    c.keep.ensures.pins.1 ∙ ap (λ (r : Resident). r.blocks) c.refresh.ensures
+    c.keep.ensures.pins.1 ∙ ap (λ (r : Residents). r.blocks) c.refresh.ensures
     ∙ refreshed_is core.log log group appended c.args.blocks.now c.in-Ok.ensures.blocks old.blocks
     c.self.invariant.logged in
     let pins : (at : BlockNo) → pins_of there at ≡ pins_of old at
     + (if nat_lt (installed_place log) log.places then objects_in plan.read at else 0) =
     λ at. c.keep.ensures.pins.0 at
-    ∙ ap (λ (r : Resident). pins_of r at + (if nat_lt c.installed-installed.result.0 c.places-place.result.0
+    ∙ ap (λ (r : Residents). pins_of r at + (if nat_lt c.installed-installed.result.0 c.places-place.result.0
     then objects_in plan.read at else 0)) c.refresh.ensures
     ∙ ap (λ (n : ℕ). pins_of old at + (if nat_lt n c.places-place.result.0
     then objects_in plan.read at else 0)) c.installed-installed.ensures
@@ -108,8 +108,8 @@ returns-in-Appended g c =
     let core = c.self.inside in
     let log : Log = c.append.new.self in
     let plan : Planned = g.C.Change.planned c.args.change in
-    let resident : Resident = core.present in
-    let there : Resident = c.keep.new.present in
+    let resident : Residents = core.present in
+    let there : Residents = c.keep.new.present in
     let seen = ap (λ (old : CoreState). old.log) c.self.view_is in
     let records : List Footprint =
     map (λ kept. footprint kept.place.0 (g.C.Change.planned kept.change)) c.keep.new.records.items in
@@ -158,7 +158,7 @@ returns-in-Appended g c =
             present = there.blocks;
             records = records;
           }) tx) c.tx.view_is)
-          (c.keep.ensures.pins.1 ∙ ap (λ (r : Resident). r.blocks) c.refresh.ensures
+          (c.keep.ensures.pins.1 ∙ ap (λ (r : Residents). r.blocks) c.refresh.ensures
           ∙ refreshed_is core.log log c.in-Ok.group.items (c.append.ensures.seen (search rules))
           c.args.blocks.now c.in-Ok.ensures.blocks resident.blocks c.self.invariant.logged
           ∙ ap (λ (old : CoreState). refreshed log old.present) c.self.view_is)

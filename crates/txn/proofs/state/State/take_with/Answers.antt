@@ -2,7 +2,7 @@ use Rattle.std.proofs.Common.{◌≡◌, ◌+◌, ◌-◌, ◌∙◌, ℕ, Bool,
 use Rattle.std.proofs.Common.{subst, sym, arith}
 use Rattle.disk.specs.Device.{Content}
 use Rattle.disk.specs.declared.block.BlockNo.{BlockNo}
-use Rattle.objects.specs.Pins.{Resident, PinsStay, once_at, pins_of}
+use Rattle.objects.specs.Pins.{Residents, PinsStay, once_at, pins_of}
 use Rattle.objects.specs.Present.{present_of, without_block}
 use Rattle.objects.specs.declared.present.Present.{Present}
 use Rattle.objects.proofs.Kept.{back_as_before}
@@ -21,8 +21,8 @@ invariant_of-self-in-Err g c =
     let core = c.self.inside in
     let records : List Footprint =
     map (λ kept. footprint kept.place.0 (g.C.Change.planned kept.change)) core.records.items in
-    let old : Resident = core.present in
-    let new : Resident = c.take_back.new.self in
+    let old : Residents = core.present in
+    let new : Residents = c.take_back.new.self in
     let absent : present_of old.blocks c.args.hold.addr.block ≡ None =
     subst (λ (before : CoreState). present_of before.present c.args.hold.addr.block ≡ None) (sym c.self.view_is)
     c.requires.absent in
@@ -41,8 +41,8 @@ returns-in-Err-clause-refused g c =
     let core = c.self.inside in
     let records : List Footprint =
     map (λ kept. footprint kept.place.0 (g.C.Change.planned kept.change)) core.records.items in
-    let old : Resident = core.present in
-    let new : Resident = c.take_back.new.self in
+    let old : Residents = core.present in
+    let new : Residents = c.take_back.new.self in
     let absent : present_of old.blocks c.args.hold.addr.block ≡ None =
     subst (λ (before : CoreState). present_of before.present c.args.hold.addr.block ≡ None) (sym c.self.view_is)
     c.requires.absent in
@@ -77,9 +77,9 @@ invariant_of-self-2 g c =
     let core = c.self.inside in
     let records : List Footprint =
     map (λ kept. footprint kept.place.0 (g.C.Change.planned kept.change)) core.records.items in
-    let old : Resident = core.present in
-    let brought : Resident = c.bring.new.self in
-    let new : Resident = c.settle.new.present in
+    let old : Residents = core.present in
+    let brought : Residents = c.bring.new.self in
+    let new : Residents = c.settle.new.present in
     let absent : present_of old.blocks c.args.hold.addr.block ≡ None =
     subst (λ (before : CoreState). present_of before.present c.args.hold.addr.block ≡ None) (sym c.self.view_is)
     c.requires.absent in
