@@ -74,7 +74,7 @@ spared_then few many first second blocks le =
     both false spare false more = refl
 
 pub unpins_none : (residents : Residents) → Unpins residents (λ at. 0) residents
-unpins_none residents = ((λ at. omega arith), lets_none (pins_of resident) resident.blocks)
+unpins_none residents = ((λ at. omega arith), lets_none (pins_of residents) residents.blocks)
 
 pub unpins_then : (one two three : Residents) (less more all : BlockNo → ℕ)
     → ((at : BlockNo) → all at ≡ less at + more at) → Unpins one less two → Unpins two more three
