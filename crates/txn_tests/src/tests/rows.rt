@@ -25,7 +25,7 @@ const READ_0: [Step; 1] = [Step::Read(AT_0)];
 
 const READ_8: [Step; 1] = [Step::Read(AT_8)];
 
-const TWICE: [Step; 2] = [Step::Want(AT_0), Step::Want(AT_0)];
+const THRICE: [Step; 3] = [Step::Want(AT_0), Step::Want(AT_0), Step::Want(AT_0)];
 
 const ROWS: [Rows; 14] = [
     Rows {
@@ -90,10 +90,11 @@ const ROWS: [Rows; 14] = [
         says: "a block is fetched until that succeeds",
         start: 0,
         failing: &[1],
-        deeds: &[
-            Deed::Sees(1, &TWICE, &[Seen::FetchFailed, Seen::Fetched]),
-            Deed::Sees(2, &TWICE, &[Seen::Fetched, Seen::Bytes(0)]),
-        ],
+        deeds: &[Deed::Sees(
+            1,
+            &THRICE,
+            &[Seen::FetchFailed, Seen::Fetched, Seen::Bytes(0)],
+        )],
     },
     Rows {
         says: "bytes that are taken by another address are busy",
@@ -107,8 +108,8 @@ const ROWS: [Rows; 14] = [
             ),
             Deed::Sees(
                 2,
-                &[Step::Want(AT_4), Step::Want(AT_12)],
-                &[Seen::Fetched, Seen::Bytes(0)],
+                &[Step::Read(AT_4), Step::Want(AT_12)],
+                &[Seen::Bytes(0), Seen::Bytes(0)],
             ),
         ],
     },

@@ -1,4 +1,5 @@
-//! With ample memory nothing is refused for want of it, at sizes far past the smallest.
+//! With ample memory nothing is refused for want of it, at sizes far past the smallest, and 128 blocks stay in memory
+//! that nobody needs.
 
 use crate::tests::bench::{Bench, Ended, Seen, Step};
 use crate::tests::toys::{At, Toy, change_of, home};
@@ -22,6 +23,21 @@ fn many_blocks_are_held_at_once(rt: HostRuntime) -> Result<(), Fail> {
     let steps = reads(rt.alloc(), 200)?;
     let zeros = vec![in rt.alloc(); Seen::Bytes(0); 200]?;
     assert!(rt; bench.sees(1, steps.as_slice(), zeros.as_slice()));
+    Ok(())
+}
+
+#[test]
+fn the_blocks_that_were_needed_last_stay(rt: HostRuntime) -> Result<(), Fail> {
+    let mut bench = Bench::new(rt.alloc(), 0, &[])?;
+    let steps = reads(rt.alloc(), 200)?;
+    let zeros = vec![in rt.alloc(); Seen::Bytes(0); 200]?;
+    assert!(rt; bench.sees(1, steps.as_slice(), zeros.as_slice()));
+    let later = [
+        Step::Want(At::Whole(199)),
+        Step::Want(At::Whole(72)),
+        Step::Want(At::Whole(71)),
+    ];
+    assert!(rt; bench.sees(2, &later, &[Seen::Bytes(0), Seen::Bytes(0), Seen::Fetched]));
     Ok(())
 }
 

@@ -23,8 +23,9 @@ fn transfer<D: CrashDisk>(bench: &mut Bench<D>) -> Result<Ended, Fail> {
     Ok(bench.commit(&[Step::Read(one), Step::Read(other)], toy))
 }
 
-// What is left where the call of this number failed. The one gets its 10 by calls 1 to 9. The transfer
-// fetches by calls 10 and 11, the log has five calls behind them, and the installer five.
+// What is left where the call of this number failed. The one gets its 10 by calls 1 to 9, and its block is in
+// memory still. The transfer fetches that of the other by call 10, the log has five calls behind it, and the
+// installer five.
 fn transferred(alloc: Global, failing: u64) -> Result<Bench<MemDisk>, Fail> {
     let mut bench = Bench::new(alloc, 0, &[failing])?;
     change(&mut bench, account(false), 0, 10)?;
@@ -49,10 +50,10 @@ const NEW: [u8; 2] = [7, 3];
 
 #[test]
 fn a_crash_keeps_the_sum_of_both(rt: HostRuntime) -> Result<(), Fail> {
-    for failing in 10..23u8 {
+    for failing in 10..22u8 {
         let (oldest, newest) = match failing {
-            10..15 => (OLD, OLD),
-            15..17 => (OLD, NEW),
+            10..14 => (OLD, OLD),
+            14..16 => (OLD, NEW),
             _ => (NEW, NEW),
         };
         let number = u64::from(failing);
