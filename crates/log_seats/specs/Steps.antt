@@ -19,6 +19,7 @@ use Rattle.log_seats.specs.declared.stepped.Stepped.TheVariants.{Next, Done}
 pub record LogGoesOut (old : CoreState) (io : Io) (new : CoreState) : Type 0 where
   pub may : may_log old.log ≡ true
   pub core : new ≡ record old { log = with_log_out old.log }
+  pub blocks : new.log.blocks ≡ old.log.blocks
   pub within : IsCallWithin old.log.blocks io.call
   pub next : IsNextLogCall new.log io
   pub law : LogCallGoesOut old.log io new.log
@@ -29,6 +30,7 @@ pub record LogGoesOut (old : CoreState) (io : Io) (new : CoreState) : Type 0 whe
 -- nothing.
 pub record LogComesBack (old : CoreState) (io : Io) (ok : Bool) (new : CoreState) : Type 0 where
   pub log : new.log ≡ (if is_log_out old.log io then with_log_back old.log ok else old.log)
+  pub blocks : new.log.blocks ≡ old.log.blocks
   pub core : new ≡ record old { log = new.log }
   pub law : LogCallComesBack old.log io ok new.log
   pub reads : (other : ℕ) → KeepsReads old new other
@@ -38,6 +40,7 @@ pub record LogComesBack (old : CoreState) (io : Io) (ok : Bool) (new : CoreState
 pub record InstGoesOut (old : CoreState) (io : Io) (new : CoreState) : Type 0 where
   pub may : may_install old.log ≡ true
   pub core : new ≡ record old { log = with_inst_out old.log }
+  pub blocks : new.log.blocks ≡ old.log.blocks
   pub within : IsCallWithin old.log.blocks io.call
   pub next : IsNextInstCall new.log io
   pub law : InstCallGoesOut old.log io new.log
@@ -48,6 +51,7 @@ pub record InstGoesOut (old : CoreState) (io : Io) (new : CoreState) : Type 0 wh
 -- nothing. What was installed goes.
 pub record InstComesBack (old : CoreState) (io : Io) (ok : Bool) (new : CoreState) : Type 0 where
   pub log : new.log ≡ (if is_inst_out old.log io then with_inst_back old.log ok else old.log)
+  pub blocks : new.log.blocks ≡ old.log.blocks
   pub core : new ≡ record old {
     log = new.log;
     records = past (installed_place new.log) old.records;

@@ -1,9 +1,9 @@
 //! The device calls of the log: who takes one from the core, makes it and gives it back.
 #![tactic(auto)]
 
+mod calls;
 mod installer;
 mod logger;
-mod made;
 mod one_call;
 mod options;
 mod stepped;

@@ -6,7 +6,7 @@ ghost use Rattle.wal_law.specs.Calls.{LogCallIsMade};
 ghost use Rattle.wal_law.specs.Logger.{may_log};
 
 use crate::Stepped;
-use crate::made::{is_within, was_ok};
+use crate::calls::{is_within, was_ok};
 use crate::options::put;
 use disk::{CrashDisk, Failed, Port};
 use txn::{Change, Core};
@@ -52,8 +52,10 @@ impl Logger {
 
     /// One step on the core: gives back the call that was made; or, where none is out, takes the next.
     pub fn step<C: Change>(&mut self, core: &mut Core<C>) -> Option<Stepped>
-        ensures { HasStepped may_log LogGoesOut LogComesBack core.old self.old.io self.old.made result core.new
+        ensures step { HasStepped may_log LogGoesOut LogComesBack core.old self.old.io self.old.made result core.new
             self.new.io self.new.made }
+        ensures blocks { core.new.log.blocks ≡ core.old.log.blocks }
+        ensures inodes { core.new.inodes ≡ core.old.inodes }
     {
         let Some(io) = self.io.take() else {
             let io = core.log_next()?;
@@ -80,6 +82,7 @@ impl Logger {
         ensures made { IsTried LogCallIsMade (D.device disk.old) self.old.io self.old.made result (D.device disk.new)
             self.new.made }
         ensures io { self.new.io ≡ self.old.io }
+        ensures size { (D.device disk.new).size ≡ (D.device disk.old).size }
         ensures model { D.keeps_model disk.new → D.keeps_model disk.old }
     {
         if self.made.is_some() {
@@ -108,7 +111,9 @@ impl Logger {
 
     /// Ends it: the call that is out is given back by its answer, or as failed where it wasn't made.
     pub fn end<C: Change>(self, core: &mut Core<C>)
-        ensures { HasEnded LogComesBack core.old self.io self.made core.new }
+        ensures back { HasEnded LogComesBack core.old self.io self.made core.new }
+        ensures blocks { core.new.log.blocks ≡ core.old.log.blocks }
+        ensures inodes { core.new.inodes ≡ core.old.inodes }
     {
         let Logger { io, made } = self;
         if let Some(io) = io {
@@ -118,8 +123,10 @@ impl Logger {
 }
 
 // Makes a call on a disk, and answers whether that answered Ok.
+#[tactic(auto, using(crate::proofs::Made::made_size))]
 fn make_on_disk<D: CrashDisk>(io: &LogIo, disk: &mut D) -> bool
     ensures made { IsMadeOn LogCallIsMade (D.device disk.old) io.now result (D.device disk.new) }
+    ensures size { (D.device disk.new).size ≡ (D.device disk.old).size }
     ensures model { D.keeps_model disk.new → D.keeps_model disk.old }
 {
     if !is_within(io.call(), disk.blocks()) {

@@ -17,6 +17,9 @@ pub fn log_one<C: Change, D: CrashDisk>(core: &mut Core<C>, disk: &mut D) -> boo
     ensures one { IsTrue result → MakesOne LogGoesOut LogCallIsMade LogComesBack C.is_plan core.old
         (D.device disk.old) core.new (D.device disk.new) }
     ensures none { IsFalse result → (core.new ≡ core.old) × (D.device disk.new ≡ D.device disk.old) }
+    ensures blocks { core.new.log.blocks ≡ core.old.log.blocks }
+    ensures inodes { core.new.inodes ≡ core.old.inodes }
+    ensures size { (D.device disk.new).size ≡ (D.device disk.old).size }
     ensures model { D.keeps_model disk.new → D.keeps_model disk.old }
 {
     let mut logger = Logger::new();
@@ -37,6 +40,9 @@ pub fn install_one<C: Change, D: CrashDisk>(core: &mut Core<C>, disk: &mut D) ->
     ensures one { IsTrue result → MakesOne InstGoesOut InstCallIsMade InstComesBack C.is_plan core.old
         (D.device disk.old) core.new (D.device disk.new) }
     ensures none { IsFalse result → (core.new ≡ core.old) × (D.device disk.new ≡ D.device disk.old) }
+    ensures blocks { core.new.log.blocks ≡ core.old.log.blocks }
+    ensures inodes { core.new.inodes ≡ core.old.inodes }
+    ensures size { (D.device disk.new).size ≡ (D.device disk.old).size }
     ensures model { D.keeps_model disk.new → D.keeps_model disk.old }
 {
     let mut installer = Installer::new();
