@@ -20,7 +20,7 @@ use Rattle.wal_law.specs.Installer.{IsNextInstCall, is_inst_out, may_install, ne
 use Rattle.wal_law.specs.Installer.{with_inst_back, with_inst_made, with_inst_out, with_installed}
 use Rattle.store_promise.proofs.Later.{past_one}
 use Rattle.store_images.proofs.Lost.{lost_now}
-use Rattle.store_images.proofs.Made.{made_later, made_lost}
+use Rattle.log_seats.proofs.Made.{made_later, made_lost}
 use Rattle.store_images.proofs.OutCalls.{inst_is_out, inst_out_sound, its_is_out}
 use Rattle.store_images.specs.Settling.{HasCalled, group_left, calls_left}
 

@@ -8,7 +8,6 @@ pub mod Later
 pub mod LogMoves
 pub mod LogSteps
 pub mod Lost
-pub mod Made
 pub mod Opens
 pub mod OutCalls
 pub mod Raising
@@ -17,3 +16,4 @@ pub mod SameNumbers
 pub mod SettlingCalls
 pub mod Staying
 pub mod StillOpen
+pub mod Unused

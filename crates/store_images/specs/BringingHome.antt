@@ -1,5 +1,5 @@
 -- What an opening does to an image: what the log has comes home, and then the boot number rises.
-use Rattle.std.specs.Prelude.{⊤, ◌≡◌, ◌≢◌, ℕ, ◌<◌, ◌⊎◌, Ok, length}
+use Rattle.std.specs.Prelude.{⊤, ◌≡◌, ◌≢◌, ℕ, ◌<◌, ◌⊎◌, Ok, length, []}
 use Rattle.limits.specs.declared.TheConstants.{SUPER_BLOCK}
 use Rattle.disk.specs.Crash.{Image}
 use Rattle.disk.specs.Device.{Content, Device, HasSettled, HasWritten}
@@ -12,10 +12,23 @@ use Rattle.wal_law.specs.Law.{IsOutside, with_changes}
 use Rattle.wal_law.specs.Log.{Log, opened}
 use Rattle.wal_law.specs.Overlay.{HasHomes, IsInRange, logged_in, over, start_in}
 use Rattle.wal_law.specs.Recovery.{image_of}
+use Rattle.txn_law.specs.Core.{CoreState}
 use Rattle.txn_law.specs.CoreWindow.{AreBlocks}
 use Rattle.store_promise.specs.declared.fault.OpenFault.{OpenFault}
 use Rattle.store_promise.specs.declared.fault.OpenFault.TheVariants as fault
 use Rattle.store_promise.specs.Openings.{AtEachStop, IsLater, IsOfAnother}
+
+-- a core over a log, in which nothing was begun
+abbrev pub unused : Log → ℕ → CoreState
+unused log inodes = record {
+  log = log;
+  inodes = inodes;
+  begun = 0;
+  out = [];
+  holds = [];
+  present = [];
+  records = [];
+}
 
 -- An image that can be opened, whose blocks, with its log laid over them, are those of a first image with the
 -- log of that laid over them, save for the super block, which is this.

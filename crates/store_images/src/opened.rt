@@ -117,7 +117,7 @@ pub fn keeps_too_many<D: CrashDisk>(store: &Store<D>) -> bool
 }
 
 // Makes the next device call of the log, if there is one.
-#[tactic(auto, using(crate::proofs::Made::made_size, crate::proofs::CallsLeft::log_called))]
+#[tactic(auto, using(crate::proofs::CallsLeft::log_called))]
 fn log_one<D: CrashDisk>(store: &mut Store<D>) -> bool
     requires { IsQuiet store.old.core.log }
     ensures out { store.new.core.out ≡ store.old.core.out }
@@ -146,18 +146,15 @@ fn log_one<D: CrashDisk>(store: &mut Store<D>) -> bool
     what_was_read_is_at_home();
     what_is_settled_stays_settled();
     store.core.lawful();
-    let Some(io) = store.core.log_next() else {
+    if !log_seats::log_one(&mut store.core, &mut store.disk) {
         return false;
-    };
-    store.core.lawful();
-    let ok = io.perform(&mut store.disk).is_ok();
-    store.core.log_done(io, ok);
+    }
     store.core.lawful();
     true
 }
 
 // Makes the next device call of the installer, if there is one.
-#[tactic(auto, using(crate::proofs::Made::made_size, crate::proofs::CallsLeft::inst_called))]
+#[tactic(auto, using(crate::proofs::CallsLeft::inst_called))]
 fn install_one<D: CrashDisk>(store: &mut Store<D>) -> bool
     requires { IsQuiet store.old.core.log }
     ensures out { store.new.core.out ≡ store.old.core.out }
@@ -186,12 +183,9 @@ fn install_one<D: CrashDisk>(store: &mut Store<D>) -> bool
     what_was_read_is_at_home();
     what_is_settled_stays_settled();
     store.core.lawful();
-    let Some(io) = store.core.inst_next() else {
+    if !log_seats::install_one(&mut store.core, &mut store.disk) {
         return false;
-    };
-    store.core.lawful();
-    let ok = io.perform(&mut store.disk).is_ok();
-    store.core.inst_done(io, ok);
+    }
     store.core.lawful();
     true
 }

@@ -13,7 +13,7 @@ ghost use Rattle.wal_law.specs.Log.{IsLawful as IsLawfulLog, Log};
 ghost use Rattle.wal_law.specs.Recovery.{HasOnlyRead, IsUnspoiled, image_of};
 ghost use Rattle.store_promise.specs.Openings.{IsAnsweredFor, IsLater, IsRefusedFor, ShowsNoCause};
 ghost use Rattle.store_images.specs.BringingHome.{BringsHome, CountsCause, HasNoSuper, HasRaised};
-ghost use Rattle.store_images.specs.BringingHome.{HasNoLog, IsFound, IsFoundLog, KeepsBlocks};
+ghost use Rattle.store_images.specs.BringingHome.{HasNoLog, IsFound, IsFoundLog, KeepsBlocks, unused};
 ghost use Rattle.store_images.specs.Opening.{HasOpened, HoldsTree, Opens, store_of};
 ghost use Rattle.store_images.specs.Settling.{HasCalled, IsIdle, IsQuiet};
 
@@ -81,16 +81,18 @@ fn recover<D: CrashDisk>(alloc: Global, disk: &mut D) -> Result<(Core<Done>, u64
     let Ok(mut block) = Block::zeros(alloc) else {
         return Err(OpenFault::NoMemory);
     };
-    let (found, mut wal) = match find(alloc, disk, &mut block) {
+    let (found, wal) = match find(alloc, disk, &mut block) {
         Ok(found) => found,
         Err(fault) => return Err(fault),
     };
     wal.lawful();
     layout::a_super_block_is_its_bytes();
-    if let Err(fault) = install(disk, &mut wal) {
+    let mut core = Core::new(alloc, wal, found.geometry.inodes);
+    core.lawful();
+    if let Err(fault) = install(disk, &mut core) {
         return Err(fault);
     }
-    wal.lawful();
+    core.lawful();
     let raised = Super {
         geometry: found.geometry,
         boot: found.boot + 1,
@@ -98,8 +100,6 @@ fn recover<D: CrashDisk>(alloc: Global, disk: &mut D) -> Result<(Core<Done>, u64
     if let Err(fault) = raise(alloc, disk, &mut block, raised) {
         return Err(fault);
     }
-    let core = Core::new(alloc, wal, found.geometry.inodes);
-    core.lawful();
     Ok((core, raised.boot))
 }
 
@@ -204,63 +204,63 @@ fn super_in(block: &Block, blocks: u32) -> Result<Super, OpenFault>
 }
 
 // Makes the calls of an installation of all that is logged.
-fn install<D: CrashDisk>(disk: &mut D, wal: &mut Wal) -> Result<(), OpenFault>
-    requires size { (D.device disk.old).size ≡ wal.old.blocks }
-    requires fresh { IsFresh wal.old }
-    requires quiet { IsQuiet wal.old }
-    requires sound { wal.old.broken ≡ false }
-    ensures quiet { IsQuiet wal.new }
+fn install<D: CrashDisk>(disk: &mut D, core: &mut Core<Done>) -> Result<(), OpenFault>
+    requires size { (D.device disk.old).size ≡ core.old.log.blocks }
+    requires bare { core.old ≡ unused core.old.log core.old.inodes }
+    requires fresh { IsFresh core.old.log }
+    requires quiet { IsQuiet core.old.log }
+    requires sound { core.old.log.broken ≡ false }
+    ensures quiet { IsQuiet core.new.log }
     ensures later { IsLater (D.device disk.old) (D.device disk.new) }
-    ensures blocks { wal.new.blocks ≡ wal.old.blocks }
-    ensures fresh { IsFresh wal.new }
-    ensures none { OnOk result ((wal.new.broken ≡ false) × (may_install wal.new ≡ false)) }
+    ensures blocks { core.new.log.blocks ≡ core.old.log.blocks }
+    ensures bare { core.new ≡ unused core.new.log core.old.inodes }
+    ensures fresh { IsFresh core.new.log }
+    ensures none { OnOk result ((core.new.log.broken ≡ false) × (may_install core.new.log ≡ false)) }
     ensures clean { OnOk result (IsUnspoiled (D.device disk.old) → IsUnspoiled (D.device disk.new)) }
-    ensures home { (before : Device) (raised : Content) → BringsHome before raised (D.device disk.old) wal.old
-        → BringsHome before raised (D.device disk.new) wal.new }
+    ensures home { (before : Device) (raised : Content) → BringsHome before raised (D.device disk.old) core.old.log
+        → BringsHome before raised (D.device disk.new) core.new.log }
     ensures failure { MatchResult result (λ _. (D.device disk.new).failures ≡ (D.device disk.old).failures)
         (λ cause. (cause ≡ OpenFault.Device) × ((D.device disk.old).failures < (D.device disk.new).failures)) }
     ensures model { D.keeps_model disk.new → D.keeps_model disk.old }
 {
     'calls: loop {
-        if wal.broken() {
+        if core.broken() {
             return Err(OpenFault::Device);
         }
-        if !install_one(disk, wal) {
+        if !install_one(disk, core) {
             return Ok(());
         }
     }
 }
 
 // Makes the installer's next call, where it has one.
-#[tactic(auto, using(crate::proofs::Made::made_size, crate::proofs::Made::made_later, crate::proofs::Made::made_clean))]
-fn install_one<D: CrashDisk>(disk: &mut D, wal: &mut Wal) -> bool
-    requires size { (D.device disk.old).size ≡ wal.old.blocks }
-    requires fresh { IsFresh wal.old }
-    requires quiet { IsQuiet wal.old }
-    ensures quiet { IsQuiet wal.new }
+#[tactic(auto, using(log_seats::proofs::Made::made_size, log_seats::proofs::Made::made_later, log_seats::proofs::Made::made_clean))]
+fn install_one<D: CrashDisk>(disk: &mut D, core: &mut Core<Done>) -> bool
+    requires size { (D.device disk.old).size ≡ core.old.log.blocks }
+    requires bare { core.old ≡ unused core.old.log core.old.inodes }
+    requires fresh { IsFresh core.old.log }
+    requires quiet { IsQuiet core.old.log }
+    ensures quiet { IsQuiet core.new.log }
     ensures later { IsLater (D.device disk.old) (D.device disk.new) }
-    ensures blocks { wal.new.blocks ≡ wal.old.blocks }
-    ensures fresh { IsFresh wal.new }
-    ensures may { result ≡ may_install wal.old }
+    ensures blocks { core.new.log.blocks ≡ core.old.log.blocks }
+    ensures bare { core.new ≡ unused core.new.log core.old.inodes }
+    ensures fresh { IsFresh core.new.log }
+    ensures may { result ≡ may_install core.old.log }
     ensures called { IsTrue result
-        → HasCalled wal.old (D.device disk.old) wal.new (D.device disk.new) }
-    ensures counted { wal.new.broken ≡ false → (D.device disk.new).failures ≡ (D.device disk.old).failures }
-    ensures clean { wal.new.broken ≡ false → IsUnspoiled (D.device disk.old) → IsUnspoiled (D.device disk.new) }
+        → HasCalled core.old.log (D.device disk.old) core.new.log (D.device disk.new) }
+    ensures counted { core.new.log.broken ≡ false → (D.device disk.new).failures ≡ (D.device disk.old).failures }
+    ensures clean { core.new.log.broken ≡ false → IsUnspoiled (D.device disk.old) → IsUnspoiled (D.device disk.new) }
     ensures none { IsFalse result
-        → (wal.new ≡ wal.old) × (D.device disk.new ≡ D.device disk.old) }
-    ensures home { (before : Device) (raised : Content) → BringsHome before raised (D.device disk.old) wal.old
-        → BringsHome before raised (D.device disk.new) wal.new }
+        → (core.new ≡ core.old) × (D.device disk.new ≡ D.device disk.old) }
+    ensures home { (before : Device) (raised : Content) → BringsHome before raised (D.device disk.old) core.old.log
+        → BringsHome before raised (D.device disk.new) core.new.log }
     ensures model { D.keeps_model disk.new → D.keeps_model disk.old }
 {
-    wal.lawful();
-    wal.whole();
-    let Some(io) = wal.inst_next() else {
+    core.lawful();
+    if !log_seats::install_one(core, disk) {
         return false;
-    };
-    wal.lawful();
-    let ok = io.perform(disk).is_ok();
-    wal.inst_done(io, ok);
-    wal.lawful();
+    }
+    core.lawful();
     true
 }
 

@@ -282,7 +282,7 @@ impl<D: CrashDisk> Running<D> {
     }
 
     // The log's device call is made.
-    #[tactic(auto, using(store_images::proofs::Made::made_size))]
+    #[tactic(auto, using(log_seats::proofs::Made::made_size))]
     fn log_io(&mut self) -> Option<Step>
         requires { RunsWell self.old.workers.items self.old.store.core self.old.calls }
         ensures well { RunsWell self.new.workers.items self.new.store.core self.new.calls }
@@ -348,7 +348,7 @@ impl<D: CrashDisk> Running<D> {
     }
 
     // The installer's device call is made.
-    #[tactic(auto, using(store_images::proofs::Made::made_size))]
+    #[tactic(auto, using(log_seats::proofs::Made::made_size))]
     fn inst_io(&mut self) -> Option<Step>
         requires { RunsWell self.old.workers.items self.old.store.core self.old.calls }
         ensures well { RunsWell self.new.workers.items self.new.store.core self.new.calls }

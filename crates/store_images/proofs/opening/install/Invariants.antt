@@ -4,28 +4,29 @@ use Rattle.disk.specs.Device.{Content, Device}
 use Rattle.txn.specs.CoreLaw.{IsFresh}
 use Rattle.wal_law.specs.Recovery.{IsUnspoiled}
 use Rattle.store_promise.specs.Openings.{IsLater}
-use Rattle.store_images.specs.BringingHome.{BringsHome}
+use Rattle.store_images.specs.BringingHome.{BringsHome, unused}
 use Rattle.store_images.specs.Settling.{IsQuiet, calls_left}
 use Rattle.store_images.proofs.opening.install.Given as goal
 
 abbrev pub invariant-calls : goal.invariant-calls
 invariant-calls g l = record {
   later : IsLater (g.D.CrashDisk.device l.fn.disk) (g.D.CrashDisk.device l.disk);
-  blocks : l.wal.blocks ≡ l.fn.wal.blocks;
-  fresh : IsFresh l.wal;
-  quiet : IsQuiet l.wal;
+  blocks : l.core.log.blocks ≡ l.fn.core.log.blocks;
+  bare : l.core ≡ unused l.core.log l.fn.core.inodes;
+  fresh : IsFresh l.core.log;
+  quiet : IsQuiet l.core.log;
   model : g.D.CrashDisk.keeps_model l.disk → g.D.CrashDisk.keeps_model l.fn.disk;
-  same : (g.D.CrashDisk.device l.disk).size ≡ l.wal.blocks;
-  sound : l.wal.broken ≡ false → (g.D.CrashDisk.device l.disk).failures
+  same : (g.D.CrashDisk.device l.disk).size ≡ l.core.log.blocks;
+  sound : l.core.log.broken ≡ false → (g.D.CrashDisk.device l.disk).failures
       ≡ (g.D.CrashDisk.device l.fn.disk).failures;
-  failed : l.wal.broken ≡ true → (g.D.CrashDisk.device l.fn.disk).failures <
+  failed : l.core.log.broken ≡ true → (g.D.CrashDisk.device l.fn.disk).failures <
       (g.D.CrashDisk.device l.disk).failures;
-  clean : l.wal.broken ≡ false → IsUnspoiled (g.D.CrashDisk.device l.fn.disk)
+  clean : l.core.log.broken ≡ false → IsUnspoiled (g.D.CrashDisk.device l.fn.disk)
       → IsUnspoiled (g.D.CrashDisk.device l.disk);
   home : (before : Device) (raised : Content)
-      → BringsHome before raised (g.D.CrashDisk.device l.fn.disk) l.fn.wal
-      → BringsHome before raised (g.D.CrashDisk.device l.disk) l.wal;
+      → BringsHome before raised (g.D.CrashDisk.device l.fn.disk) l.fn.core.log
+      → BringsHome before raised (g.D.CrashDisk.device l.disk) l.core.log;
 }
 
 abbrev pub decreases-calls : goal.decreases-calls
-decreases-calls g l = if l.wal.broken then 0 else calls_left l.wal + 1
+decreases-calls g l = if l.core.log.broken then 0 else calls_left l.core.log + 1

@@ -13,6 +13,8 @@ use Rattle.store_images.proofs.Opens.{begins, is_new, is_opened, later_refused, 
 use Rattle.store_images.proofs.Opens.{none_home, read_refused}
 use Rattle.wal_law.proofs.OnlyRead.{no_read}
 use Rattle.txn.specs.Core.{CoreState}
+use Rattle.wal_law.specs.Log.{Log}
+use Rattle.store_images.specs.BringingHome.{BringsHome, unused}
 use Rattle.store_images.proofs.opening.recover.Goals as goal
 
 full : (super : Super) → length (super_bytes super) ≡ BLOCK_BYTES
@@ -46,8 +48,10 @@ returns-in-Err-install-clause-keeps g c = λ tree first holds kept.
     let kept_now = c.install.ensures.model kept in
     let is = c.in-Ok-find.ensures.found kept_now holds.rest.unspoiled in
     let brings = c.install.ensures.home before (super_bytes (next found))
+    (subst (λ (log : Log). BringsHome before (super_bytes (next found)) now log)
+    (sym (ap (λ (core : CoreState). core.log) c.new-core.ensures))
     (begins before tree first holds found log now (super_bytes (next found)) c.in-Ok-find.ensures.reads is
-    c.lawful.ensures (g.met.D.CrashDisk.whole c.find.new.disk kept_now)) in
+    c.lawful.ensures (g.met.D.CrashDisk.whole c.find.new.disk kept_now))) in
     let failed = c.in-Err-install.ensures.failure in
     let same = c.in-Ok-find.ensures.failure in
     later_refused before tree first holds found (next found) (super_bytes (next found)) is.is_super refl refl
@@ -63,17 +67,19 @@ returns-in-Err-raise-clause-keeps g c = λ tree first holds kept.
     let home = g.D.CrashDisk.device c.install.new.disk in
     let later = g.D.CrashDisk.device c.raise.new.disk in
     let found = c.in-Ok-find.found.0 in
-    let log = c.install.new.wal in
+    let log = c.install.new.core.log in
     let kept_now = c.install.ensures.model (c.raise.ensures.model kept) in
     let is = c.in-Ok-find.ensures.found kept_now holds.rest.unspoiled in
     let brings = c.install.ensures.home before (super_bytes (next found))
+    (subst (λ (log : Log). BringsHome before (super_bytes (next found)) now log)
+    (sym (ap (λ (core : CoreState). core.log) c.new-core.ensures))
     (begins before tree first holds found c.in-Ok-find.found.1 now (super_bytes (next found))
     c.in-Ok-find.ensures.reads
-    is c.lawful.ensures (g.met.D.CrashDisk.whole c.find.new.disk kept_now)) in
+    is c.lawful.ensures (g.met.D.CrashDisk.whole c.find.new.disk kept_now))) in
     let none = c.in_default-install.ensures.none in
-    let empty = none_home log c.lawful-2.ensures none.0 c.install.ensures.quiet.installing none.1
+    let empty = none_home log c.lawful-3.ensures.log none.0 c.install.ensures.quiet.installing none.1
     brings.coming.logged in
-    let keeps = c.in-Err-raise.ensures.raised before log c.lawful-2.ensures empty brings in
+    let keeps = c.in-Err-raise.ensures.raised before log c.lawful-3.ensures.log empty brings in
     later_refused before tree first holds found (next found) (super_bytes (next found)) is.is_super refl refl
     (c.a_super_block_is_its_bytes.ensures (next found) found.geometry.lawful c.in-Ok-find.ensures.boot)
     (full (next found)) later c.in-Err-raise.fault (g.met.D.CrashDisk.whole c.raise.new.disk kept) keeps
@@ -92,17 +98,19 @@ returns-clause-keeps g c = λ tree first holds kept.
     let home = g.D.CrashDisk.device c.install.new.disk in
     let later = g.D.CrashDisk.device c.raise.new.disk in
     let found = c.in-Ok-find.found.0 in
-    let log = c.install.new.wal in
+    let log = c.install.new.core.log in
     let kept_now = c.install.ensures.model (c.raise.ensures.model kept) in
     let is = c.in-Ok-find.ensures.found kept_now holds.rest.unspoiled in
     let brings = c.install.ensures.home before (super_bytes (next found))
+    (subst (λ (log : Log). BringsHome before (super_bytes (next found)) now log)
+    (sym (ap (λ (core : CoreState). core.log) c.new-core.ensures))
     (begins before tree first holds found c.in-Ok-find.found.1 now (super_bytes (next found))
     c.in-Ok-find.ensures.reads
-    is c.lawful.ensures (g.met.D.CrashDisk.whole c.find.new.disk kept_now)) in
+    is c.lawful.ensures (g.met.D.CrashDisk.whole c.find.new.disk kept_now))) in
     let none = c.in_default-install.ensures.none in
-    let empty = none_home log c.lawful-2.ensures none.0 c.install.ensures.quiet.installing none.1
+    let empty = none_home log c.lawful-3.ensures.log none.0 c.install.ensures.quiet.installing none.1
     brings.coming.logged in
-    let raises = c.in_default-raise.ensures.raised before log c.lawful-2.ensures empty brings in
+    let raises = c.in_default-raise.ensures.raised before log c.lawful-3.ensures.log empty brings in
     let is_raised = c.a_super_block_is_its_bytes.ensures (next found) found.geometry.lawful
     c.in-Ok-find.ensures.boot in
     let blocks = g.met.D.CrashDisk.whole c.raise.new.disk kept in
@@ -110,13 +118,14 @@ returns-clause-keeps g c = λ tree first holds kept.
     (unspoiled_then before now c.in-Ok-find.ensures.reads holds.rest.unspoiled) in
     let over = is_new before tree first holds found (next found) (super_bytes (next found))
     is.is_super refl refl
-    is_raised (full (next found)) home later log c.lawful-2.ensures empty raises blocks c.new-core.result
-    c.new-core.ensures c.lawful-3.ensures.tidy c.install.ensures.fresh none.0 clean in (
+    is_raised (full (next found)) home later log c.lawful-3.ensures.log empty raises blocks c.install.new.core
+    (c.install.ensures.bare ∙ ap (λ n. unused log n) (ap (λ (core : CoreState). core.inodes) c.new-core.ensures))
+    c.lawful-3.ensures.tidy c.install.ensures.fresh none.0 clean in (
       next_boot before tree first holds found (next found) (super_bytes (next found)) is.is_super refl
           refl is_raised (full (next found)),
       log.start,
       is_opened before tree first holds found (next found) (super_bytes (next found)) is.is_super refl refl
-          is_raised (full (next found)) home later log c.lawful-2.ensures empty raises blocks
+          is_raised (full (next found)) home later log c.lawful-3.ensures.log empty raises blocks
           (c.in_default-raise.ensures.failure ∙ c.in_default-install.ensures.failure
           ∙ c.in-Ok-find.ensures.failure),
       over.0,

@@ -6,7 +6,7 @@ use Rattle.wal_law.specs.Calls.{Pending, out, was_made}
 use Rattle.store_images.proofs.LogMoves.{answer_is, inst_made}
 use Rattle.store_images.proofs.LogSteps.{failed_is, goes_on, of_installer, same_core_places}
 use Rattle.store_images.proofs.LogSteps.{same_transactions, some_made, some_out}
-use Rattle.store_images.proofs.Made.{made_later}
+use Rattle.log_seats.proofs.Made.{made_later}
 use Rattle.store_images.specs.LogSide.{MayInstIo, pending_of}
 use Rattle.disk.specs.Device.{current}
 use Rattle.store_promise.specs.DeviceCalls.{DoesCallOut}

@@ -6,7 +6,7 @@ use Rattle.wal_law.specs.Calls.{Pending, out, was_made}
 use Rattle.store_images.proofs.LogMoves.{answer_is, log_made}
 use Rattle.store_images.proofs.LogSteps.{failed_is, goes_on, of_logger, same_core_places, same_transactions}
 use Rattle.store_images.proofs.LogSteps.{some_made, some_out}
-use Rattle.store_images.proofs.Made.{made_later}
+use Rattle.log_seats.proofs.Made.{made_later}
 use Rattle.store_images.specs.LogSide.{MayLogIo, pending_of}
 use Rattle.disk.specs.Device.{current}
 use Rattle.store_promise.specs.DeviceCalls.{DoesCallOut}

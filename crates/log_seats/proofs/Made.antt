@@ -4,7 +4,7 @@ use Rattle.std.proofs.Common.{nat_eq}
 use Rattle.wal_law.specs.Recovery.{IsUnspoiled}
 use Rattle.disk.specs.Device.{Content, Device, OneLater}
 use Rattle.disk.specs.declared.device.Failed.{Failed}
-use Rattle.wal.specs.Io.{Io, HasMade, HasMadeCall}
+use Rattle.wal_law.specs.Io.{Io, HasMade, HasMadeCall}
 use Rattle.wal_law.specs.declared.calls.IoCall.{IoCall}
 use Rattle.wal_law.specs.declared.calls.IoCall.TheVariants.{Write, Barrier}
 

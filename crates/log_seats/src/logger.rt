@@ -1,0 +1,136 @@
+//! The logger between two steps.
+ghost use Rattle.std.specs.Prelude.{◌≡◌, None, Some, MatchOption};
+ghost use Rattle.log_seats.specs.Making.{IsDue, IsMadeOn, IsTried, IsTriedOn};
+ghost use Rattle.log_seats.specs.Steps.{LogComesBack, LogGoesOut, HasEnded, HasStepped};
+ghost use Rattle.wal_law.specs.Calls.{LogCallIsMade};
+ghost use Rattle.wal_law.specs.Logger.{may_log};
+
+use crate::Stepped;
+use crate::calls::{is_within, was_ok};
+use crate::options::put;
+use disk::{CrashDisk, Failed, Port};
+use txn::{Change, Core};
+use wal::{IoCall, LogIo};
+
+/// The logger: its device call that is out, and once that was made, whether it was answered Ok. It isn't let go
+/// with a call that is out: that goes back to the core.
+pub struct Logger {
+    pub(crate) io: Option<LogIo>,
+    pub(crate) made: Option<bool>,
+}
+
+impl Logger {
+    /// Nothing is out.
+    pub fn new() -> Logger
+        ensures { (result.io ≡ None) × (result.made ≡ None) }
+    {
+        Logger {
+            io: None,
+            made: None,
+        }
+    }
+
+    /// The device call that is out.
+    pub fn out(&self) -> Option<&LogIo>
+        ensures { MatchOption result (self.now.io ≡ None) (λ io. self.now.io ≡ Some io.now) }
+    {
+        self.io.as_ref()
+    }
+
+    /// The device call to make: the one that is out, where it wasn't made.
+    pub fn due(&self) -> Option<IoCall>
+        ensures { IsDue self.now.io self.now.made result }
+    {
+        if self.made.is_some() {
+            return None;
+        }
+        match self.io.as_ref() {
+            Some(io) => Some(io.call()),
+            None => None,
+        }
+    }
+
+    /// One step on the core: gives back the call that was made; or, where none is out, takes the next.
+    pub fn step<C: Change>(&mut self, core: &mut Core<C>) -> Option<Stepped>
+        ensures step { HasStepped may_log LogGoesOut LogComesBack core.old self.old.io self.old.made result core.new
+            self.new.io self.new.made }
+        ensures blocks { core.new.log.blocks ≡ core.old.log.blocks }
+        ensures inodes { core.new.inodes ≡ core.old.inodes }
+    {
+        let Some(io) = self.io.take() else {
+            let io = core.log_next()?;
+            let call = io.call();
+            self.made = None;
+            put(&mut self.io, io);
+            return Some(Stepped::Next(call));
+        };
+        match self.made.take() {
+            Some(ok) => {
+                core.log_done(io, ok);
+                Some(Stepped::Done(ok))
+            }
+            None => {
+                put(&mut self.io, io);
+                None
+            }
+        }
+    }
+
+    /// Makes the call that is out on a disk, where it wasn't made, and tells whether it was answered Ok. One that
+    /// doesn't lie on the disk has failed, and asks nothing of it.
+    pub fn make<D: CrashDisk>(&mut self, disk: &mut D) -> Option<bool>
+        ensures made { IsTried LogCallIsMade (D.device disk.old) self.old.io self.old.made result (D.device disk.new)
+            self.new.made }
+        ensures io { self.new.io ≡ self.old.io }
+        ensures size { (D.device disk.new).size ≡ (D.device disk.old).size }
+        ensures model { D.keeps_model disk.new → D.keeps_model disk.old }
+    {
+        if self.made.is_some() {
+            return None;
+        }
+        let io = self.io.as_ref()?;
+        let ok = make_on_disk(io, disk);
+        self.made = Some(ok);
+        Some(ok)
+    }
+
+    /// Makes the call that is out on a port, where it wasn't made, and tells the port's answer.
+    pub fn make_on<P: Port>(&mut self, port: &mut P) -> Option<Result<(), Failed>>
+        ensures made { IsTriedOn (P.calls port.old) self.old.io self.old.made result (P.calls port.new)
+            self.new.made }
+        ensures io { self.new.io ≡ self.old.io }
+    {
+        if self.made.is_some() {
+            return None;
+        }
+        let io = self.io.as_ref()?;
+        let made = io.perform_on(port);
+        self.made = Some(made.is_ok());
+        Some(made)
+    }
+
+    /// Ends it: the call that is out is given back by its answer, or as failed where it wasn't made.
+    pub fn end<C: Change>(self, core: &mut Core<C>)
+        ensures back { HasEnded LogComesBack core.old self.io self.made core.new }
+        ensures blocks { core.new.log.blocks ≡ core.old.log.blocks }
+        ensures inodes { core.new.inodes ≡ core.old.inodes }
+    {
+        let Logger { io, made } = self;
+        if let Some(io) = io {
+            core.log_done(io, was_ok(made));
+        }
+    }
+}
+
+// Makes a call on a disk, and answers whether that answered Ok.
+#[tactic(auto, using(crate::proofs::Made::made_size))]
+fn make_on_disk<D: CrashDisk>(io: &LogIo, disk: &mut D) -> bool
+    ensures made { IsMadeOn LogCallIsMade (D.device disk.old) io.now result (D.device disk.new) }
+    ensures size { (D.device disk.new).size ≡ (D.device disk.old).size }
+    ensures model { D.keeps_model disk.new → D.keeps_model disk.old }
+{
+    if !is_within(io.call(), disk.blocks()) {
+        return false;
+    }
+    io.perform(disk).is_ok()
+}
