@@ -14,6 +14,7 @@ pub mod GoingWork
 pub mod KeptOff
 pub mod LeftFree
 pub mod MovesOne
+pub mod NoStep
 pub mod OwnChanges
 pub mod RunTaken
 pub mod StayBeside

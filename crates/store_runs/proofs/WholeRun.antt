@@ -26,18 +26,16 @@ use Rattle.run_law.specs.Run.{Beginning, IsRun}
 use Rattle.store_runs.specs.AtWork.{IsAtWork}
 use Rattle.store_images.specs.Fetches.{FetchesOnly}
 use Rattle.store_runs.specs.Going.{AreSoFar, HasGone, IsGoing, IsSoFar, LeavesGoing, RunSide, begins}
-use Rattle.store_runs.specs.Running.{IsAtRest, side_of, states_of}
+use Rattle.store_runs.specs.Running.{AreQuiet, IsAtRest, side_of, states_of}
 use Rattle.store_workers.specs.Beside.{IsFetchAt, IsFetchedBy, IsOneOf, ShareCore}
 use Rattle.store_workers.specs.Worker as worker
 use Rattle.store_runs.specs.declared.runs.running.Calls.{Calls}
 use Rattle.store_workers.specs.declared.workers.Worker.{Worker}
 use Rattle.store_workers.specs.declared.workers.parts.State.{State}
 use Rattle.store_images.proofs.Later.{some_image}
+use Rattle.store_images.proofs.LogSteps.{none_out}
 
 -- ---- the beginning
-
-abbrev pub none_out : Calls
-none_out = record { log = None; log_made = None; inst = None; inst_made = None }
 
 abbrev pub nothing_told : ℕ → Transcript
 nothing_told boot = record { boot = boot; history = []; answers = []; steps = [] }
@@ -83,7 +81,7 @@ module _ (b : Beginning) (o : Setting) (base : Image) (core : CoreState) (worker
     (calls : Calls) (told : Run) (run : IsRun b o (nothing_told (b.first + 1)) base
     (at_rest b.opened core) [] b.tree)
     (out : core.out ≡ []) (none : core.present ≡ []) (boot_is : boot ≡ b.first + 1)
-    (calls_are : calls ≡ none_out) (told_boot : told.boot ≡ boot)
+    (calls_are : AreQuiet calls) (told_boot : told.boot ≡ boot)
     (empty : (told.history.items ≡ []) × (told.answers.items ≡ []) × (told.steps.items ≡ []))
     (count : length workers ≡ b.workers)
     (rest : (number : ℕ) (one : State) → IsOneOf workers number one → one ≡ worker.at_rest boot)
@@ -106,13 +104,20 @@ module _ (b : Beginning) (o : Setting) (base : Image) (core : CoreState) (worker
         fetched = All-nil (IsFetchOver base core);
       })
 
+  quiet_is : side_of b.opened core calls ≡ at_rest b.opened core
+  quiet_is = λ i. record {
+    device = b.opened;
+    core = core;
+    logging = none_out calls.logger.io calls.logger.made calls_are.0 i;
+    installing = none_out calls.installer.io calls.installer.made calls_are.1 i;
+  }
+
   pub first_going : IsGoing b (side_of b.opened core calls) workers told
   first_going = record {
     setting = o;
     base = base;
     last = b.tree;
-    run = subst (λ (out : Calls). IsRun b o (transcript_of told) base (side_of b.opened core out) [] b.tree)
-        (sym calls_are)
+    run = subst (λ (side : StoreSide). IsRun b o (transcript_of told) base side [] b.tree) (sym quiet_is)
         (subst (λ (t : Transcript). IsRun b o t base (at_rest b.opened core) [] b.tree) (sym told_is) run);
     so_far = subst (λ (t : Transcript). AreSoFar b base core t workers) (sym told_is) (record {
       count = count;

@@ -21,8 +21,8 @@ abbrev pub side_of : Device → CoreState → Calls → StoreSide
 side_of device core calls = record {
   device = device;
   core = core;
-  logging = pending_of calls.log calls.log_made;
-  installing = pending_of calls.inst calls.inst_made;
+  logging = pending_of calls.logger.io calls.logger.made;
+  installing = pending_of calls.installer.io calls.installer.made;
 }
 
 -- a step does the call that the log, or the installer, has out, or nothing
@@ -34,10 +34,9 @@ DoesItsStep old made new = DoesStep (call_told old.logging) (call_told old.insta
 abbrev pub IsWithin : ℕ → Option Io → Type 0
 IsWithin blocks out = IfSome out (λ io. IsCallWithin blocks io.call)
 
--- a call was made only where it is out
-abbrev pub IsMadeOf : Option Io → Option Bool → Type 0
-IsMadeOf None made = made ≡ None
-IsMadeOf (Some io) made = Unit {0}
+-- neither has a call out
+abbrev pub AreQuiet : Calls → Type 0
+AreQuiet calls = (calls.logger.io ≡ None) × (calls.installer.io ≡ None)
 
 -- the states of workers
 abbrev pub states_of : List Worker → List State
@@ -62,10 +61,8 @@ pub record MovesOne (workers : List Worker) (number : ℕ) (Does : Worker → Wo
 -- what workers read, and what is out, goes to blocks of the image
 pub record RunsWell (workers : List Worker) (core : CoreState) (calls : Calls) : Type 0 where
   pub reads : All (λ (worker : Worker). ReadsWithin core.log.blocks worker.state) workers
-  pub log_within : IsWithin core.log.blocks calls.log
-  pub inst_within : IsWithin core.log.blocks calls.inst
-  pub log_made_is : IsMadeOf calls.log calls.log_made
-  pub inst_made_is : IsMadeOf calls.inst calls.inst_made
+  pub log_within : IsWithin core.log.blocks calls.logger.io
+  pub inst_within : IsWithin core.log.blocks calls.installer.io
 
 -- the count of device calls with one more, as far as it can count
 abbrev pub one_more : ℕ → ℕ

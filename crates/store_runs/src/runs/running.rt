@@ -7,7 +7,7 @@ ghost use Rattle.store_promise.specs.Running.{IsLogStep};
 ghost use Rattle.store_promise.specs.Transcript.{calls_device, refusals};
 ghost use Rattle.store_images.specs.LogSide.{MayInstIo, MayInstall, MayLog, MayLogIo};
 ghost use Rattle.store_runs.specs.Going.{KeepsCore, LeavesGoing, run_side};
-ghost use Rattle.store_runs.specs.Running.{DoesItsStep, IsAtRest, KeepsFits, MovesOne, RunsWell, counted};
+ghost use Rattle.store_runs.specs.Running.{AreQuiet, DoesItsStep, IsAtRest, KeepsFits, MovesOne, RunsWell, counted};
 ghost use Rattle.store_runs.specs.Running.{one_more, side_of};
 ghost use Rattle.store_images.specs.Counts.{SameFrame};
 ghost use Rattle.store_images.specs.Settling.{IsIdle};
@@ -20,6 +20,7 @@ ghost use Rattle.store_workers.specs.WorkerSteps.{side};
 use super::going::{a_log_event_leaves_a_run_going, a_work_event_leaves_a_run_going};
 use super::going_workers::{a_call_leaves_a_run_going, a_read_leaves_a_run_going};
 use disk::CrashDisk;
+use log_seats::{Installer, Logger, Stepped};
 use nfs_types::{Call, Credential, Moment};
 use procs::Done;
 use std::alloc::Global;
@@ -29,8 +30,8 @@ use store_promise::{
     the_installer_leaves_the_store_open, the_logger_leaves_the_store_open,
     what_was_read_is_at_home,
 };
-use store_workers::{Worker, put};
-use txn::{Core, InstIo, LogIo};
+use store_workers::Worker;
+use txn::Core;
 
 /// A run that goes on: the store with its workers, the device calls that are out, and how many device calls
 /// the events have made.
@@ -41,12 +42,10 @@ pub(super) struct Running<D: CrashDisk> {
     clock: u64,
 }
 
-/// The device calls that the log and the installer have out, and whether these were made and answered Ok.
+/// The logger and the installer.
 pub(super) struct Calls {
-    log: Option<LogIo>,
-    log_made: Option<bool>,
-    inst: Option<InstIo>,
-    inst_made: Option<bool>,
+    logger: Logger,
+    installer: Installer,
 }
 
 impl<D: CrashDisk> Running<D> {
@@ -65,7 +64,7 @@ impl<D: CrashDisk> Running<D> {
         ensures lawful { IsLawful result.store.core.log.blocks result.store.core.inodes }
         ensures count { length result.workers.items ≡ workers }
         ensures workers { All (IsAtRest store.boot) result.workers.items }
-        ensures calls { result.calls ≡ record { log = None; log_made = None; inst = None; inst_made = None } }
+        ensures calls { AreQuiet result.calls }
         ensures clock { result.clock ≡ 0 }
     {
         let boot = store.boot();
@@ -73,10 +72,8 @@ impl<D: CrashDisk> Running<D> {
             store,
             workers: new_workers(alloc, boot, workers, room),
             calls: Calls {
-                log: None,
-                log_made: None,
-                inst: None,
-                inst_made: None,
+                logger: Logger::new(),
+                installer: Installer::new(),
             },
             clock: 0,
         }
@@ -259,30 +256,17 @@ impl<D: CrashDisk> Running<D> {
         the_logger_leaves_the_store_open();
         a_device_counts_the_calls_of_its_steps();
         what_was_read_is_at_home();
-        let Some(io) = self.calls.log.take() else {
-            self.store.core.lawful();
-            let io = self.store.core.log_next()?;
-            self.store.core.lawful();
-            let call = io.call();
-            put(&mut self.calls.log, io);
-            return Some(Step::LogNext(call));
-        };
-        match self.calls.log_made.take() {
-            Some(ok) => {
-                self.store.core.lawful();
-                self.store.core.log_done(io, ok);
-                self.store.core.lawful();
-                Some(Step::LogDone(ok))
-            }
-            None => {
-                put(&mut self.calls.log, io);
-                None
-            }
+        self.store.core.lawful();
+        let stepped = self.calls.logger.step(&mut self.store.core);
+        self.store.core.lawful();
+        match stepped {
+            Some(Stepped::Next(call)) => Some(Step::LogNext(call)),
+            Some(Stepped::Done(ok)) => Some(Step::LogDone(ok)),
+            None => None,
         }
     }
 
     // The log's device call is made.
-    #[tactic(auto, using(log_seats::proofs::Made::made_size))]
     fn log_io(&mut self) -> Option<Step>
         requires { RunsWell self.old.workers.items self.old.store.core self.old.calls }
         ensures well { RunsWell self.new.workers.items self.new.store.core self.new.calls }
@@ -299,13 +283,8 @@ impl<D: CrashDisk> Running<D> {
         the_logger_leaves_the_store_open();
         a_device_counts_the_calls_of_its_steps();
         what_was_read_is_at_home();
-        if self.calls.log_made.is_some() {
-            return None;
-        }
-        let io = self.calls.log.as_ref()?;
         self.store.core.lawful();
-        let ok = io.perform(&mut self.store.disk).is_ok();
-        self.calls.log_made = Some(ok);
+        let ok = self.calls.logger.make(&mut self.store.disk)?;
         self.count();
         Some(Step::LogIo(ok))
     }
@@ -325,30 +304,17 @@ impl<D: CrashDisk> Running<D> {
         the_installer_leaves_the_store_open();
         a_device_counts_the_calls_of_its_steps();
         what_was_read_is_at_home();
-        let Some(io) = self.calls.inst.take() else {
-            self.store.core.lawful();
-            let io = self.store.core.inst_next()?;
-            self.store.core.lawful();
-            let call = io.call();
-            put(&mut self.calls.inst, io);
-            return Some(Step::InstNext(call));
-        };
-        match self.calls.inst_made.take() {
-            Some(ok) => {
-                self.store.core.lawful();
-                self.store.core.inst_done(io, ok);
-                self.store.core.lawful();
-                Some(Step::InstDone(ok))
-            }
-            None => {
-                put(&mut self.calls.inst, io);
-                None
-            }
+        self.store.core.lawful();
+        let stepped = self.calls.installer.step(&mut self.store.core);
+        self.store.core.lawful();
+        match stepped {
+            Some(Stepped::Next(call)) => Some(Step::InstNext(call)),
+            Some(Stepped::Done(ok)) => Some(Step::InstDone(ok)),
+            None => None,
         }
     }
 
     // The installer's device call is made.
-    #[tactic(auto, using(log_seats::proofs::Made::made_size))]
     fn inst_io(&mut self) -> Option<Step>
         requires { RunsWell self.old.workers.items self.old.store.core self.old.calls }
         ensures well { RunsWell self.new.workers.items self.new.store.core self.new.calls }
@@ -365,13 +331,8 @@ impl<D: CrashDisk> Running<D> {
         the_installer_leaves_the_store_open();
         a_device_counts_the_calls_of_its_steps();
         what_was_read_is_at_home();
-        if self.calls.inst_made.is_some() {
-            return None;
-        }
-        let io = self.calls.inst.as_ref()?;
         self.store.core.lawful();
-        let ok = io.perform(&mut self.store.disk).is_ok();
-        self.calls.inst_made = Some(ok);
+        let ok = self.calls.installer.make(&mut self.store.disk)?;
         self.count();
         Some(Step::InstIo(ok))
     }
@@ -462,18 +423,9 @@ impl Calls {
         ensures blocks { core.new.log.blocks ≡ core.old.log.blocks }
         ensures inodes { core.new.inodes ≡ core.old.inodes }
     {
-        let Calls {
-            log,
-            log_made: _,
-            inst,
-            inst_made: _,
-        } = self;
-        if let Some(io) = log {
-            core.log_done(io, false);
-        }
-        if let Some(io) = inst {
-            core.inst_done(io, false);
-        }
+        let Calls { logger, installer } = self;
+        logger.end(core);
+        installer.end(core);
     }
 }
 

@@ -1,65 +1,112 @@
-use Rattle.std.proofs.Common.{rules, ◌≡◌, ◌∙◌, ap, refl, sym, subst, is_ok, Some, None}
+use Rattle.std.proofs.Common.{rules, inl, inr, ◌≡◌, ◌∙◌, ap, refl, sym, subst, is_ok, Bool, Option, Some, None}
+use Rattle.disk.specs.Device.{Device, current}
+use Rattle.log_seats.proofs.Cases.{not_tried, tried}
+use Rattle.log_seats.proofs.Made.{made_later}
+use Rattle.log_seats.specs.Making.{IsTried}
+use Rattle.store_promise.specs.DeviceCalls.{DoesCallOut}
 use Rattle.store_promise.specs.OpenSince.{IsOpenSince}
 use Rattle.store_promise.specs.Running.{IsLogStep, side}
-use Rattle.store_promise.specs.declared.events.Step.TheVariants as step
-use Rattle.wal_law.specs.Calls.{Pending, out, was_made}
-use Rattle.store_images.proofs.LogMoves.{answer_is, inst_made}
-use Rattle.store_images.proofs.LogSteps.{failed_is, goes_on, of_installer, same_core_places}
-use Rattle.store_images.proofs.LogSteps.{same_transactions, some_made, some_out}
-use Rattle.log_seats.proofs.Made.{made_later}
-use Rattle.store_images.specs.LogSide.{MayInstIo, pending_of}
-use Rattle.disk.specs.Device.{current}
-use Rattle.store_promise.specs.DeviceCalls.{DoesCallOut}
 use Rattle.store_promise.specs.ToldOf.{call_told}
+use Rattle.store_promise.specs.declared.events.Step.{Step}
+use Rattle.store_promise.specs.declared.events.Step.TheVariants as step
 use Rattle.store_promise.proofs.DeviceCalls.{does_call}
-use Rattle.store_runs.specs.Running.{DoesItsStep, side_of}
+use Rattle.wal_law.specs.Calls.{InstCallIsMade, Pending, idle, out, was_made}
+use Rattle.wal_law.specs.Io.{Io, IsCallWithin}
+use Rattle.store_images.proofs.LogMoves.{answer_is, inst_made}
+use Rattle.store_images.proofs.LogSteps.{failed_is, goes_on, none_out, of_installer, same_core_places, same_transactions}
+use Rattle.store_images.proofs.LogSteps.{some_made, some_out}
+use Rattle.store_images.specs.LogSide.{MayInstIo, pending_of}
+use Rattle.store_runs.proofs.NoStep.{inst_io_made, no_inst_io}
+use Rattle.store_runs.specs.Running.{DoesItsStep, IsWithin, side_of}
 use Rattle.store_runs.proofs.runs.running.Running.inst_io.Goals as goal
 
 pub returns-clause-step : goal.returns-clause-step
 returns-clause-step g c =
     let d = g.D.CrashDisk.device c.args.self.now.store.disk in
-    let e = g.D.CrashDisk.device c.perform.new.disk in
+    let e = g.D.CrashDisk.device c.make.new.disk in
     let calls = c.args.self.now.calls in
     let core = c.args.self.now.store.core in
-    let io = c.in_ok-io.io.now in
-    let ok = c.is_ok-ok.result in
-    let answer = c.perform.result in
+    let next = c.make.new.self in
+    let beside = pending_of calls.logger.io calls.logger.made in
+    let ok = c.in_ok-ok.ok in
+    let is : IsTried InstCallIsMade d calls.installer.io calls.installer.made (Some ok) e next.made = search rules in
+    let one = tried InstCallIsMade d e calls.installer.io calls.installer.made ok next.made is in
+    let io = one.io in
+    let size : d.size ≡ core.log.blocks = search rules in
+    let within : IsCallWithin core.log.blocks io.call =
+    subst (λ (out : Option Io). IsWithin core.log.blocks out) one.some c.requires.inst_within in
+    let answered = one.on.within (subst (λ n. IsCallWithin n io.call) (sym size) within) in
+    let answer = answered.answer in
     let made = pending_of (Some io) (Some ok) in
-    let beside = pending_of calls.log calls.log_made in
     let law = c.the_installer_leaves_the_store_open.ensures.made in
-    let ok_is : ok ≡ is_ok answer = search rules in
     let same : made ≡ was_made io answer =
-    ap (λ b. pending_of (Some io) (Some b)) ok_is ∙ answer_is io answer in
-    let some : calls.inst ≡ Some io = search rules in
-    let unmade : calls.inst_made ≡ None = search rules in
+    ap (λ b. pending_of (Some io) (Some b)) answered.ok_is ∙ answer_is io answer in
     subst (λ r. IsLogStep MayInstIo (side_of d core calls) (Some (step.InstIo ok))
     (side_of (g.D.CrashDisk.device r.store.disk) r.store.core r.calls)) (sym c.count.ensures)
     (of_installer MayInstIo (Some (step.InstIo ok)) d e core core beside (out io) made _ _
-    (some_out calls.inst calls.inst_made io some unmade) (some_made calls.inst _ io ok some refl)
+    (some_out calls.installer.io calls.installer.made io one.some one.unmade)
+    (some_made next.io next.made io ok (c.make.ensures.io ∙ one.some) one.later_is)
     (goes_on MayInstIo (side d core beside (out io)) (side e core beside made) (Some (step.InstIo ok))
     (c.a_device_counts_the_calls_of_its_steps.ensures.call d e (Some (step.InstIo ok)) answer refl
-    (failed_is answer ok ok_is) (made_later d io answer e c.perform.ensures.call) c.perform.ensures.failure)
+    (failed_is answer ok answered.ok_is) (made_later d io answer e answered.call) answered.failure)
     (same_transactions core)
-    (inst_made d e core.log beside io answer ok c.lawful.ensures.log c.perform.ensures.law ok_is)
+    (inst_made d e core.log beside io answer ok c.lawful.ensures.log answered.law answered.ok_is)
     (λ base boot first last entries since.
     subst (λ (p : Pending). IsOpenSince base e core beside p boot first entries last) (sym same)
-    (law base d e core io answer beside boot first last entries since c.perform.ensures.call))
+    (law base d e core io answer beside boot first last entries since answered.call))
     (λ base boot first last entries fetches since all. all)
     (λ base boot first last entries since. same_core_places base core)))
 
 pub returns-clause-does : goal.returns-clause-does
 returns-clause-does g c =
     let d = g.D.CrashDisk.device c.args.self.now.store.disk in
-    let e = g.D.CrashDisk.device c.perform.new.disk in
+    let e = g.D.CrashDisk.device c.make.new.disk in
     let calls = c.args.self.now.calls in
     let core = c.args.self.now.store.core in
-    let io = c.in_ok-io.io.now in
-    let ok = c.is_ok-ok.result in
-    let answer = c.perform.result in
-    let ok_is : ok ≡ is_ok answer = search rules in
-    let some : calls.inst ≡ Some io = search rules in
-    let unmade : calls.inst_made ≡ None = search rules in
+    let next = c.make.new.self in
+    let beside = pending_of calls.logger.io calls.logger.made in
+    let ok = c.in_ok-ok.ok in
+    let is : IsTried InstCallIsMade d calls.installer.io calls.installer.made (Some ok) e next.made = search rules in
+    let one = tried InstCallIsMade d e calls.installer.io calls.installer.made ok next.made is in
+    let io = one.io in
+    let size : d.size ≡ core.log.blocks = search rules in
+    let within : IsCallWithin core.log.blocks io.call =
+    subst (λ (out : Option Io). IsWithin core.log.blocks out) one.some c.requires.inst_within in
+    let answered = one.on.within (subst (λ n. IsCallWithin n io.call) (sym size) within) in
+    let answer = answered.answer in
     subst (λ r. DoesItsStep (side_of d core calls) (Some (step.InstIo ok))
     (side_of (g.D.CrashDisk.device r.store.disk) r.store.core r.calls)) (sym c.count.ensures)
     (subst (λ (p : Pending). DoesCallOut (call_told p) ok (current d) (current e))
-    (sym (some_out calls.inst calls.inst_made io some unmade)) (does_call d e io answer ok ok_is c.perform.ensures.call))
+    (sym (some_out calls.installer.io calls.installer.made io one.some one.unmade))
+    (does_call d e io answer ok answered.ok_is answered.call))
+
+pub returns-in_err-ok-clause-step : goal.returns-in_err-ok-clause-step
+returns-in_err-ok-clause-step g c =
+    let d = g.D.CrashDisk.device c.args.self.now.store.disk in
+    let e = g.D.CrashDisk.device c.make.new.disk in
+    let calls = c.args.self.now.calls in
+    let core = c.args.self.now.store.core in
+    let next = c.make.new.self in
+    let beside = pending_of calls.logger.io calls.logger.made in
+    let is : IsTried InstCallIsMade d calls.installer.io calls.installer.made None e next.made = search rules in
+    let one = not_tried InstCallIsMade d e calls.installer.io calls.installer.made next.made is in
+    let moved = c.a_device_counts_the_calls_of_its_steps.ensures.none d None refl in
+    let same : c.from_residual.result ≡ None = search rules in
+    let none : IsLogStep MayInstIo (side d core beside (pending_of calls.installer.io calls.installer.made)) None
+    (side e core beside (pending_of next.io next.made)) = elim one.why [
+      | inl none ↦
+          of_installer MayInstIo None d e core core beside idle idle _ _ (none_out calls.installer.io calls.installer.made none)
+          (none_out next.io next.made (c.make.ensures.io ∙ none))
+          (subst (λ (k : Device). IsLogStep MayInstIo (side d core beside idle) None (side k core beside idle)) (sym one.same)
+          (no_inst_io d core beside moved))
+      | inr some ↦
+          of_installer MayInstIo None d e core core beside (pending_of (Some some.0) (Some some.1))
+          (pending_of (Some some.0) (Some some.1)) _ _
+          (some_made calls.installer.io calls.installer.made some.0 some.1 some.2 some.3)
+          (some_made next.io next.made some.0 some.1 (c.make.ensures.io ∙ some.2) (one.later_is ∙ some.3))
+          (subst (λ (k : Device). IsLogStep MayInstIo (side d core beside (pending_of (Some some.0) (Some some.1))) None
+          (side k core beside (pending_of (Some some.0) (Some some.1)))) (sym one.same)
+          (inst_io_made d core beside moved some.0 some.1))
+    ] in
+    subst (λ (told : Option Step). IsLogStep MayInstIo (side d core beside (pending_of calls.installer.io calls.installer.made)) told
+    (side e core beside (pending_of next.io next.made))) (sym same) none

@@ -18,10 +18,8 @@ returns-clause-well g c =
     record {
       reads = subst (λ (n : ℕ). All (λ (w : Worker). ReadsWithin n w.state)
           (set workers c.args.worker c.work_of.new.one)) blocks reads;
-      log_within = subst (λ (n : ℕ). IsWithin n c.args.self.now.calls.log) blocks c.requires.well.log_within;
-      inst_within = subst (λ (n : ℕ). IsWithin n c.args.self.now.calls.inst) blocks c.requires.well.inst_within;
-      log_made_is = c.requires.well.log_made_is;
-      inst_made_is = c.requires.well.inst_made_is;
+      log_within = subst (λ (n : ℕ). IsWithin n c.args.self.now.calls.logger.io) blocks c.requires.well.log_within;
+      inst_within = subst (λ (n : ℕ). IsWithin n c.args.self.now.calls.installer.io) blocks c.requires.well.inst_within;
     }
 
 pub returns-clause-step : goal.returns-clause-step
