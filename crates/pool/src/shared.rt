@@ -1,15 +1,16 @@
 //! The lock.
-ghost use Rattle.std.specs.Prelude.{◌≡◌, ◌+◌, ◌≤◌, length, None, IfSome};
+ghost use Rattle.std.specs.Prelude.{◌≡◌, ◌+◌, ◌≤◌, length, None, IsSome};
+ghost use Rattle.log_seats.specs.Steps.{InstComesBack, InstGoesOut, LogComesBack, LogGoesOut};
 ghost use Rattle.pool.specs.Locking.{IsLawful};
 ghost use Rattle.pool.specs.Stepping.{HasStepped, grown};
-ghost use Rattle.pool_calls.specs.Numbers.{number_of};
 ghost use Rattle.pool_calls.specs.Sides.{HasTurned};
 ghost use Rattle.txn.specs.Core.{CoreState};
 ghost use Rattle.wal_law.specs.Installer.{may_install};
 ghost use Rattle.wal_law.specs.Logger.{may_log};
 
 use crate::{Locked, Seat, installer_step, logger_step, worker_step};
-use pool_calls::{IoSeat, Turn, Whole, give_up};
+use log_seats::{Installer, Logger};
+use pool_calls::{Caller, IoSeat, Turn, Whole, give_up};
 use procs::Done;
 use std::alloc::Global;
 use std::sync::ledger::Ledger;
@@ -59,11 +60,12 @@ impl<L: Ledger, G: Whole, I: Whole> Shared<L, G, I> {
     }
 
     /// One step of the logger, under the lock.
-    pub fn log<R: Wait>(&self, rt: &R, seat: &mut IoSeat<G>) -> Turn
+    pub fn log<R: Wait>(&self, rt: &R, seat: &mut IoSeat<G, Logger>) -> Turn
         ensures step { (before : CoreState) × (after : CoreState) × IsLawful before × IsLawful after
-            × HasTurned may_log before seat.old.io seat.old.answer result after seat.new.io seat.new.answer }
-        ensures numbered { seat.old.io ≡ None → IfSome seat.new.io (λ handed.
-            number_of handed ≡ seat.old.calls.amount + 1) }
+            × HasTurned may_log LogGoesOut LogComesBack before seat.old.side.io seat.old.side.made result after
+            seat.new.side.io seat.new.side.made }
+        ensures numbered { seat.old.side.io ≡ None → IsSome seat.new.side.io
+            → length seat.new.number.items ≡ seat.old.calls.amount + 1 }
         ensures taken { seat.new.taken ≡ seat.old.taken }
     {
         let mut guard = self.lock.lock(rt);
@@ -71,12 +73,12 @@ impl<L: Ledger, G: Whole, I: Whole> Shared<L, G, I> {
     }
 
     /// One step of the installer, under the lock.
-    pub fn install<R: Wait>(&self, rt: &R, seat: &mut IoSeat<I>) -> Turn
+    pub fn install<R: Wait>(&self, rt: &R, seat: &mut IoSeat<I, Installer>) -> Turn
         ensures step { (before : CoreState) × (after : CoreState) × IsLawful before × IsLawful after
-            × HasTurned may_install before seat.old.io seat.old.answer result after seat.new.io
-            seat.new.answer }
-        ensures numbered { seat.old.io ≡ None → IfSome seat.new.io (λ handed.
-            number_of handed ≡ seat.old.calls.amount + 1) }
+            × HasTurned may_install InstGoesOut InstComesBack before seat.old.side.io seat.old.side.made result after
+            seat.new.side.io seat.new.side.made }
+        ensures numbered { seat.old.side.io ≡ None → IsSome seat.new.side.io
+            → length seat.new.number.items ≡ seat.old.calls.amount + 1 }
         ensures taken { seat.new.taken ≡ seat.old.taken }
     {
         let mut guard = self.lock.lock(rt);
@@ -103,13 +105,13 @@ impl<L: Ledger, G: Whole, I: Whole> Shared<L, G, I> {
     }
 
     /// Ends the logger's seat: a call that is out is given back with its port's answer, or as failed.
-    pub fn leave_log<R: Wait>(&self, rt: &R, seat: IoSeat<G>) {
+    pub fn leave_log<R: Wait>(&self, rt: &R, seat: IoSeat<G, Logger>) {
         let mut guard = self.lock.lock(rt);
         end_calls(&mut *guard, seat);
     }
 
     /// Ends the installer's seat: a call that is out is given back with its port's answer, or as failed.
-    pub fn leave_install<R: Wait>(&self, rt: &R, seat: IoSeat<I>) {
+    pub fn leave_install<R: Wait>(&self, rt: &R, seat: IoSeat<I, Installer>) {
         let mut guard = self.lock.lock(rt);
         end_calls(&mut *guard, seat);
     }
@@ -135,7 +137,10 @@ fn end_seat<L: Ledger, G: Whole, I: Whole>(locked: &mut Locked<L, G, I>, seat: S
 }
 
 // Ends a seat of device calls.
-fn end_calls<L: Ledger, G: Whole, I: Whole, N: Whole>(locked: &mut Locked<L, G, I>, seat: IoSeat<N>)
+fn end_calls<L: Ledger, G: Whole, I: Whole, N: Whole, S: Caller>(
+    locked: &mut Locked<L, G, I>,
+    seat: IoSeat<N, S>,
+)
     ensures { locked.new.core.log.places ≡ locked.old.core.log.places }
 {
     give_up(&mut locked.core, seat);

@@ -1,15 +1,17 @@
 //! The steps of workers, logger and installer on what lies behind the lock, and their device calls apart from it.
-ghost use Rattle.std.specs.Prelude.{◌≡◌, ◌+◌, ◌≤◌, ◌↔◌, length, None, IfSome, IsTrue};
+ghost use Rattle.std.specs.Prelude.{◌≡◌, ◌+◌, ◌≤◌, ◌↔◌, length, None, IsSome, IsTrue};
+ghost use Rattle.log_seats.specs.Steps.{InstComesBack, InstGoesOut, LogComesBack, LogGoesOut};
 ghost use Rattle.pool.specs.Locking.{IsLawful};
 ghost use Rattle.pool.specs.Stepping.{HasStepped, ReadsFrom, grown};
-ghost use Rattle.pool_calls.specs.Numbers.{IsTied, MakesCall, due, number_of};
+ghost use Rattle.pool_calls.specs.Numbers.{IsTied, MakesCall, due};
 ghost use Rattle.pool_calls.specs.Sides.{HasTurned};
 ghost use Rattle.wal_law.specs.Installer.{may_install};
 ghost use Rattle.wal_law.specs.Logger.{may_log};
 
 use crate::{Locked, Seat, Told};
 use disk::{Port, Source};
-use pool_calls::{Gate, IoSeat, Point, Turn, Whole, make_call, step_installer, step_logger};
+use log_seats::{Installer, Logger};
+use pool_calls::{Gate, IoSeat, Point, Turn, Whole, make_call, step_calls};
 use std::alloc::Global;
 use std::sync::ledger::Ledger;
 
@@ -43,15 +45,15 @@ pub fn worker_step<L: Ledger, G: Whole, I: Whole>(
     turn
 }
 
-/// One step of the logger: one call of the core at most. A value that is handed out bears the next number.
+/// One step of the logger: one call of the core at most. A call that is handed out gets the next number.
 pub fn logger_step<L: Ledger, G: Whole, I: Whole>(
     locked: &mut Locked<L, G, I>,
-    seat: &mut IoSeat<G>,
+    seat: &mut IoSeat<G, Logger>,
 ) -> Turn
-    ensures step { HasTurned may_log locked.old.core seat.old.io seat.old.answer result locked.new.core
-        seat.new.io seat.new.answer }
-    ensures numbered { seat.old.io ≡ None → IfSome seat.new.io (λ handed.
-        number_of handed ≡ seat.old.calls.amount + 1) }
+    ensures step { HasTurned may_log LogGoesOut LogComesBack locked.old.core seat.old.side.io seat.old.side.made
+        result locked.new.core seat.new.side.io seat.new.side.made }
+    ensures numbered { seat.old.side.io ≡ None → IsSome seat.new.side.io
+        → length seat.new.number.items ≡ seat.old.calls.amount + 1 }
     ensures counted { G.all ≡ G.parts → (length locked.old.logged.count.items ≡ seat.old.calls.amount)
         × (length locked.new.logged.count.items ≡ seat.new.calls.amount) }
     ensures taken { seat.new.taken ≡ seat.old.taken }
@@ -64,20 +66,20 @@ pub fn logger_step<L: Ledger, G: Whole, I: Whole>(
         installed: _,
     } = locked;
     core.lawful();
-    let turn = step_logger(core, logged, seat);
+    let turn = step_calls(core, logged, seat);
     core.lawful();
     turn
 }
 
-/// One step of the installer: one call of the core at most. A value that is handed out bears the next number.
+/// One step of the installer: one call of the core at most. A call that is handed out gets the next number.
 pub fn installer_step<L: Ledger, G: Whole, I: Whole>(
     locked: &mut Locked<L, G, I>,
-    seat: &mut IoSeat<I>,
+    seat: &mut IoSeat<I, Installer>,
 ) -> Turn
-    ensures step { HasTurned may_install locked.old.core seat.old.io seat.old.answer result locked.new.core
-        seat.new.io seat.new.answer }
-    ensures numbered { seat.old.io ≡ None → IfSome seat.new.io (λ handed.
-        number_of handed ≡ seat.old.calls.amount + 1) }
+    ensures step { HasTurned may_install InstGoesOut InstComesBack locked.old.core seat.old.side.io seat.old.side.made
+        result locked.new.core seat.new.side.io seat.new.side.made }
+    ensures numbered { seat.old.side.io ≡ None → IsSome seat.new.side.io
+        → length seat.new.number.items ≡ seat.old.calls.amount + 1 }
     ensures counted { I.all ≡ I.parts → (length locked.old.installed.count.items ≡ seat.old.calls.amount)
         × (length locked.new.installed.count.items ≡ seat.new.calls.amount) }
     ensures taken { seat.new.taken ≡ seat.old.taken }
@@ -90,7 +92,7 @@ pub fn installer_step<L: Ledger, G: Whole, I: Whole>(
         installed,
     } = locked;
     core.lawful();
-    let turn = step_installer(core, installed, seat);
+    let turn = step_calls(core, installed, seat);
     core.lawful();
     turn
 }
@@ -113,11 +115,15 @@ pub fn worker_io<L: Ledger, S: Source, T: Gate>(
 
 /// Makes the logger's device call that is out, where it wasn't made, on its port, and leaves the port's answer in
 /// the seat. It answers whether there was one.
-pub fn logger_io<G: Whole, P: Port, T: Gate>(seat: &mut IoSeat<G>, port: &mut P, gate: &T) -> bool
-    ensures made { MakesCall seat.old.io seat.old.answer seat.new.answer (P.calls port.old)
+pub fn logger_io<G: Whole, P: Port, T: Gate>(
+    seat: &mut IoSeat<G, Logger>,
+    port: &mut P,
+    gate: &T,
+) -> bool
+    ensures made { MakesCall seat.old.side.io seat.old.side.made seat.new.side.made (P.calls port.old)
         (P.calls port.new) }
-    ensures was_due { IsTrue result ↔ (due seat.old.io seat.old.answer ≡ 1) }
-    ensures io { seat.new.io ≡ seat.old.io }
+    ensures was_due { IsTrue result ↔ (due seat.old.side.io seat.old.side.made ≡ 1) }
+    ensures io { seat.new.side.io ≡ seat.old.side.io }
     ensures tied { IsTied (P.calls port.old) seat.old.taken.items
         → IsTied (P.calls port.new) seat.new.taken.items }
 {
@@ -127,14 +133,14 @@ pub fn logger_io<G: Whole, P: Port, T: Gate>(seat: &mut IoSeat<G>, port: &mut P,
 /// Makes the installer's device call that is out, where it wasn't made, on its port, and leaves the port's answer
 /// in the seat. It answers whether there was one.
 pub fn installer_io<G: Whole, P: Port, T: Gate>(
-    seat: &mut IoSeat<G>,
+    seat: &mut IoSeat<G, Installer>,
     port: &mut P,
     gate: &T,
 ) -> bool
-    ensures made { MakesCall seat.old.io seat.old.answer seat.new.answer (P.calls port.old)
+    ensures made { MakesCall seat.old.side.io seat.old.side.made seat.new.side.made (P.calls port.old)
         (P.calls port.new) }
-    ensures was_due { IsTrue result ↔ (due seat.old.io seat.old.answer ≡ 1) }
-    ensures io { seat.new.io ≡ seat.old.io }
+    ensures was_due { IsTrue result ↔ (due seat.old.side.io seat.old.side.made ≡ 1) }
+    ensures io { seat.new.side.io ≡ seat.old.side.io }
     ensures tied { IsTied (P.calls port.old) seat.old.taken.items
         → IsTied (P.calls port.new) seat.new.taken.items }
 {

@@ -1,6 +1,6 @@
 -- One more value keeps the numbers.
-use Rattle.std.proofs.Common.{arith, rules, ap, sym, refl, ◌≡◌, ℕ, ◌+◌, length, List, [], ◌∷◌, ◌++◌, Result}
-use Rattle.std.specs.Prelude.{map, suc}
+use Rattle.std.proofs.Common.{arith, ap, sym, refl, ◌≡◌, ℕ, ◌+◌, length, [], ◌∷◌, ◌++◌, Result}
+use Rattle.std.specs.Prelude.{suc}
 use Rattle.std.proofs.lemmas.List.{length-append}
 use Rattle.disk.specs.declared.device.Failed.{Failed}
 use Rattle.pool_calls.specs.Numbers.{Taken, number_of, numbers, upto}

@@ -2,6 +2,7 @@
 //! one step of the core, and made on a port in between.
 #![tactic(auto)]
 
+mod caller;
 mod counter;
 mod gate;
 mod handed;
@@ -9,9 +10,10 @@ mod seat;
 mod steps;
 mod turn;
 
+pub use caller::{Caller, Shown};
 pub use counter::{Counter, Whole};
 pub use gate::{Gate, NoGate, Point};
-pub use handed::{DeviceIo, HandedOut};
+pub use handed::HandedOut;
 pub use seat::IoSeat;
-pub use steps::{give_up, make_call, step_installer, step_logger};
+pub use steps::{give_up, make_call, step_calls};
 pub use turn::Turn;

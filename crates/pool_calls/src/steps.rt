@@ -1,197 +1,101 @@
 //! The steps of the logger and the installer on a core, and their device calls apart from it.
-ghost use Rattle.std.specs.Prelude.{◌≡◌, ◌+◌, ◌<◌, ◌∷◌, ◌++◌, [], length, None, Some, IfSome, IsTrue, Bool, ◌↔◌};
+ghost use Rattle.std.specs.Prelude.{◌≡◌, ◌+◌, ◌<◌, ◌∷◌, ◌++◌, [], length, None, Some, IsSome, IsTrue, ◌↔◌};
+ghost use Rattle.log_seats.specs.Steps.{HasEnded};
 ghost use Rattle.pool_calls.specs.Numbers.{IsTied, MakesCall, due, number_of, numbers, upto};
-ghost use Rattle.pool_calls.specs.Sides.{ComesBack, HasTurned};
-ghost use Rattle.wal_law.specs.Installer.{may_install};
-ghost use Rattle.wal_law.specs.Logger.{may_log};
+ghost use Rattle.pool_calls.specs.Sides.{HasTurned};
 
-use crate::{Counter, DeviceIo, Gate, HandedOut, IoSeat, Turn, Whole};
+use crate::{Caller, Counter, Gate, HandedOut, IoSeat, Shown, Turn, Whole};
 use disk::{Failed, Port};
 use http_server::Log;
+use log_seats::Stepped;
+use std::snapshot::Snapshot;
 use std::sync::ledger::Ledger;
 use txn::{Change, Core};
 
-/// One step of the logger: one call of the core at most. A value that is handed out bears the next number.
-pub fn step_logger<C: Change, G: Whole>(
+/// One step of the logger or of the installer: one call of the core at most. A call that is handed out gets the next
+/// number.
+pub fn step_calls<C: Change, G: Whole, S: Caller>(
     core: &mut Core<C>,
     counter: &mut Counter<G>,
-    seat: &mut IoSeat<G>,
+    seat: &mut IoSeat<G, S>,
 ) -> Turn
-    ensures step { HasTurned may_log core.old seat.old.io seat.old.answer result core.new seat.new.io
-        seat.new.answer }
-    ensures numbered { seat.old.io ≡ None → IfSome seat.new.io (λ handed.
-        number_of handed ≡ seat.old.calls.amount + 1) }
+    ensures step { HasTurned S.may S.goes S.comes core.old (S.out seat.old.side) (S.made seat.old.side) result
+        core.new (S.out seat.new.side) (S.made seat.new.side) }
+    ensures numbered { S.out seat.old.side ≡ None → IsSome (S.out seat.new.side)
+        → length seat.new.number.items ≡ seat.old.calls.amount + 1 }
     ensures counted { G.all ≡ G.parts → (length counter.old.count.items ≡ seat.old.calls.amount)
         × (length counter.new.count.items ≡ seat.new.calls.amount) }
     ensures taken { seat.new.taken ≡ seat.old.taken }
 {
     let IoSeat {
-        io,
-        answer,
+        side,
         calls,
         taken: _,
         number,
     } = seat;
     counter.book.audit(calls);
-    match io.take() {
-        None => {
-            if core.broken() {
-                return Turn::Broken;
-            }
-            match core.log_next() {
-                None => Turn::Idle,
-                Some(next) => {
-                    let handed = handed_out(DeviceIo::Log(next), number);
-                    counter.add(calls);
-                    *number = number.and(&(), &());
-                    *answer = None;
-                    put(io, handed);
-                    Turn::Moved
-                }
-            }
+    if !side.is_out() && core.broken() {
+        return Turn::Broken;
+    }
+    match side.step(core) {
+        None => Turn::Idle,
+        Some(Stepped::Next(_)) => {
+            counter.add(calls);
+            *number = number.and(&(), &());
+            Turn::Moved
         }
-        Some(out) => match answer.take() {
-            None => {
-                put(io, out);
-                Turn::Idle
-            }
-            Some(made) => {
-                give_back(core, out, made.is_ok());
-                Turn::Moved
-            }
-        },
-    }
-}
-
-/// One step of the installer: one call of the core at most. A value that is handed out bears the next number.
-pub fn step_installer<C: Change, G: Whole>(
-    core: &mut Core<C>,
-    counter: &mut Counter<G>,
-    seat: &mut IoSeat<G>,
-) -> Turn
-    ensures step { HasTurned may_install core.old seat.old.io seat.old.answer result core.new seat.new.io
-        seat.new.answer }
-    ensures numbered { seat.old.io ≡ None → IfSome seat.new.io (λ handed.
-        number_of handed ≡ seat.old.calls.amount + 1) }
-    ensures counted { G.all ≡ G.parts → (length counter.old.count.items ≡ seat.old.calls.amount)
-        × (length counter.new.count.items ≡ seat.new.calls.amount) }
-    ensures taken { seat.new.taken ≡ seat.old.taken }
-{
-    let IoSeat {
-        io,
-        answer,
-        calls,
-        taken: _,
-        number,
-    } = seat;
-    counter.book.audit(calls);
-    match io.take() {
-        None => {
-            if core.broken() {
-                return Turn::Broken;
-            }
-            match core.inst_next() {
-                None => Turn::Idle,
-                Some(next) => {
-                    let handed = handed_out(DeviceIo::Install(next), number);
-                    counter.add(calls);
-                    *number = number.and(&(), &());
-                    *answer = None;
-                    put(io, handed);
-                    Turn::Moved
-                }
-            }
-        }
-        Some(out) => match answer.take() {
-            None => {
-                put(io, out);
-                Turn::Idle
-            }
-            Some(made) => {
-                give_back(core, out, made.is_ok());
-                Turn::Moved
-            }
-        },
-    }
-}
-
-// A call of the number that comes after this one.
-fn handed_out(io: DeviceIo, number: &Log<(), ()>) -> HandedOut
-    ensures io { result.io ≡ io }
-    ensures number { number_of result ≡ length number.now.items + 1 }
-{
-    HandedOut {
-        io,
-        count: number.and(&(), &()),
-    }
-}
-
-// Puts a call where none is.
-fn put(io: &mut Option<HandedOut>, next: HandedOut)
-    requires { io.old ≡ None }
-    ensures { io.new ≡ Some next }
-{
-    match io.replace(next) {
-        None => {}
-        Some(_other) => unreachable!(),
-    }
-}
-
-// Gives a call back to the core.
-fn give_back<C: Change>(core: &mut Core<C>, handed: HandedOut, ok: bool)
-    ensures { ComesBack core.old handed.io ok core.new }
-{
-    let HandedOut { io, count: _ } = handed;
-    match io {
-        DeviceIo::Log(io) => core.log_done(io, ok),
-        DeviceIo::Install(io) => core.inst_done(io, ok),
+        Some(Stepped::Done(_)) => Turn::Moved,
     }
 }
 
 /// Ends a seat: a call that is out is given back with its port's answer, or as failed where it wasn't made.
-pub fn give_up<C: Change, G: Whole>(core: &mut Core<C>, seat: IoSeat<G>)
-    ensures none { seat.io ≡ None → core.new ≡ core.old }
-    ensures back { IfSome seat.io (λ handed. (ok : Bool) × ComesBack core.old handed.io ok core.new) }
+pub fn give_up<C: Change, G: Whole, S: Caller>(core: &mut Core<C>, seat: IoSeat<G, S>)
+    ensures back { HasEnded S.comes core.old (S.out seat.side) (S.made seat.side) core.new }
+    ensures places { core.new.log.places ≡ core.old.log.places }
 {
     let IoSeat {
-        io,
-        answer,
+        side,
         calls: _,
         taken: _,
         number: _,
     } = seat;
-    if let Some(handed) = io {
-        give_back(core, handed, answer == Some(Ok(())));
-    }
+    side.end(core);
 }
 
 /// Makes the device call that is out, where it wasn't made, on a port, and leaves the port's answer in the seat.
 /// It answers whether there was one.
-pub fn make_call<G: Whole, P: Port, T: Gate>(seat: &mut IoSeat<G>, port: &mut P, gate: &T) -> bool
-    ensures made { MakesCall seat.old.io seat.old.answer seat.new.answer (P.calls port.old)
-        (P.calls port.new) }
-    ensures was_due { IsTrue result ↔ (due seat.old.io seat.old.answer ≡ 1) }
-    ensures io { seat.new.io ≡ seat.old.io }
+pub fn make_call<G: Whole, S: Caller, P: Port, T: Gate>(
+    seat: &mut IoSeat<G, S>,
+    port: &mut P,
+    gate: &T,
+) -> bool
+    ensures made { MakesCall (S.out seat.old.side) (S.made seat.old.side) (S.made seat.new.side)
+        (P.calls port.old) (P.calls port.new) }
+    ensures was_due { IsTrue result ↔ (due (S.out seat.old.side) (S.made seat.old.side) ≡ 1) }
+    ensures out { S.out seat.new.side ≡ S.out seat.old.side }
     ensures tied { IsTied (P.calls port.old) seat.old.taken.items
         → IsTied (P.calls port.new) seat.new.taken.items }
 {
     let IoSeat {
-        io,
-        answer,
+        side,
         calls: _,
         taken,
-        number: _,
+        number,
     } = seat;
-    let Some(out) = io.as_ref() else {
+    let Some(shown) = side.due() else {
         return false;
     };
-    if answer.is_some() {
-        return false;
-    }
-    gate.pass(out.io.point());
-    let made = out.io.perform_on(port);
-    *taken = noted(taken, out, &made);
-    *answer = Some(made);
+    gate.pass(side.point(shown.call));
+    let Some(made) = side.make_on(port) else {
+        unreachable!();
+    };
+    let Shown { call, content } = shown;
+    let handed = HandedOut {
+        call,
+        content,
+        number: Snapshot::of(number),
+    };
+    *taken = noted(taken, &handed, &made);
     true
 }
 

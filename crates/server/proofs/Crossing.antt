@@ -22,10 +22,16 @@ use Rattle.txn.proofs.tx.FetchIo.TheSendSync as fetch
 use Rattle.txn.proofs.tx.Tx.TheSendSync as tx
 use Rattle.pool.proofs.Answer.TheSendSync as answer
 use Rattle.pool.proofs.told.Told.TheSendSync as told
+use Rattle.pool.proofs.Installer.TheSendSync as installs
 use Rattle.pool.proofs.IoSeat.TheSendSync as side
+use Rattle.pool.proofs.Logger.TheSendSync as logs
 use Rattle.pool.proofs.shared.Shared.TheSendSync as shared
 use Rattle.pool.specs.contracts.Connections
+use Rattle.pool.specs.contracts.Installer
 use Rattle.pool.specs.contracts.IoSeat
+use Rattle.pool.specs.contracts.Logger
+use Rattle.pool_calls.specs.contracts.caller.InstallerCaller.TheImpl as by_installer
+use Rattle.pool_calls.specs.contracts.caller.LoggerCaller.TheImpl as by_logger
 use Rattle.pool.specs.contracts.Job
 use Rattle.pool.specs.contracts.seat.Seat
 use Rattle.pool.specs.contracts.shared.Shared
@@ -128,11 +134,11 @@ devices_sync P S p s = struct_sync (Declared.shape (Devices.the_type P S)) (
 
 module _ (L G I : RattleType) (w : Whole.Ghosts G.Denot) (w' : Whole.Ghosts I.Denot)
     (l : Ledger.Ghosts L.Denot) (l' : Ledger.Ghosts G.Denot) (l'' : Ledger.Ghosts I.Denot) where
-  side_send : IsSend (IoSeat.the_row G w l')
-  side_send = search (side.the_send, sendable) depth 60
+  side_send : IsSend (IoSeat.the_row G Logger.the_row w by_logger.ghosts l')
+  side_send = search (side.the_send, logs.the_send, sendable) depth 60
 
-  other_send : IsSend (IoSeat.the_row I w' l'')
-  other_send = search (side.the_send, sendable) depth 60
+  other_send : IsSend (IoSeat.the_row I Installer.the_row w' by_installer.ghosts l'')
+  other_send = search (side.the_send, installs.the_send, sendable) depth 60
 
   shared_sync : IsSync (Shared.the_row L G I w w' l l' l'')
   shared_sync = search (shared.the_sync, sendable) depth 60
