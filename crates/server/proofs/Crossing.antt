@@ -23,7 +23,6 @@ use Rattle.txn.proofs.tx.Tx.TheSendSync as tx
 use Rattle.pool.proofs.Answer.TheSendSync as answer
 use Rattle.pool.proofs.told.Told.TheSendSync as told
 use Rattle.pool.proofs.Installer.TheSendSync as installs
-use Rattle.pool.proofs.IoSeat.TheSendSync as side
 use Rattle.pool.proofs.Logger.TheSendSync as logs
 use Rattle.pool.proofs.shared.Shared.TheSendSync as shared
 use Rattle.pool.specs.contracts.Connections
@@ -135,10 +134,28 @@ devices_sync P S p s = struct_sync (Declared.shape (Devices.the_type P S)) (
 module _ (L G I : RattleType) (w : Whole.Ghosts G.Denot) (w' : Whole.Ghosts I.Denot)
     (l : Ledger.Ghosts L.Denot) (l' : Ledger.Ghosts G.Denot) (l'' : Ledger.Ghosts I.Denot) where
   side_send : IsSend (IoSeat.the_row G Logger.the_row w by_logger.ghosts l')
-  side_send = search (side.the_send, logs.the_send, sendable) depth 60
+  side_send =
+      recorded_send (IoSeat.the_field G Logger.the_row w by_logger.ghosts l').row _ _
+      (IoSeat.the_type G Logger.the_row w by_logger.ghosts l').to_one
+      (struct_send (Declared.shape (IoSeat.the_type G Logger.the_row w by_logger.ghosts l')) (
+        search (logs.the_send, sendable) depth 20,
+        (
+          share.the_send G l',
+          (search (crosses, sendable) depth 60 fits 20000, (search (crosses, sendable) depth 60 fits 20000, tt)),
+        ),
+      ))
 
   other_send : IsSend (IoSeat.the_row I Installer.the_row w' by_installer.ghosts l'')
-  other_send = search (side.the_send, installs.the_send, sendable) depth 60
+  other_send =
+      recorded_send (IoSeat.the_field I Installer.the_row w' by_installer.ghosts l'').row _ _
+      (IoSeat.the_type I Installer.the_row w' by_installer.ghosts l'').to_one
+      (struct_send (Declared.shape (IoSeat.the_type I Installer.the_row w' by_installer.ghosts l'')) (
+        search (installs.the_send, sendable) depth 20,
+        (
+          share.the_send I l'',
+          (search (crosses, sendable) depth 60 fits 20000, (search (crosses, sendable) depth 60 fits 20000, tt)),
+        ),
+      ))
 
   shared_sync : IsSync (Shared.the_row L G I w w' l l' l'')
   shared_sync = search (shared.the_sync, sendable) depth 60
