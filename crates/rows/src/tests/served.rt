@@ -33,7 +33,10 @@ pub fn formatted(alloc: Global) -> Result<MemDisk, Fail> {
 /// Opens the image and serves a stream of these messages.
 pub fn serve(alloc: Global, disk: MemDisk, messages: &[&[u32]]) -> Result<Served, Fail> {
     let input = stream(alloc, messages)?;
-    let mut store = store::open(alloc, disk).map_err(|refused| refused.1)?;
+    let mut store = match store::open(alloc, disk) {
+        Ok(store) => store,
+        Err(refused) => return Err(refused.1)?,
+    };
     let mut reader = session::Input::new(input.as_slice());
     let mut output = Vec::new(alloc);
     let result = session::serve(alloc, &mut store, &mut reader, &mut output, NOW);

@@ -18,7 +18,10 @@ use worked_messages::NOW;
 fn opened(alloc: Global, disk: MemDisk) -> Result<Store<MemDisk>, Fail>
     ensures { IfOk result (λ store. IsIdle store.core) }
 {
-    Ok(store::open(alloc, disk).map_err(|refused| refused.1)?)
+    match store::open(alloc, disk) {
+        Ok(store) => Ok(store),
+        Err(refused) => Err(refused.1)?,
+    }
 }
 
 // The stamp of a root that no call has replaced.
