@@ -3,13 +3,14 @@ ghost use Rattle.std.specs.Prelude.{◌≡◌};
 ghost use Rattle.objects.specs.Pins.{LetsGo, count_in};
 
 use crate::Present;
-use crate::blocks::unpin;
+use crate::blocks::{is_there, unpin};
 use crate::pins::count_of;
 use crate::recent::Recent;
 use disk::BlockNo;
 use std::collections::HashMap;
 
-/// Notes a block that nobody has pinned any more, and lets one go for it, where there are too many.
+/// Notes a block that nobody has pinned any more, where it is in memory, and lets one go for it, where there are too
+/// many.
 pub(crate) fn keep_clean(
     present: &mut Vec<Present>,
     pins: &HashMap<u32, u64>,
@@ -18,6 +19,9 @@ pub(crate) fn keep_clean(
 )
     ensures { LetsGo (count_in pins.now.entries) present.old.items present.new.items }
 {
+    if !is_there(present, block) {
+        return;
+    }
     if let Some(last) = recent.note(block) {
         let_clean_go(present, pins, last);
     }

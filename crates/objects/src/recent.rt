@@ -9,7 +9,7 @@ use std::num::NonZeroUsize;
 const CLEAN_BLOCKS: usize = 128;
 
 /// The numbers of the blocks that were unpinned for the last time, in the order in which that was, no more than so
-/// many; none at all where there was no memory for it. Some of them may be pinned again.
+/// many; none at all where there was no memory for it. Some of them may be pinned again, or not in memory any more.
 #[derive(Drop)]
 pub(crate) struct Recent {
     numbers: Option<LruCache<u32, ()>>,

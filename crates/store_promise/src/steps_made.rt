@@ -154,9 +154,9 @@ pub fn one_worker_is_never_busy()
         → KeepsPromise before later tree first 1 events t → ⊥ }
 {}
 
-/// A worker that is told Held, to fetch, or NoMemory of what another has taken, so that two may have taken one byte,
-/// breaks the promise; so does one that is told so of a block that another fetches, and one that is told to have claimed
-/// a block of which another has a part.
+/// A worker that is told Held, or to fetch, of what another has taken, so that two have taken one byte, breaks the
+/// promise; so does one that is told NoMemory of it, one that is told any of these of a block that another fetches, and
+/// one that is told to have claimed a block of which another has a part.
 pub fn no_two_take_one_byte()
     ensures wanted { (before later : Device) (tree : Tree) (first workers index worker other : ℕ)
         (events : Schedule) (t : Transcript) (job : Job) (begun : Begun) (addr : Addr) (mode : Mode)

@@ -135,7 +135,7 @@ pub record IsLawful (log : Log) : Type 0 where
   pub installing : log.installing ≤ log.logged
   pub inst_step : log.inst_step ≤ log.installing + 2
   pub inst_idle : log.installing ≡ 0 → (log.inst_step ≡ 0) × (log.inst_out ≡ false)
-  -- What is taken is taken as its first call goes out: with no call out, one of it was made, unless the log is
+  -- What is taken is taken as its first call goes out: with no call out, its step is past 0, unless the log is
   -- broken.
   pub log_begun : log.broken ≡ false → log.log_out ≡ false → 0 < log.taken → 0 < log.log_step
   pub inst_begun : log.broken ≡ false → log.inst_out ≡ false → 0 < log.installing → 0 < log.inst_step

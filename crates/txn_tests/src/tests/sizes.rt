@@ -41,6 +41,26 @@ fn the_blocks_that_were_needed_last_stay(rt: HostRuntime) -> Result<(), Fail> {
     Ok(())
 }
 
+// Steps that claim so many whole blocks behind one.
+fn claims(alloc: Global, count: u8) -> Result<Vec<Step>, AllocError> {
+    let mut steps = Vec::new(alloc);
+    for index in 0..u32::from(count) {
+        steps.push(Step::Claim(home(index + 1)))?;
+    }
+    Ok(steps)
+}
+
+#[test]
+fn a_claimed_block_takes_no_place_of_one_that_stays(rt: HostRuntime) -> Result<(), Fail> {
+    let mut bench = Bench::new(rt.alloc(), 0, &[])?;
+    assert!(rt; bench.sees(1, &[Step::Read(At::Whole(0))], &[Seen::Bytes(0)]));
+    let steps = claims(rt.alloc(), 128)?;
+    let claimed = vec![in rt.alloc(); Seen::Claimed; 128]?;
+    assert!(rt; bench.sees(2, steps.as_slice(), claimed.as_slice()));
+    assert!(rt; bench.sees(3, &[Step::Want(At::Whole(0))], &[Seen::Bytes(0)]));
+    Ok(())
+}
+
 // So many whole blocks from the first home block on, each with its byte.
 fn whole_blocks(alloc: Global, count: u8) -> Result<Vec<(At, u8)>, AllocError> {
     let mut told = Vec::new(alloc);

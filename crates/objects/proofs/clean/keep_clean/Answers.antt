@@ -4,3 +4,6 @@ use Rattle.objects.proofs.clean.keep_clean.Goals as goal
 
 pub returns-in_default : goal.returns-in_default
 returns-in_default c = lets_none (count_in c.args.pins.now.entries) c.args.present.now.items
+
+pub returns-then-not-is_there : goal.returns-then-not-is_there
+returns-then-not-is_there c = lets_none (count_in c.args.pins.now.entries) c.args.present.now.items
