@@ -41,11 +41,11 @@ fn the_blocks_that_were_needed_last_stay(rt: HostRuntime) -> Result<(), Fail> {
     Ok(())
 }
 
-// Steps that claim so many whole blocks behind one.
-fn claims(alloc: Global, count: u8) -> Result<Vec<Step>, AllocError> {
+// Steps that claim so many whole blocks behind the first home block.
+fn claimed_behind(alloc: Global, count: u8) -> Result<Vec<Step>, AllocError> {
     let mut steps = Vec::new(alloc);
-    for index in 0..u32::from(count) {
-        steps.push(Step::Claim(home(index + 1)))?;
+    for index in 1..=u32::from(count) {
+        steps.push(Step::Claim(home(index)))?;
     }
     Ok(steps)
 }
@@ -54,7 +54,7 @@ fn claims(alloc: Global, count: u8) -> Result<Vec<Step>, AllocError> {
 fn a_claimed_block_takes_no_place_of_one_that_stays(rt: HostRuntime) -> Result<(), Fail> {
     let mut bench = Bench::new(rt.alloc(), 0, &[])?;
     assert!(rt; bench.sees(1, &[Step::Read(At::Whole(0))], &[Seen::Bytes(0)]));
-    let steps = claims(rt.alloc(), 128)?;
+    let steps = claimed_behind(rt.alloc(), 128)?;
     let claimed = vec![in rt.alloc(); Seen::Claimed; 128]?;
     assert!(rt; bench.sees(2, steps.as_slice(), claimed.as_slice()));
     assert!(rt; bench.sees(3, &[Step::Want(At::Whole(0))], &[Seen::Bytes(0)]));
