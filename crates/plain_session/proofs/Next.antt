@@ -1,7 +1,7 @@
 -- The record that the bytes begin with.
 use Rattle.std.proofs.Common.{◌≡◌, ℕ, List, drop, take, subst, sym, Option, Some, IfSome, Vec, Global}
 use Rattle.std.proofs.lemmas.List.{take-append-drop}
-use Rattle.plain_session.specs.Answering.{Closes, Files, IsAnswered}
+use Rattle.plain_session.specs.Answering.{Closes, Files, IsMessageAnswered}
 use Rattle.plain_session.specs.Records.{Cuts, IsRecord}
 use Rattle.plain_session.specs.Serving.{BeginsAnswered, BeginsClosing, IsFirst}
 use Rattle.plain_session.specs.declared.records.Cut.{Cut}
@@ -16,12 +16,12 @@ first_of bytes shown cut content taken same cuts is =
 
 -- it is answered
 pub begins_answered : (bytes message content reply behind : List ℕ) (before after : Files)
-    → IsFirst bytes content behind → message ≡ content → IsAnswered before message reply after
+    → IsFirst bytes content behind → message ≡ content → IsMessageAnswered before message reply after
     → BeginsAnswered before bytes reply behind after
 begins_answered bytes message content reply behind before after first same answered = record {
   message = content;
   first = first;
-  answered = subst (λ (m : List ℕ). IsAnswered before m reply after) same answered;
+  answered = subst (λ (m : List ℕ). IsMessageAnswered before m reply after) same answered;
 }
 
 -- the connection closes on it
@@ -37,8 +37,8 @@ begins_closing bytes message content behind first same closes = record {
 -- what it was answered
 pub reply_of : (before after : Files) (message : List ℕ) (told : Option (Vec ℕ Global))
     (reply : Vec ℕ Global) → told ≡ Some reply
-    → IfSome told (λ it. IsAnswered before message it.items after)
-    → IsAnswered before message reply.items after
+    → IfSome told (λ it. IsMessageAnswered before message it.items after)
+    → IsMessageAnswered before message reply.items after
 reply_of before after message told reply is answered =
-    subst (λ (o : Option (Vec ℕ Global)). IfSome o (λ it. IsAnswered before message it.items after)) is
+    subst (λ (o : Option (Vec ℕ Global)). IfSome o (λ it. IsMessageAnswered before message it.items after)) is
     answered

@@ -137,5 +137,5 @@ abbrev pub Closes : List ℕ → Type 0
 Closes message = judged message ≡ verdict.Closed
 
 -- a message on which it doesn't close, and the record of the reply to it
-abbrev pub IsAnswered : Files → List ℕ → List ℕ → Files → Type 0
-IsAnswered before message bytes after = IsVerdictAnswered before (judged message) bytes after
+abbrev pub IsMessageAnswered : Files → List ℕ → List ℕ → Files → Type 0
+IsMessageAnswered before message bytes after = IsVerdictAnswered before (judged message) bytes after

@@ -2,7 +2,7 @@
 use Rattle.std.specs.Prelude.{◌≡◌, ◌≢◌, ℕ, ◌⊎◌, Bool, true, false, List, [], ◌++◌, Option, Some}
 use Rattle.std.specs.Prelude.{None as Nothing}
 use Rattle.model.specs.Format.{format_tree}
-use Rattle.plain_session.specs.Answering.{Closes, Files, IsAnswered, at_second, files_of}
+use Rattle.plain_session.specs.Answering.{Closes, Files, IsMessageAnswered, at_second, files_of}
 use Rattle.plain_session.specs.Counts.{HasData}
 use Rattle.plain_session.specs.Records.{IsRecord, IsTooLong, NeedsMore}
 use Rattle.plain_session.specs.declared.answers.Pace.{Pace}
@@ -55,7 +55,7 @@ pub record BeginsClosing (bytes : List ℕ) : Type 0 where
 pub record BeginsAnswered (before : Files) (bytes reply behind : List ℕ) (after : Files) : Type 0 where
   pub message : List ℕ
   pub first : IsFirst bytes message behind
-  pub answered : IsAnswered before message reply after
+  pub answered : IsMessageAnswered before message reply after
 
 -- The records that the bytes begin with are answered, one after another: what is written by then, each reply
 -- behind what was written first, what is left of the bytes, and the files.

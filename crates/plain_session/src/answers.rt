@@ -1,7 +1,7 @@
 //! Answering one record.
 ghost use Rattle.std.specs.Prelude.{◌≡◌, ◌<◌, ◌^◌, ℕ, List, Ok, None, false, IfOk, IfSome, OnErr, get_or};
 ghost use Rattle.nfs_types.specs.Fits.{CallFits, ProgramCallFits};
-ghost use Rattle.plain_session.specs.Answering.{Closes, IsAnswered, IsCallAnswered, IsNfsReply, IsReply};
+ghost use Rattle.plain_session.specs.Answering.{Closes, IsMessageAnswered, IsCallAnswered, IsNfsReply, IsReply};
 ghost use Rattle.plain_session.specs.Answering.{IsStep, IsTold, IsUndone, files_of, next_files};
 ghost use Rattle.plain_session.specs.Answering.{at_second, refusal_record, risen};
 ghost use Rattle.plain_steps.specs.Computed.{is_null as is_null_call};
@@ -64,9 +64,9 @@ pub fn answer_record(
 ) -> Result<Option<Vec<u8>>, AllocError>
     ensures closes { Closes message.now → result ≡ Ok None }
     ensures closed { result ≡ Ok None → Closes message.now × (files_of files.new ≡ files_of files.old) }
-    ensures answered { IfOk result (λ told. IfSome told (λ reply. IsAnswered (files_of files.old) message.now
+    ensures answered { IfOk result (λ told. IfSome told (λ reply. IsMessageAnswered (files_of files.old) message.now
         reply.items (files_of files.new))) }
-    ensures lost { OnErr result ((bytes : List ℕ) × IsAnswered (files_of files.old) message.now bytes
+    ensures lost { OnErr result ((bytes : List ℕ) × IsMessageAnswered (files_of files.old) message.now bytes
         (files_of files.new)) }
 {
     are_bytes(message);

@@ -26,7 +26,7 @@ use Rattle.session_wire.specs.Replies.{body_too_long, reply_bytes, IsTooLong as 
 use Rattle.store_images.specs.Opening.{Opened}
 use Rattle.session.specs.declared.serving.SessionFault.{SessionFault}
 use Rattle.session.specs.declared.serving.SessionFault.TheVariants as faults
-use Rattle.session.specs.Replying.{IsAnswered, IsCallAnswered, IsSpelled}
+use Rattle.session.specs.Replying.{IsMessageAnswered, IsCallAnswered, IsSpelled}
 use Rattle.session.specs.Streaming.{Answered, IsCourse, IsUnfinished, IsUntouched, IsCutShort, StopsAt}
 use Rattle.session.specs.Streaming.{EndsAt, IsCutOff, Delivers, Serves, IsStream, text_of}
 
@@ -90,7 +90,7 @@ longer_call K L so moment old xid credential (calls.Nfs call) bytes new a = (
 longer_call K L so moment old xid credential (calls.Mount call) bytes new a = a
 
 longer_answer : (K L : Type 0) → (L → K) → (moment : Moment) (old : Opened) (j : Judged) (bytes : List ℕ)
-    (new : Opened) → IsAnswered K moment old j bytes new → IsAnswered L moment old j bytes new
+    (new : Opened) → IsMessageAnswered K moment old j bytes new → IsMessageAnswered L moment old j bytes new
 longer_answer K L so moment old verdicts.Closed bytes new a = absurd a
 longer_answer K L so moment old (verdicts.Refused xid refusal) bytes new a = a
 longer_answer K L so moment old (verdicts.Call xid credential call) bytes new (inl a) =
@@ -168,10 +168,10 @@ cut_next read left text m more (n ∷ ns) cut e is =
     (cut.0, cut.1, cut.2, cut.3, cut_next cut.1 left text m more ns cut.4 e is)
 
 answered_next : (K : Type 0) (moment : Moment) (old middle new : Opened) (messages replies : List (List ℕ))
-    (m r : List ℕ) → Answered K moment old messages replies middle → IsAnswered K moment middle (judged m) r new
+    (m r : List ℕ) → Answered K moment old messages replies middle → IsMessageAnswered K moment middle (judged m) r new
     → Answered K moment old (messages ++ m ∷ []) (replies ++ r ∷ []) new
 answered_next K moment old middle new [] [] m r done next =
-    (new, subst (λ (o : Opened). IsAnswered K moment o (judged m) r new) done next, refl)
+    (new, subst (λ (o : Opened). IsMessageAnswered K moment o (judged m) r new) done next, refl)
 answered_next K moment old middle new [] (q ∷ qs) m r done next = absurd done
 answered_next K moment old middle new (n ∷ ns) [] m r done next = absurd done
 answered_next K moment old middle new (n ∷ ns) (q ∷ qs) m r done next =
@@ -185,7 +185,7 @@ pub answers : (K : Type 0) (moment : Moment) (old : Opened) (first : Option (Lis
     (count : ℕ) (middle : Opened) (told : Option (List ℕ)) (text m more reply : List ℕ) (next : ℕ)
     (new : Opened)
     (written : Option (List ℕ)) → IsCourse K moment old first read left count middle told → left ≡ text ++ more
-    → IsRecord text m → IsAnswered K moment middle (judged m) reply new
+    → IsRecord text m → IsMessageAnswered K moment middle (judged m) reply new
     → Appends told written (fragment true reply) → next ≡ min (count + 1) (2 ^ 64 - 1)
     → IsCourse K moment old first read more next new written
 answers K moment old first read left count middle told text m more reply next new written c e
@@ -248,10 +248,10 @@ refusal_fits xid refusal bytes (inr (inr long, e)) = absurd (omega (arith, long,
 
 pub judged_refused : (K : Type 0) (moment : Moment) (old : Opened) (j : Judged) (xid : ℕ) (refusal : Refusal)
     (bytes : List ℕ) → Judges (verdicts.Refused xid refusal) j → IsSpelled xid (bodies.Refused refusal) bytes
-    → IsAnswered K moment old j bytes old
+    → IsMessageAnswered K moment old j bytes old
 judged_refused K moment old verdicts.Closed xid refusal bytes is spelled = absurd cc
 judged_refused K moment old (verdicts.Refused x r) xid refusal bytes is spelled =
-    subst (λ (j : Judged). IsAnswered K moment old j bytes old)
+    subst (λ (j : Judged). IsMessageAnswered K moment old j bytes old)
     is (refusal_fits xid refusal bytes spelled, refl)
 judged_refused K moment old (verdicts.Call x caller call) xid refusal bytes (inl is) spelled = absurd cc
 judged_refused K moment old (verdicts.Call x caller call) xid refusal bytes (inr is) spelled =
@@ -262,11 +262,11 @@ judged_refused K moment old (verdicts.Call x caller call) xid refusal bytes (inr
 pub judged_call : (K : Type 0) (moment : Moment) (old new : Opened) (j : Judged) (xid : ℕ)
     (credential : Credential) (call : ProgramCall) (bytes : List ℕ)
     → Judges (verdicts.Call xid credential call) j
-    → IsCallAnswered K moment old xid credential call bytes new → IsAnswered K moment old j bytes new
+    → IsCallAnswered K moment old xid credential call bytes new → IsMessageAnswered K moment old j bytes new
 judged_call K moment old new verdicts.Closed xid credential call bytes is answered = absurd cc
 judged_call K moment old new (verdicts.Refused x r) xid credential call bytes is answered = absurd cc
 judged_call K moment old new (verdicts.Call x caller c) xid credential call bytes (inl is) answered =
-    subst (λ (j : Judged). IsAnswered K moment old j bytes new) is (inl answered)
+    subst (λ (j : Judged). IsMessageAnswered K moment old j bytes new) is (inl answered)
 judged_call K moment old new (verdicts.Call x caller c) xid credential call bytes (inr is) answered = absurd cc
 
 -- ---- where the records stop

@@ -36,7 +36,7 @@ use Rattle.session.specs.declared.serving.SessionFault.TheVariants as faults
 use Rattle.session.specs.Filing.{AreFiled, Files, HasFiled, IsFiled, IsOpenFor, IsServed, IsSettledBehind}
 use Rattle.session.specs.Filing.{NumbersRise}
 use Rattle.session.specs.Filing.{filed, outset_of}
-use Rattle.session.specs.Replying.{IsAnswered}
+use Rattle.session.specs.Replying.{IsMessageAnswered}
 use Rattle.session.specs.Streaming.{Answered, IsStream}
 use Rattle.session.proofs.Courses.{longer_answers}
 use Rattle.session.proofs.ServedFiles.{each_message, served_along}
@@ -145,7 +145,7 @@ sound_last old files opened =
     opened.opened.since).parts.sound
 
 one : LeavesFiles → (K : Type 0) (moment : Moment) (old : Opened) (files : Files) (j : Judged) (bytes : List ℕ)
-    (new : Opened) → K → SoundTime moment → IsOpenFor old files → IsAnswered K moment old j bytes new
+    (new : Opened) → K → SoundTime moment → IsOpenFor old files → IsMessageAnswered K moment old j bytes new
     → FilesOne moment old files j bytes new
 one stops K moment old files verdicts.Closed bytes new keeps timely opened a = absurd a
 one stops K moment old files (verdicts.Refused xid refusal) bytes new keeps timely opened a =

@@ -38,7 +38,7 @@ use Rattle.store_images.specs.Opening.{Opened}
 use Rattle.store_images.specs.Settling.{HasBroken, HasFailed, HasLost}
 use Rattle.store.specs.Calling as store
 use Rattle.session.specs.Filing.{AreAnswered, AreFiled, Files, IsFiled, IsOpenFor, filed, outset_of}
-use Rattle.session.specs.Replying.{IsAnswered, IsMountReply, IsSystemError}
+use Rattle.session.specs.Replying.{IsMessageAnswered, IsMountReply, IsSystemError}
 use Rattle.session.specs.Serving.{reply_for}
 use Rattle.session.specs.Standing.{serving_of, standing_of}
 use Rattle.session.specs.Streaming.{Answered}
@@ -323,7 +323,7 @@ module _ (boot : ℕ) (moment : Moment) (end : Device) where
       (bytes : List ℕ)
       (new : Opened) (later : Files) (one other : Opened) → old.boot ≡ boot → IsOpenFor old files
       → AgreesWith new
-      → IsAnswered keeps_model moment one j bytes other → IsFiled settled moment old files j bytes new later
+      → IsMessageAnswered keeps_model moment one j bytes other → IsFiled settled moment old files j bytes new later
       → wire.IsReplyTo s (standing_of old files.last) j bytes (standing_of new later.last)
   one_message K settled old files Closed bytes new later one other is is_open same answered filed =
       absurd answered

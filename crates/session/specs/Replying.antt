@@ -63,9 +63,9 @@ IsCallAnswered keeps_model moment old xid credential (calls.Mount call) bytes ne
 
 -- What a message is answered, by what it is taken for. One on which the connection closes gets no reply. A
 -- call for which memory was refused before it came to its procedure has a system error, and leaves the store.
-abbrev pub IsAnswered : Type 0 → Moment → Opened → Judged → List ℕ → Opened → Type 0
-IsAnswered keeps_model moment old Closed bytes new = ⊥
-IsAnswered keeps_model moment old (Refused xid refusal) bytes new = (bytes ≡ refused xid refusal) × (new ≡ old)
-IsAnswered keeps_model moment old (Call xid credential call) bytes new =
+abbrev pub IsMessageAnswered : Type 0 → Moment → Opened → Judged → List ℕ → Opened → Type 0
+IsMessageAnswered keeps_model moment old Closed bytes new = ⊥
+IsMessageAnswered keeps_model moment old (Refused xid refusal) bytes new = (bytes ≡ refused xid refusal) × (new ≡ old)
+IsMessageAnswered keeps_model moment old (Call xid credential call) bytes new =
     IsCallAnswered keeps_model moment old xid credential call bytes new
     ⊎ (IsSystemError xid bytes × (new ≡ old))

@@ -10,7 +10,7 @@ use Rattle.store_images.specs.Opening.{Opened}
 use Rattle.session.specs.declared.serving.SessionFault.{SessionFault}
 use Rattle.session.specs.declared.serving.SessionFault.TheVariants.{Record, Input, Output, NoMemory, Truncated}
 use Rattle.session.specs.declared.serving.SessionFault.TheVariants.{Device}
-use Rattle.session.specs.Replying.{IsAnswered}
+use Rattle.session.specs.Replying.{IsMessageAnswered}
 
 -- one reply a message, in their order
 abbrev pub Answered : Type 0 → Moment → Opened → List (List ℕ) → List (List ℕ) → Opened → Type 0
@@ -18,7 +18,7 @@ Answered keeps_model moment old [] [] new = new ≡ old
 Answered keeps_model moment old [] (reply ∷ replies) new = ⊥
 Answered keeps_model moment old (message ∷ messages) [] new = ⊥
 Answered keeps_model moment old (message ∷ messages) (reply ∷ replies) new = (middle : Opened)
-    × IsAnswered keeps_model moment old (judged message) reply middle
+    × IsMessageAnswered keeps_model moment old (judged message) reply middle
     × Answered keeps_model moment middle messages replies new
 
 -- the replies as they are written, each as one last fragment
@@ -78,7 +78,7 @@ abbrev pub Serves : Type 0 → Moment → Opened → Option (List ℕ) → List 
     → Result (Unit {0}) SessionFault → Opened
     → Option (List ℕ) → Type 0
 Serves keeps_model moment old first message result new written =
-    Delivers (λ (reply : List ℕ). IsAnswered keeps_model moment old (judged message) reply new) first
+    Delivers (λ (reply : List ℕ). IsMessageAnswered keeps_model moment old (judged message) reply new) first
     result written
     ⊎ ((result ≡ Err Record) × (judged message ≡ Closed) × IsUntouched old first new written)
 
@@ -106,7 +106,7 @@ pub record IsCutShort (keeps_model : Type 0) (moment : Moment) (left : List ℕ)
   pub lost : List ℕ
   pub cut : left ≡ text ++ more
   pub is : IsRecord text message
-  pub answered : IsAnswered keeps_model moment old (judged message) reply new
+  pub answered : IsMessageAnswered keeps_model moment old (judged message) reply new
   pub parts : fragment true reply ≡ part ++ lost
   pub told : Appends first written part
 

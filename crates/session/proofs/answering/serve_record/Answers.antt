@@ -2,7 +2,7 @@ use Rattle.std.proofs.Common.{inl, inr, List, ℕ, refl}
 use Rattle.session_wire.specs.declared.message.ReplyBody.TheVariants as bodies
 use Rattle.session_wire.specs.Judging.{judged}
 use Rattle.store_images.specs.Opening.{store_of}
-use Rattle.session.specs.Replying.{IsAnswered, IsCallAnswered, IsSpelled}
+use Rattle.session.specs.Replying.{IsMessageAnswered, IsCallAnswered, IsSpelled}
 use Rattle.session.proofs.Courses.{delivers_so, judged_refused, judged_call, none_more}
 use Rattle.session.proofs.Taken.{closes, taken}
 use Rattle.session.proofs.answering.serve_record.Goals as goal
@@ -21,7 +21,7 @@ returns-in-Refused-clause-serves g c =
     let message = c.args.message.now in
     let keeps = g.D.CrashDisk.keeps_model c.args.store.now.disk in
     inl (delivers_so (IsSpelled told.xid (bodies.Refused told.refusal))
-    (λ (reply : List ℕ). IsAnswered keeps c.args.moment old (judged message) reply old) _ _ _
+    (λ (reply : List ℕ). IsMessageAnswered keeps c.args.moment old (judged message) reply old) _ _ _
     (λ reply is. judged_refused keeps c.args.moment old (judged message) told.xid told.refusal reply
     told.ensures is) c.put.ensures)
 
@@ -36,7 +36,7 @@ returns-in-Call-clause-serves g c =
     let keeps = g.D.CrashDisk.keeps_model after.disk in
     inl (delivers_so
     (λ (reply : List ℕ). IsCallAnswered keeps c.args.moment old told.xid told.credential told.call reply new)
-    (λ (reply : List ℕ). IsAnswered keeps c.args.moment old (judged message) reply new) _ _ _
+    (λ (reply : List ℕ). IsMessageAnswered keeps c.args.moment old (judged message) reply new) _ _ _
     (λ reply is. judged_call keeps c.args.moment old new (judged message) told.xid told.credential
     told.call reply told.ensures is)
     c.serve_call.ensures.serves)
