@@ -11,3 +11,5 @@ pub mod MarkParts
 pub mod Clears
 pub mod NewBlocks
 pub mod Gained
+pub mod Enough
+pub mod LowestClear

@@ -2,3 +2,4 @@ pub mod Clear
 pub mod Pieces
 pub mod Bits
 pub mod NewBlock
+pub mod Enough

@@ -17,8 +17,8 @@ ghost use Rattle.bitmap.specs.NewBlock.{HasTaken, IsNewBlock};
 ghost use Rattle.bitmap.specs.Pieces.{IsAskedObject};
 
 use inode::{Snap, Stop, bytes_at};
-use layout::{PIECE_BITS, PIECES_PER_BLOCK};
-use layout_records::{is_set, piece_addr};
+use layout::{PIECE_BITS, PIECE_BYTES, PIECES_PER_BLOCK};
+use layout_records::piece_addr;
 use limits::FIRST_HOME_BLOCK;
 
 // A clear bit of a piece, if it has one.
@@ -27,9 +27,10 @@ fn clear_bit(bytes: &[u8]) -> Option<u32>
     ensures is { IsClearIn bytes.now result }
     ensures few { IfSome result (λ bit. bit < PIECE_BITS) }
 {
-    'bits: for bit in 0..PIECE_BITS {
-        if !is_set(bytes, bit as usize) {
-            return Some(bit);
+    'bytes: for at in 0..PIECE_BYTES {
+        let byte = bytes[at];
+        if byte != 255 {
+            return Some(8 * at as u32 + byte.trailing_ones());
         }
     }
     None

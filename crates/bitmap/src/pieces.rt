@@ -19,7 +19,7 @@ use layout_records::{clear_in, piece_addr};
 use limits::FIRST_HOME_BLOCK;
 
 // How many bits are clear in a piece.
-fn clear_at(snap: &Snap, first: u32, piece: u32) -> Result<u32, Stop>
+pub(crate) fn clear_at(snap: &Snap, first: u32, piece: u32) -> Result<u32, Stop>
     requires from { FIRST_HOME_BLOCK ≤ first }
     requires to { first + piece / PIECES_PER_BLOCK < table_at snap.now.geometry.blocks snap.now.geometry.inodes }
     ensures few { IfOk result (λ clear. clear ≤ PIECE_BITS) }

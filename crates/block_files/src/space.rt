@@ -6,7 +6,7 @@ ghost use Rattle.procedures.specs.Fresh.{IsNewNumber};
 ghost use Rattle.procedures.specs.FsStat.{unused_numbers};
 ghost use Rattle.inode.specs.Over.{IsOver, IsPause, MayStop};
 
-use bitmap::{free_blocks, free_numbers, new_number};
+use bitmap::{free_blocks, free_numbers, is_room, new_number};
 use inode::{Snap, Stop};
 
 /// The data blocks that no file uses.
@@ -50,6 +50,5 @@ pub(crate) fn is_room_for(snap: &Snap, wanted: u32) -> Result<bool, Stop>
     ensures pause { IfErr result (λ stop. (blocks : Image) (tree : Tree) → IsOver snap.now blocks tree
         → IsPause stop) }
 {
-    let left = blocks_left(snap)?;
-    Ok(wanted <= left)
+    is_room(snap, wanted)
 }

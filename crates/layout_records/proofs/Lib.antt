@@ -1,3 +1,4 @@
 pub mod Ones
 pub mod OneBit
 pub mod OnGrid
+pub mod Words

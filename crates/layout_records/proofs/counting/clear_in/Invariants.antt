@@ -1,7 +1,10 @@
-use Rattle.std.proofs.Common.{◌≡◌, ◌≤◌, ◌*◌, take, sum_by}
-use Rattle.layout_records.specs.Bits.{clear_in_byte}
+-- the bytes so far are counted
+use Rattle.std.proofs.Common.{◌≡◌, ◌≤◌, ◌*◌, take}
+use Rattle.layout_records.specs.Bits.{clear_in}
 use Rattle.layout_records.proofs.counting.clear_in.Given as goal
 
-abbrev pub invariant-loop-byte : goal.invariant-loop-byte
-invariant-loop-byte l = (l.clear ≡ sum_by clear_in_byte (take l.byte-index l.bytes))
-    × (l.clear ≤ 8 * l.byte-index)
+abbrev pub invariant-words : goal.invariant-words
+invariant-words l = (l.clear ≡ clear_in (take (8 * l.word) l.bytes)) × (l.clear ≤ 64 * l.word)
+
+abbrev pub invariant-rest : goal.invariant-rest
+invariant-rest l = (l.clear ≡ clear_in (take l.at l.bytes)) × (l.clear ≤ 8 * l.at)
