@@ -61,7 +61,7 @@ impl<'a> Files for BlockFiles<'a> {
     }
 
     fn file(&self, number: u32) -> Result<Option<Head>, Stop> {
-        file(self.alloc, self.snap, number)
+        file(self.snap, number)
     }
 
     fn entry(&self, directory: &Head, name: &[u8]) -> Result<Option<Entry>, Stop> {

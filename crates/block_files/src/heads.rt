@@ -13,7 +13,6 @@ use files::Head;
 use inode::{Snap, Stop, file_kind, held, used_of};
 use layout::{Inode, InodeKind};
 use limits::BLOCK_BYTES;
-use std::alloc::Global;
 
 /// The head of the file of an inode that uses so many blocks.
 pub fn head_of(number: u32, inode: &Inode, used: u32) -> Head
@@ -38,7 +37,7 @@ pub fn head_of(number: u32, inode: &Inode, used: u32) -> Head
 }
 
 // How many blocks the file of an inode uses. What a directory uses is told by its size, and no block of it is read.
-fn used_in(alloc: Global, snap: &Snap, inode: &Inode) -> Result<u32, Stop>
+fn used_in(snap: &Snap, inode: &Inode) -> Result<u32, Stop>
     ensures few { IfOk result (λ used. used ≤ FILE_INDEXES + 1) }
     ensures ok { IfOk result (λ used. (blocks : Image) (tree : Tree) (file : ℕ)
         → HasInode snap.now blocks tree file inode.now
@@ -52,13 +51,13 @@ fn used_in(alloc: Global, snap: &Snap, inode: &Inode) -> Result<u32, Stop>
             Some(used) => Ok(used),
             None => Err(Stop::Io),
         },
-        InodeKind::Regular => used_of(alloc, snap, inode),
-        InodeKind::Link => used_of(alloc, snap, inode),
+        InodeKind::Regular => used_of(snap, inode),
+        InodeKind::Link => used_of(snap, inode),
     }
 }
 
 /// The file of a number.
-pub(crate) fn file(alloc: Global, snap: &Snap, number: u32) -> Result<Option<Head>, Stop>
+pub(crate) fn file(snap: &Snap, number: u32) -> Result<Option<Head>, Stop>
     ensures ok { IfOk result (λ found. (blocks : Image) (tree : Tree) → IsOver snap.now blocks tree
         → IsFileAt tree number found) }
     ensures err { IfErr result (λ stop. MayStop snap.now stop) }
@@ -68,6 +67,6 @@ pub(crate) fn file(alloc: Global, snap: &Snap, number: u32) -> Result<Option<Hea
     let Some(inode) = held(snap, number)? else {
         return Ok(None);
     };
-    let used = used_in(alloc, snap, &inode)?;
+    let used = used_in(snap, &inode)?;
     Ok(Some(head_of(number, &inode, used)))
 }

@@ -40,7 +40,7 @@ pub fn refresh(alloc: Global, draft: &mut Draft, head: &Head) -> Result<Head, St
     ensures pause { IfErr result (λ stop. (blocks : Image) (tree : Tree) (node : Node)
         → IsDraft draft.old blocks tree → node_at tree head.now.number ≡ Some node → IsPause stop) }
 {
-    let found = match file(alloc, draft.there(), head.number) {
+    let found = match file(draft.there(), head.number) {
         Ok(Some(found)) => found,
         Ok(None) => return Err(Stop::Io),
         Err(stop) => return Err(stop),

@@ -17,7 +17,6 @@ use crate::snap::Snap;
 use crate::stop::Stop;
 use layout::{Inode, InodeKind, Numbers};
 use nfs_types::FileKind;
-use std::alloc::Global;
 
 /// The kind of file that an inode is of.
 pub fn file_kind(kind: InodeKind) -> FileKind
@@ -45,7 +44,7 @@ pub fn held(snap: &Snap, number: u32) -> Result<Option<Inode>, Stop>
 }
 
 // How many blocks an indirect block maps, and itself: none where there is none.
-fn far_used(alloc: Global, snap: &Snap, indirect: u32) -> Result<u32, Stop>
+fn far_used(snap: &Snap, indirect: u32) -> Result<u32, Stop>
     ensures few { IfOk result (λ used. used ≤ INDIRECT_INDEXES + 1) }
     ensures ok { IfOk result (λ used. (blocks : Image) (tree : Tree) → IsOver snap.now blocks tree
         → used ≡ cond (nat_eq indirect 0) 0
@@ -62,14 +61,14 @@ fn far_used(alloc: Global, snap: &Snap, indirect: u32) -> Result<u32, Stop>
         return Err(Stop::Io);
     }
     let bytes = data_block(snap, indirect)?;
-    match Numbers::read(alloc, &snap.geometry, bytes)? {
-        Ok(numbers) => Ok(numbers.mapped() + 1),
+    match Numbers::mapped_in(&snap.geometry, bytes) {
+        Ok(mapped) => Ok(mapped + 1),
         Err(_) => Err(Stop::Io),
     }
 }
 
 /// How many blocks a file uses.
-pub fn used_of(alloc: Global, snap: &Snap, inode: &Inode) -> Result<u32, Stop>
+pub fn used_of(snap: &Snap, inode: &Inode) -> Result<u32, Stop>
     ensures few { IfOk result (λ used. used ≤ FILE_INDEXES + 1) }
     ensures ok { IfOk result (λ used. (blocks : Image) (tree : Tree) (file : ℕ)
         → HasInode snap.now blocks tree file inode.now
@@ -78,7 +77,7 @@ pub fn used_of(alloc: Global, snap: &Snap, inode: &Inode) -> Result<u32, Stop>
     ensures pause { IfErr result (λ stop. (blocks : Image) (tree : Tree) (file : ℕ)
         → HasInode snap.now blocks tree file inode.now → IsPause stop) }
 {
-    match far_used(alloc, snap, inode.indirect) {
+    match far_used(snap, inode.indirect) {
         Ok(far) => Ok(inode.directly_used() + far),
         Err(stop) => Err(stop),
     }

@@ -10,7 +10,7 @@ ghost use Rattle.inode_writes.specs.Frees.{is_some};
 
 use inode::{Snap, Stop, block_number};
 use layout::Inode;
-use limits::FILE_INDEXES;
+use limits::{DIRECT_INDEXES, FILE_INDEXES};
 use std::alloc::{AllocError, Global};
 
 // Adds a number, if it is that of a block.
@@ -24,7 +24,8 @@ fn add(numbers: &mut Vec<u32>, number: u32) -> Result<(), AllocError>
     Ok(())
 }
 
-/// The numbers of the blocks of a file: of the one that has numbers itself, and of those of its indexes.
+/// The numbers of the blocks of a file: of the one that has numbers itself, and of those of its indexes. Only where it
+/// has that one are there more than the direct indexes.
 pub(crate) fn blocks_of(alloc: Global, snap: &Snap, inode: &Inode) -> Result<Vec<u32>, Stop>
     ensures ok { IfOk result (λ numbers. (blocks : Image) (tree : Tree) (file : ℕ)
         → HasInode snap.now blocks tree file inode.now
@@ -35,7 +36,12 @@ pub(crate) fn blocks_of(alloc: Global, snap: &Snap, inode: &Inode) -> Result<Vec
 {
     let mut numbers = Vec::new(alloc);
     add(&mut numbers, inode.indirect)?;
-    'indexes: for index in 0..FILE_INDEXES {
+    let count = if inode.indirect == 0 {
+        DIRECT_INDEXES
+    } else {
+        FILE_INDEXES
+    };
+    'indexes: for index in 0..count {
         match block_number(snap, inode, index) {
             Ok(number) => add(&mut numbers, number)?,
             Err(stop) => return Err(stop),

@@ -28,3 +28,4 @@ pub mod Versions
 pub mod AllNumbers
 pub mod OnGrid
 pub mod Holding
+pub mod CountedAt

@@ -7,7 +7,7 @@ ghost use Rattle.layout.specs.InodeForm.{is_data_block_or_none};
 
 use crate::fields::four_at;
 use crate::inode_bytes::put_numbers;
-use crate::inode_rules::are_data_blocks_or_none;
+use crate::inode_rules::{are_data_blocks_or_none, is_data_block_or_none};
 use crate::{Geometry, LayoutFault};
 use limits::{BLOCK_BYTES, INDIRECT_INDEXES};
 use std::alloc::{AllocError, Global};
@@ -59,6 +59,29 @@ impl Numbers {
             return Ok(Err(LayoutFault::Range));
         }
         Ok(Ok(Numbers { numbers }))
+    }
+
+    /// How many blocks an indirect block of an image of this geometry maps, counted where it lies. It is refused
+    /// (Range) where a number is neither 0 nor that of a data block.
+    pub fn mapped_in(geometry: &Geometry, bytes: &[u8]) -> Result<u32, LayoutFault>
+        requires { length bytes.now ≡ BLOCK_BYTES }
+        ensures few { IfOk result (λ mapped. mapped ≤ INDIRECT_INDEXES) }
+        ensures count { IfOk result (λ mapped. mapped ≡ count_of (numbers_at INDIRECT_INDEXES 0 bytes.now)) }
+        ensures refused { IfErr result (λ fault. (fault ≡ LayoutFault.Range)
+            × (list_all (is_data_block_or_none geometry.now)
+            (numbers_at INDIRECT_INDEXES 0 bytes.now) ≡ false)) }
+    {
+        let mut mapped = 0;
+        'indexes: for index in 0..INDIRECT_INDEXES {
+            let number = four_at(bytes, NUMBER_BYTES * index);
+            if !is_data_block_or_none(geometry, number) {
+                return Err(LayoutFault::Range);
+            }
+            if number != 0 {
+                mapped += 1;
+            }
+        }
+        Ok(mapped)
     }
 
     /// The number at an index of an indirect block, as it stands there.

@@ -1,4 +1,6 @@
-use Rattle.std.proofs.Common.{rules}
+use Rattle.std.proofs.Common.{refl, rules}
+use Rattle.limits.specs.declared.TheConstants.{INDIRECT_INDEXES}
+use Rattle.layout.specs.Fields.{numbers_at}
 use Rattle.layout.specs.Parts.{content_in}
 use Rattle.inode.proofs.HeldThere.{no_data, none_used, not_placed, some_used}
 use Rattle.inode.proofs.inodes.far_used.Goals as goal
@@ -15,13 +17,13 @@ returns-then-not-is_data-clause-pause c = λ blocks tree over placed far.
 
 pub returns-in-Ok-clause-ok : goal.returns-in-Ok-clause-ok
 returns-in-Ok-clause-ok c = λ blocks tree over.
-    some_used (content_in c.args.snap.now.geometry blocks) c.args.indirect c.mapped.result
-    c.in_ok-bytes.bytes.now c.in-Ok.numbers (let h = c.if-indirect-eq0.false in search rules)
-    (c.in_ok-bytes.ensures.ok blocks tree over) (rw c.in-Ok.is at c.in_ok-numbers.ensures.ok)
-    c.mapped.ensures.count
+    some_used (content_in c.args.snap.now.geometry blocks) c.args.indirect c.in-Ok.mapped
+    c.in_ok-bytes.bytes.now (numbers_at INDIRECT_INDEXES 0 c.in_ok-bytes.bytes.now)
+    (let h = c.if-indirect-eq0.false in search rules) (c.in_ok-bytes.ensures.ok blocks tree over) refl
+    c.in-Ok.ensures.count
 
 pub returns-in-Err-clause-pause : goal.returns-in-Err-clause-pause
 returns-in-Err-clause-pause c = λ blocks tree over placed far.
     not_placed c.args.snap.now.geometry blocks c.args.indirect c.in_ok-bytes.bytes.now
     (let h = c.if-indirect-eq0.false in search rules) (c.in_ok-bytes.ensures.ok blocks tree over)
-    (rw c.in-Err.is at c.in_ok-numbers.ensures.refused).1 far
+    c.in-Err.ensures.refused.1 far

@@ -1,0 +1,59 @@
+-- The numbers of an indirect block, counted where they lie.
+use Rattle.std.proofs.Common.{◌≡◌, ℕ, zero, suc, ◌+◌, ◌*◌, ◌<◌, ap, ◌∙◌, sym, refl, Bool, true, false, ◌&&◌, cond, not}
+use Rattle.std.proofs.Common.{List, [], ◌∷◌, ◌++◌, length, nat_eq, get_or, arith}
+use Rattle.std.specs.List.{list_all}
+use Rattle.std.proofs.lemmas.Bool.{eq-eqb, ne_eqb}
+use Rattle.std.proofs.lemmas.List.Sums.{sum_by-append, sum_by-cons}
+use Rattle.layout.specs.Fields.{count_of, four_at, numbers_at}
+use Rattle.layout.proofs.NumbersAt.{no_numbers, number_at, numbers-length, one_more}
+
+abbrev weight : ℕ → ℕ
+weight n = cond (not (nat_eq n 0)) 1 0
+
+pub none_yet : (bytes : List ℕ) → 0 ≡ count_of (numbers_at 0 0 bytes)
+none_yet bytes = sym (ap count_of (no_numbers 0 bytes))
+
+counted : (index number : ℕ) (bytes : List ℕ) → number ≡ four_at (4 * index) bytes
+    → count_of (numbers_at (index + 1) 0 bytes) ≡ count_of (numbers_at index 0 bytes) + weight number
+counted index number bytes is =
+    let more = ap count_of (one_more index bytes) in
+    let both = sum_by-append weight (numbers_at index 0 bytes) (four_at (4 * index) bytes ∷ []) in
+    let one = sum_by-cons weight (four_at (4 * index) bytes) [] in
+    let same = ap weight is in
+    omega (arith, more, both, one, same)
+
+pub some_more : (index number mapped next : ℕ) (bytes : List ℕ) → number ≡ four_at (4 * index) bytes
+    → mapped ≡ count_of (numbers_at index 0 bytes) → (number ≡ 0 → ⊥) → next ≡ mapped + 1
+    → next ≡ count_of (numbers_at (index + 1) 0 bytes)
+some_more index number mapped next bytes is was some next_is =
+    let all = counted index number bytes is in
+    let one : weight number ≡ 1 = ap (λ b. cond (not b) 1 0) (ne_eqb number 0 some) in
+    omega (arith, all, one, was, next_is)
+
+pub none_more : (index number mapped next : ℕ) (bytes : List ℕ) → number ≡ four_at (4 * index) bytes
+    → mapped ≡ count_of (numbers_at index 0 bytes) → number ≡ 0 → next ≡ mapped
+    → next ≡ count_of (numbers_at (index + 1) 0 bytes)
+none_more index number mapped next bytes is was none next_is =
+    let all = counted index number bytes is in
+    let zero_is : weight number ≡ 0 = ap (λ b. cond (not b) 1 0) (eq-eqb number 0 none) in
+    omega (arith, all, zero_is, was, next_is)
+
+-- one of which a test isn't true
+fails_at : (p : ℕ → Bool) (xs : List ℕ) (i : ℕ) → i < length xs → p (get_or xs i 0) ≡ false
+    → list_all p xs ≡ false
+fails_at p [] i less e = absurd (omega (arith, less))
+fails_at p (x ∷ xs) zero less e = ap (λ b. b && list_all p xs) e
+fails_at p (x ∷ xs) (suc i) less e =
+    ap (λ b. p x && b) (fails_at p xs i (omega (arith, less)) e) ∙ never (p x)
+  where
+    never : (b : Bool) → (b && false) ≡ false
+    never true = refl
+    never false = refl
+
+pub refused_at : (p : ℕ → Bool) (count index number : ℕ) (bytes : List ℕ) → index < count
+    → number ≡ four_at (4 * index) bytes → p number ≡ false → list_all p (numbers_at count 0 bytes) ≡ false
+refused_at p count index number bytes less is e =
+    let long = numbers-length count 0 bytes in
+    let place : 0 + 4 * index ≡ 4 * index = omega arith in
+    let at = number_at count 0 bytes index less ∙ ap (λ k. four_at k bytes) place ∙ sym is in
+    fails_at p (numbers_at count 0 bytes) index (omega (arith, long, less)) (ap p at ∙ e)
