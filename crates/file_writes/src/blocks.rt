@@ -19,7 +19,22 @@ use limits::BLOCK_BYTES;
 use objects::Addr;
 use std::alloc::Global;
 
-/// The bytes of the block of a number, zeros where there is none, with a piece in them.
+// The bytes that take the place of all that a block has. It is claimed where it wasn't read.
+fn whole(alloc: Global, snap: &Snap, number: u32, bytes: &[u8]) -> Result<Vec<u8>, Stop>
+    requires { is_data snap.now.geometry number ≡ true }
+    ensures are { IfOk result (λ new. new.items ≡ bytes.now) }
+    ensures err { IfErr result (λ stop. MayStop snap.now stop) }
+    ensures pause { IfErr result (λ stop. IsPause stop) }
+{
+    let block = BlockNo(number);
+    if snap.get(Addr::whole(block)).is_none() && !snap.has_claim(block) {
+        return Err(Stop::Claim(block));
+    }
+    Ok(Vec::from_slice(alloc, bytes)?)
+}
+
+/// The bytes of the block of a number, zeros where there is none, with a piece in them. A block that is wholly written
+/// isn't read.
 pub(crate) fn filled(
     alloc: Global,
     snap: &Snap,
@@ -38,6 +53,9 @@ pub(crate) fn filled(
     if number == 0 {
         let zeros = [0; BLOCK_BYTES];
         return Ok(with_piece(alloc, &zeros, from, piece)?);
+    }
+    if piece.len() == BLOCK_BYTES {
+        return whole(alloc, snap, number, piece);
     }
     let bytes = data_block(snap, number)?;
     Ok(with_piece(alloc, bytes, from, piece)?)
