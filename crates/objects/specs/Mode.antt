@@ -1,5 +1,5 @@
 -- How addresses are taken, and which modes keep each other off.
-use Rattle.std.specs.Prelude.{◌≡◌, ◌⊎◌, Bool, true, false}
+use Rattle.std.specs.Prelude.{◌≡◌, ◌⊎◌, Bool, false, not, true}
 use Rattle.objects.specs.declared.mode.Mode.{Mode}
 use Rattle.objects.specs.declared.mode.Mode.TheVariants as modes
 
@@ -16,3 +16,8 @@ is_exclusive modes.Exclusive = true
 abbrev pub raised : Mode → Mode → Mode
 raised one modes.Shared = one
 raised one modes.Exclusive = modes.Exclusive
+
+-- whether what is taken in the one mode serves who wishes it in the other
+abbrev pub covers : Mode → Mode → Bool
+covers modes.Exclusive wished = true
+covers modes.Shared wished = not (is_exclusive wished)
