@@ -18,7 +18,6 @@ pub mod Served
 pub mod SoundSteps
 pub mod Soundness
 pub mod Stale
-pub mod Lives
 pub mod Sums
 pub mod Tests
 pub mod Unchanged

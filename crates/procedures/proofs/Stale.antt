@@ -1,9 +1,8 @@
 -- Handles over steps: which stamps a step gives, and that a stale handle stays stale.
-use Rattle.std.proofs.Common.{◌≡◌, ◌≢◌, ◌⊎◌, inl, inr, ℕ, ◌-◌, ◌≤◌, sym, ap, subst, ◌∙◌, refl, Bool, true}
+use Rattle.std.proofs.Common.{◌≡◌, ◌≢◌, inl, inr, ℕ, ◌-◌, ◌≤◌, sym, ap, subst, ◌∙◌, refl, Bool, true}
 use Rattle.std.proofs.Common.{false}
-use Rattle.std.proofs.Common.{cond, ◌&&◌, List, [], ◌∷◌, ◌++◌, length, nat_eq, nat_lt, Option, Some, None}
+use Rattle.std.proofs.Common.{cond, ◌&&◌, List, [], ◌∷◌, length, nat_eq, nat_lt, Option, Some, None}
 use Rattle.std.proofs.Common.{Result, Ok, Err}
-use Rattle.std.proofs.Common.{arith}
 use Rattle.std.specs.Option.{option_map}
 use Rattle.limits.specs.declared.TheConstants.{HANDLE_BYTES}
 use Rattle.nfs_types.specs.Fits.{CallFits}
@@ -27,9 +26,10 @@ use Rattle.procedures.proofs.Lacking.{equal_or_not, gone_change, put_change}
 use Rattle.procedures.specs.Changes.{changed_at, departed, is_last_name, with_file, without_name}
 use Rattle.procedures.specs.Changes.{without_node}
 use Rattle.procedures.specs.After.{after}
-use Rattle.procedures.specs.Histories.{AreApart, AreNewTo, IsGivenByNone, stamp_of}
+use Rattle.procedures.specs.Histories.{IsGivenByNone, stamp_of}
 use Rattle.procedures.specs.Link.{linked}
 use Rattle.procedures.specs.Rename.{file_in, moved}
+use Rattle.procedures.specs.Stamps.{IsKeptOrMade}
 use Rattle.procedures.specs.Step.{step}
 use Rattle.procedures.specs.Write.{with_text, written}
 
@@ -99,20 +99,22 @@ refound tree handle found new is same =
 
 -- Which stamps a change gives.
 
--- each file had its stamp before, or has that of the context
+-- each file had its stamp before, or its number was unused and it has that of the context
 pub record Follows (tree next : Tree) (mine : Stamp) : Type 0 where
   pub geometry : next.geometry ≡ tree.geometry
   pub stamps : (number : ℕ) (node : Node) → node_at next number ≡ Some node
-      → ((old : Node) × (node_at tree number ≡ Some old) × (old.stamp ≡ node.stamp)) ⊎ (node.stamp ≡ mine)
+      → IsKeptOrMade tree number node.stamp mine
 
 module _ (mine : Stamp) (tree : Tree) where
   pub stays : Follows tree tree mine
-  stays = record { geometry = refl; stamps = λ number node is. inl (node, is, refl) }
+  stays = record {
+    geometry = refl;
+    stamps = λ number node is. inl (record { old = node; old_is = is; stamp_is = refl });
+  }
 
-  -- a file that keeps the stamp of the one before it, or has that of the context
+  -- a file that keeps the stamp of the one before it, or has that of the context under an unused number
   pub puts : (middle : Tree) (number : ℕ) (new : Node) → Follows tree middle mine
-      → ((old : Node) × (node_at tree number ≡ Some old) × (old.stamp ≡ new.stamp)) ⊎ (new.stamp ≡ mine)
-      → Follows tree (with_node middle number new) mine
+      → IsKeptOrMade tree number new.stamp mine → Follows tree (with_node middle number new) mine
   puts middle number new before given =
       let change = put_change middle number (node_at middle number) new refl in
       record {
@@ -123,10 +125,8 @@ module _ (mine : Stamp) (tree : Tree) where
                   let one : Some new ≡ Some node =
                   sym change.here ∙ ap (node_at (with_node middle number new)) (sym same) ∙ is in
                   let new_is : new ≡ node = cc in
-                  elim given [
-                    | inl old ↦ inl (old.0, ap (node_at tree) same ∙ old.1, old.2 ∙ ap (λ n. n.stamp) new_is)
-                    | inr own ↦ inr (ap (λ n. n.stamp) (sym new_is) ∙ own)
-                  ]
+                  subst (λ s. IsKeptOrMade tree q s mine) (ap (λ (n : Node). n.stamp) new_is)
+                  (subst (λ n. IsKeptOrMade tree n new.stamp mine) (sym same) given)
               | inr apart ↦ before.stamps q node (sym (change.there q apart) ∙ is)
             ];
       }
@@ -152,10 +152,8 @@ module _ (mine : Stamp) (tree : Tree) where
       → Follows tree (with_file middle number (option_map change at)) mine
   changes_by middle number change None is before keeps = before
   changes_by middle number change (Some node) is before keeps =
-      puts middle number (change node) before (elim (before.stamps number node is) [
-        | inl old ↦ inl (old.0, old.1, old.2 ∙ sym (keeps node))
-        | inr own ↦ inr (keeps node ∙ own)
-      ])
+      puts middle number (change node) before
+      (subst (λ s. IsKeptOrMade tree number s mine) (sym (keeps node)) (before.stamps number node is))
 
   pub changes : (middle : Tree) (number : ℕ) (change : Node → Node) → Follows tree middle mine
       → ((node : Node) → (change node).stamp ≡ node.stamp) → Follows tree (changed_at middle number change) mine
@@ -167,7 +165,7 @@ module _ (mine : Stamp) (tree : Tree) where
       → Follows tree (cond last (without_node middle number) (with_node middle number fewer)) mine
   unnames_by true middle number file fewer before is same = takes middle number before
   unnames_by false middle number file fewer before is same =
-      puts middle number fewer before (inl (file, is, same))
+      puts middle number fewer before (inl (record { old = file; old_is = is; stamp_is = same }))
 
   -- a name that is taken away, with its file where that was the last
   unnames : (middle : Tree) (moment : Moment) (at : ℕ) (name : List ℕ) (found : Option (ℕ × Node))
@@ -188,24 +186,25 @@ module _ (tree next : Tree) (ctx : Ctx) (fits : Type 0) where
   deed_follows (leaves same) = subst (λ t. Follows tree t (stamp_of ctx)) (sym same) (stays (stamp_of ctx) tree)
   deed_follows (sets d) =
       subst (λ t. Follows tree t (stamp_of ctx)) (sym d.leads)
-      (puts (stamp_of ctx) tree tree d.number _ (stays (stamp_of ctx) tree) (inl (d.node, d.stands, refl)))
+      (puts (stamp_of ctx) tree tree d.number _ (stays (stamp_of ctx) tree) (inl (record { old = d.node; old_is = d.stands; stamp_is = refl })))
   deed_follows (writes d) =
       subst (λ t. Follows tree t (stamp_of ctx)) (sym d.leads)
       (puts (stamp_of ctx) tree tree d.number (written ctx.moment d.offset d.text d.node) (stays
       (stamp_of ctx) tree)
-      (inl (
-        d.node,
-        d.stands,
-        written_stamp (nat_eq (length d.text) 0) d.node (record d.node {
+      (inl (record {
+        old = d.node;
+        old_is = d.stands;
+        stamp_is = written_stamp (nat_eq (length d.text) 0) d.node (record d.node {
           mtime = ctx.moment;
           ctime = ctx.moment;
           body = with_text d.offset d.text d.node.body;
-        }) refl,
-      )))
+        }) refl;
+      })))
   deed_follows (makes d) =
       subst (λ t. Follows tree t (stamp_of ctx)) (sym d.leads)
       (puts (stamp_of ctx) tree _ d.entry.number _
-      (changes (stamp_of ctx) tree tree d.at _ (stays (stamp_of ctx) tree) (λ node. refl)) (inr refl))
+      (changes (stamp_of ctx) tree tree d.at _ (stays (stamp_of ctx) tree) (λ node. refl))
+      (inr (record { unused = d.unused.free; stamp_is = refl })))
   deed_follows (links d) =
       subst (λ t. Follows tree t (stamp_of ctx)) (sym d.leads)
       (changes (stamp_of ctx) tree _ d.number (linked ctx.moment)
@@ -237,40 +236,13 @@ pub no_later : (boot : ℕ) (tree next : Tree) (ctx : Ctx) (asked : Call) (given
     → ctx.boot ≤ boot → step tree ctx asked given next → IsMadeBy boot next
 no_later boot tree next ctx asked given made now step number node is =
     elim ((step_follows tree next ctx asked given step).stamps number node is) [
-      | inl old ↦ subst (λ s. s.boot ≤ boot) old.2 (made number old.0 old.1)
-      | inr own ↦ subst (λ s. s.boot ≤ boot) (sym own) now
+      | inl was ↦ subst (λ s. s.boot ≤ boot) was.stamp_is (made number was.old was.old_is)
+      | inr own ↦ subst (λ s. s.boot ≤ boot) (sym own.stamp_is) now
     ]
-
--- Which stamps the entries have that are to come.
-
--- a step gives no stamp of these entries, where its own isn't theirs
-pub still_new : (tree next : Tree) (ctx : Ctx) (asked : Call) (given : Reply) (entries : List Entry)
-    → AreNewTo tree entries → IsGivenByNone (stamp_of ctx) entries → step tree ctx asked given next
-    → AreNewTo next entries
-still_new tree next ctx asked given entries new own step number node is =
-    elim ((step_follows tree next ctx asked given step).stamps number node is) [
-      | inl old ↦ subst (λ s. IsGivenByNone s entries) old.2 (new number old.0 old.1)
-      | inr mine ↦ subst (λ s. IsGivenByNone s entries) (sym mine) own
-    ]
-
-given_behind : (stamp : Stamp) (first second : List Entry) → IsGivenByNone stamp (first ++ second)
-    → IsGivenByNone stamp second
-given_behind stamp [] second none = none
-given_behind stamp (entry ∷ first) second none = given_behind stamp first second none.1
-
--- after the entries before them none of the others is given
-new_behind : (tree next : Tree) (past later : List Entry) → AreNewTo tree (past ++ later)
-    → AreApart (past ++ later) → after tree past next → AreNewTo next later
-new_behind tree next [] later new apart same =
-    subst (λ t. AreNewTo t later) (sym same) new
-new_behind tree next (entry ∷ past) later new apart leads =
-    new_behind leads.0 next past later
-    (still_new tree leads.0 entry.ctx entry.call entry.reply (past ++ later)
-    (λ number node is. (new number node is).1) apart.0 leads.1) apart.1 leads.2
 
 -- Stale handles.
 
-stamps_are : (a b : Stamp) → same_stamp a b ≡ true → a ≡ b
+pub stamps_are : (a b : Stamp) → same_stamp a b ≡ true → a ≡ b
 stamps_are a b e =
     let parts = both (nat_eq a.boot b.boot) (nat_eq a.transaction b.transaction) e in
     let boots = equal a.boot b.boot parts.0 in
@@ -298,7 +270,7 @@ lawful_by true r is = refl
 lawful_by false r is = cc
 
 -- a handle that is stale in one tree, and names no file in another of the same numbers, is stale there
-stale_too : (tree next : Tree) (handle : List ℕ) → next.geometry ≡ tree.geometry
+pub stale_too : (tree next : Tree) (handle : List ℕ) → next.geometry ≡ tree.geometry
     → find_file tree handle ≡ Err status.Stale → ((found : ℕ × Node) → find_file next handle ≡ Ok found → ⊥)
     → find_file next handle ≡ Err status.Stale
 stale_too tree next handle same stale never =
@@ -323,16 +295,16 @@ step_stale tree next ctx asked given handle stale other step =
     let f = found_is next handle found is in
     let mine = stamps_are (stamp_in handle) found.1.stamp f.stamp in
     elim (follows.stamps found.0 found.1 f.there) [
-      | inl old ↦
-          let was : find_file tree handle ≡ Ok (found.0, old.0) =
-          is_found tree handle (found.0, old.0) (record {
+      | inl was ↦
+          let found_then : find_file tree handle ≡ Ok (found.0, was.old) =
+          is_found tree handle (found.0, was.old) (record {
             lawful = lawful_by _ _ stale;
             number = f.number;
-            there = old.1;
-            stamp = ap (same_stamp (stamp_in handle)) old.2 ∙ f.stamp;
+            there = was.old_is;
+            stamp = ap (same_stamp (stamp_in handle)) was.stamp_is ∙ f.stamp;
           }) in
-          let never : Ok (found.0, old.0) ≡ Err status.Stale = sym was ∙ stale in cc
-      | inr own ↦ absurd (other (sym (mine ∙ own)))
+          let never : Ok (found.0, was.old) ≡ Err status.Stale = sym found_then ∙ stale in cc
+      | inr own ↦ absurd (other (sym (mine ∙ own.stamp_is)))
     ])
 
 pub history_stale : (tree next : Tree) (entries : List Entry) (handle : List ℕ)
@@ -343,15 +315,3 @@ history_stale tree next [] handle stale none same = ap (λ t. find_file t handle
 history_stale tree next (entry ∷ entries) handle stale none leads =
     history_stale leads.0 next entries handle
     (step_stale tree leads.0 entry.ctx entry.call entry.reply handle stale none.0 leads.1) none.1 leads.2
-
--- A handle that named a file, and is stale, names none again.
-pub named_then_stale : (first named middle last : Tree) (past later : List Entry) (handle : List ℕ)
-    (found : ℕ × Node) → AreNewTo first (past ++ later) → AreApart (past ++ later) → after first past named
-    → find_file named handle ≡ Ok found → find_file middle handle ≡ Err status.Stale
-    → after middle later last → find_file last handle ≡ Err status.Stale
-named_then_stale first named middle last past later handle found new apart led is stale leads =
-    let f = found_is named handle found is in
-    let mine = stamps_are (stamp_in handle) found.1.stamp f.stamp in
-    history_stale middle last later handle stale
-    (subst (λ s. IsGivenByNone s later) (sym mine)
-    (new_behind first named past later new apart led found.0 found.1 f.there)) leads

@@ -1,12 +1,10 @@
 -- Histories whose calls can be spelled, and the transactions that made them.
-use Rattle.std.specs.Prelude.{◌≡◌, ◌≢◌, ℕ, ◌<◌, List, [], ◌∷◌, ◌++◌, slice_get, Some}
+use Rattle.std.specs.Prelude.{◌≡◌, ◌≢◌, ℕ, List, [], ◌∷◌, slice_get, Some}
 use Rattle.nfs_types.specs.declared.ctx.Ctx.{Ctx}
 use Rattle.nfs_types.specs.declared.handle.Stamp.{Stamp}
 use Rattle.nfs_types.specs.Fits.{CallFits}
 use Rattle.model.specs.Entry.{Entry}
-use Rattle.model.specs.Node.{Node}
 use Rattle.model.specs.Sound.{SoundCtx}
-use Rattle.model.specs.Tree.{Tree, node_at}
 
 -- a call that can be spelled, in a context that there may be
 pub record SoundEntry (entry : Entry) : Type 0 where
@@ -26,34 +24,13 @@ abbrev pub IsGivenByNone : Stamp → List Entry → Type 0
 IsGivenByNone stamp [] = Unit {0}
 IsGivenByNone stamp (entry ∷ entries) = (stamp_of entry.ctx ≢ stamp) × IsGivenByNone stamp entries
 
--- no two entries have one stamp
-abbrev pub AreApart : List Entry → Type 0
-AreApart [] = Unit {0}
-AreApart (entry ∷ entries) = IsGivenByNone (stamp_of entry.ctx) entries × AreApart entries
-
--- no file of the tree has the stamp of an entry
-abbrev pub AreNewTo : Tree → List Entry → Type 0
-AreNewTo tree entries = (number : ℕ) (node : Node) → node_at tree number ≡ Some node
-    → IsGivenByNone node.stamp entries
-
--- ---- from one opening to the next
-
+-- each is of this boot
 abbrev pub AreOfBoot : ℕ → List Entry → Type 0
 AreOfBoot boot [] = Unit {0}
 AreOfBoot boot (entry ∷ entries) = (entry.ctx.boot ≡ boot) × AreOfBoot boot entries
 
 -- What was committed in one boot, in any order of numbers: no two entries have one transaction number.
-pub record IsLife (boot : ℕ) (entries : List Entry) : Type 0 where
+pub record IsOfOneBoot (boot : ℕ) (entries : List Entry) : Type 0 where
   pub boots : AreOfBoot boot entries
   pub numbers : (one other : ℕ) (a b : Entry) → slice_get entries one ≡ Some a
       → slice_get entries other ≡ Some b → a.ctx.transaction ≡ b.ctx.transaction → one ≡ other
-
--- of boot after boot, beyond this one
-abbrev pub AreLives : ℕ → List (List Entry) → Type 0
-AreLives from [] = Unit {0}
-AreLives from (life ∷ lives) = (boot : ℕ) × (from < boot) × IsLife boot life × AreLives boot lives
-
--- the entries of all of them
-abbrev pub all_of : List (List Entry) → List Entry
-all_of [] = []
-all_of (life ∷ lives) = life ++ all_of lives

@@ -23,6 +23,7 @@ pub mod ReadLink
 pub mod Remove
 pub mod Rename
 pub mod RmDir
+pub mod Stamps
 pub mod Step
 pub mod SymLink
 pub mod Told

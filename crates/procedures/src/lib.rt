@@ -25,15 +25,13 @@ pub use files::{
     the_last_name_takes_the_file_with_it, what_is_written_is_read, what_lies_before_stays,
     what_lies_behind_stays,
 };
-pub use handles::{
-    a_handle_once_stale_names_no_file_again, a_stale_handle_stays_stale,
-    lives_have_stamps_of_their_own, steps_give_their_own_stamp,
-};
+pub use handles::a_stale_handle_stays_stale;
 pub use histories::{an_empty_history_leads_nowhere, histories_join};
 pub use steps::{
     a_numbered_step_is_determined, a_refusal_leaves_the_tree,
-    a_step_that_makes_no_file_is_determined, each_call_has_a_step, no_step_makes_a_later_stamp,
-    no_step_tells_a_failure, what_only_tells_leaves_the_tree,
+    a_step_that_makes_no_file_is_determined, each_call_has_a_step,
+    each_file_was_there_or_is_made_now, no_step_makes_a_later_stamp, no_step_tells_a_failure,
+    what_only_tells_leaves_the_tree,
 };
 pub use trees::{
     histories_keep_trees_sound, no_step_makes_a_file_its_own_ancestor, steps_keep_trees_sound,

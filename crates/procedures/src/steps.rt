@@ -1,12 +1,15 @@
 //! Laws on the steps of all procedures.
-ghost use Rattle.std.specs.Prelude.{◌≡◌, ◌≢◌, ◌≤◌, ℕ, Option, true, false};
+ghost use Rattle.std.specs.Prelude.{◌≡◌, ◌≢◌, ◌≤◌, ℕ, Option, Some, true, false};
 ghost use Rattle.nfs_types.specs.declared.call.Call.{Call};
 ghost use Rattle.nfs_types.specs.declared.call.Call.TheVariants as call;
 ghost use Rattle.nfs_types.specs.declared.ctx.Ctx.{Ctx};
 ghost use Rattle.nfs_types.specs.declared.reply.Reply.{Reply};
+ghost use Rattle.model.specs.Node.{Node};
 ghost use Rattle.model.specs.Sound.{IsMadeBy};
-ghost use Rattle.model.specs.Tree.{Tree};
+ghost use Rattle.model.specs.Tree.{Tree, node_at};
+ghost use Rattle.procedures.specs.Histories.{stamp_of};
 ghost use Rattle.procedures.specs.Kinds.{is_refusal, may_make_file, only_tells, tells_failure};
+ghost use Rattle.procedures.specs.Stamps.{IsKeptOrMade};
 ghost use Rattle.procedures.specs.Step.{numbered_step, step};
 
 /// Where the number of a new file is known, a call has one reply and one next tree.
@@ -45,6 +48,14 @@ pub fn what_only_tells_leaves_the_tree()
 pub fn no_step_tells_a_failure()
     ensures { (tree next : Tree) (ctx : Ctx) (asked : Call) (reply : Reply)
         → step tree ctx asked reply next → tells_failure reply ≡ false }
+{}
+
+/// Each file behind a step was there with its stamp, or the step made it: under a number that was unused, with
+/// the stamp of its own transaction.
+pub fn each_file_was_there_or_is_made_now()
+    ensures { (tree next : Tree) (ctx : Ctx) (asked : Call) (reply : Reply) (number : ℕ) (node : Node)
+        → step tree ctx asked reply next → node_at next number ≡ Some node
+        → IsKeptOrMade tree number node.stamp (stamp_of ctx) }
 {}
 
 /// A step makes no file with a later boot in its stamp: where none has one above a bound and the store's boot

@@ -7,7 +7,7 @@ pub mod NoRing
 pub mod Later
 pub mod FailedCalls
 pub mod DeviceCalls
-pub mod OneLife
+pub mod OneBoot
 pub mod Called
 pub mod ToldOf
 pub mod ToldLog

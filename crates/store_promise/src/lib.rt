@@ -40,7 +40,7 @@ pub use open_store::{
 };
 pub use promises::{
     a_device_call_is_the_one_that_is_told, a_failure_is_told_of_its_own_call,
-    a_failure_that_is_told_was_counted, a_run_is_one_life, a_run_of_no_events_keeps_the_promise,
+    a_failure_that_is_told_was_counted, a_run_is_of_one_boot, a_run_of_no_events_keeps_the_promise,
     a_stop_leaves_an_image, an_answer_of_io_has_its_failed_call, an_entry_was_called,
     each_procedure_has_a_number_of_its_own, every_event_is_taken, half_a_group_breaks_the_promise,
     no_procedure_is_answered_twice, no_stable_answer_bears_place_0,

@@ -7,7 +7,7 @@ ghost use Rattle.disk.specs.declared.block.BlockNo.{BlockNo};
 ghost use Rattle.disk.specs.declared.block.Side.{Side};
 ghost use Rattle.nfs_types.specs.declared.reply.Reply.{Reply};
 ghost use Rattle.procedures.specs.After.{after};
-ghost use Rattle.procedures.specs.Histories.{IsLife};
+ghost use Rattle.procedures.specs.Histories.{IsOfOneBoot};
 ghost use Rattle.model.specs.Tree.{Tree};
 ghost use Rattle.layout.specs.Homes.{homes_of};
 ghost use Rattle.wal_law.specs.Overlay.{over};
@@ -214,11 +214,11 @@ pub fn the_history_is_in_order()
         → KeepsPromise before later tree first workers events t → ⊥ }
 {}
 
-/// What a run commits is one life of its boot: no two procedures have one stamp, in whatever order they were
-/// committed. So a handle that was stale names no file again, from boot to boot.
-pub fn a_run_is_one_life()
+/// What a run commits is of its boot, and no two procedures have one stamp, in whatever order they were
+/// committed.
+pub fn a_run_is_of_one_boot()
     ensures { (before later : Device) (tree : Tree) (first workers : ℕ) (events : Schedule) (t : Transcript)
-        → KeepsPromise before later tree first workers events t → IsLife (first + 1) (entries_of t) }
+        → KeepsPromise before later tree first workers events t → IsOfOneBoot (first + 1) (entries_of t) }
 {}
 
 /// Two procedures of one transaction number break the promise: a call that begins anew takes another.

@@ -2,7 +2,7 @@
 use Rattle.std.proofs.Common.{◌≡◌, ◌∙◌, refl, ap, sym, ℕ, zero, suc, List, [], ◌∷◌, map, slice_get, Some}
 use Rattle.model.specs.Entry.{Entry}
 use Rattle.nfs_types.specs.declared.ctx.Ctx.{Ctx}
-use Rattle.procedures.specs.Histories.{AreOfBoot, IsLife}
+use Rattle.procedures.specs.Histories.{AreOfBoot, IsOfOneBoot}
 use Rattle.store_promise.specs.declared.transcript.Committed.{Committed}
 use Rattle.store_promise.specs.History.{IsHistory}
 use Rattle.store_promise.specs.Schedule.{Schedule}
@@ -21,9 +21,9 @@ of_boot : (boot : ℕ) (cs : List Committed)
 of_boot boot [] each = tt
 of_boot boot (c ∷ cs) each = (each 0 c refl, of_boot boot cs (λ index c is. each (suc index) c is))
 
-pub one_life : (events : Schedule) (t : Transcript) (boot : ℕ) → t.boot ≡ boot → IsHistory events t
-    → IsLife boot (entries_of t)
-one_life events t boot boot_is history = record {
+pub of_one_boot : (events : Schedule) (t : Transcript) (boot : ℕ) → t.boot ≡ boot → IsHistory events t
+    → IsOfOneBoot boot (entries_of t)
+of_one_boot events t boot boot_is history = record {
   boots = of_boot boot t.history (λ index c is.
       ap (λ (ctx : Ctx). ctx.boot) (history.each index c is).ctx ∙ boot_is);
   numbers = λ one other a b is so same.
