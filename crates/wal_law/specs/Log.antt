@@ -1,8 +1,8 @@
 -- The memory log: the changes that aren't home yet, and how far the logger and the installer have come with
 -- them.
-use Rattle.std.specs.Prelude.{◌≡◌, ℕ, ◌+◌, ◌-◌, ◌≤◌, ◌<◌, ◌^◌, Bool, false, if◌then◌else◌, nat_eq, List, []}
-use Rattle.std.specs.Prelude.{◌∷◌, length, drop, map, Option, Some, None, All}
-use Rattle.std.specs.List.{list_any}
+use Rattle.std.specs.Prelude.{◌≡◌, ℕ, ◌+◌, ◌-◌, ◌≤◌, ◌<◌, ◌^◌, Bool, false, not, if◌then◌else◌, nat_eq, List}
+use Rattle.std.specs.Prelude.{[], ◌∷◌, length, drop, map, Option, Some, None, All}
+use Rattle.std.specs.List.{filter, list_any}
 use Rattle.limits.specs.declared.TheConstants.{LOG_SLOTS, FIRST_HOME_BLOCK}
 use Rattle.disk.specs.Device.{Content}
 use Rattle.disk.specs.declared.block.BlockNo.{BlockNo}
@@ -87,9 +87,9 @@ abbrev pub AreOnce : List BlockNo → Type 0
 AreOnce [] = Unit {0}
 AreOnce (block ∷ later) = (is_among block later ≡ false) × AreOnce later
 
--- which blocks more a tail of these holds by a group that changes those: all of them, while it keeps each change
+-- those of the blocks that a tail of these lacks: what it gets more by a group that changes them
 abbrev pub new_blocks : List BlockNo → List BlockNo → List BlockNo
-new_blocks tail blocks = blocks
+new_blocks tail blocks = filter (λ block. not (is_among block tail)) blocks
 
 -- how many blocks more the tail holds by a group that changes these
 abbrev pub added_blocks : Log → List BlockNo → ℕ
@@ -169,3 +169,5 @@ pub record IsLawful (log : Log) : Type 0 where
   pub homes : All (λ (change : LogChange). IsHomeOn log.blocks change.block) log.changes
   pub rising : IsRising log.changes log.places
   pub committed : All IsCommitted (drop log.logged log.changes)
+  -- the open tail has one change of each of its blocks
+  pub once : AreOnce (tail_blocks log)
