@@ -1,0 +1,9 @@
+pub mod Made
+pub mod Marks
+pub mod Named
+pub mod NamedInImage
+pub mod Nodes
+pub mod Reached
+pub mod Room
+pub mod Whole
+pub mod WholeBack

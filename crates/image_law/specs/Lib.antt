@@ -1,0 +1,2 @@
+pub mod TreeOf
+pub mod Whole
