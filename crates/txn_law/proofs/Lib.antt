@@ -18,6 +18,7 @@ pub mod Laid
 pub mod Leaves
 pub mod Memory
 pub mod Moves
+pub mod Once
 pub mod OtherHome
 pub mod OtherReads
 pub mod Others

@@ -1,20 +1,20 @@
 -- Lemmas: what the methods do, as the layers above see it.
 use Rattle.std.proofs.Common.{◌≡◌, ℕ, ◌+◌, ◌-◌, ◌≤◌, List, [], ◌∷◌, ◌++◌, length, drop, take, Option, Some}
 use Rattle.std.proofs.Common.{None, suc, ne_eqb, refl, sym, ap, subst, ◌∙◌, arith, IsNone, IsSome, Bool, true}
-use Rattle.std.proofs.Common.{false, ◌&&◌, nat_eq, nat_lt, if◌then◌else◌, length-append}
-use Rattle.std.proofs.lemmas.List.{drop-append-le, take-append-drop, drop-drop, length-drop}
+use Rattle.std.proofs.Common.{false, ◌&&◌, nat_eq, nat_lt, if◌then◌else◌}
+use Rattle.std.proofs.lemmas.List.{drop-append-le, take-append-drop, drop-drop, length-drop, map-append}
 use Rattle.std.proofs.lemmas.Bool.Decides.{nat_tests}
 use Rattle.disk.specs.Device.{Content}
 use Rattle.disk.specs.declared.block.BlockNo.{BlockNo}
 use Rattle.wal_law.specs.declared.change.LogChange.{LogChange}
 use Rattle.wal_law.specs.Log.{Log, IsLawful, or_else, newest_of, place_before, settled_place, changes_of}
+use Rattle.wal_law.specs.Log.{blocks_of, changed_blocks, tail_blocks}
 use Rattle.wal_law.specs.Room.{with_group}
 use Rattle.wal_law.specs.Logger.{with_log_out, with_log_made, with_log_back}
 use Rattle.wal_law.specs.Installer.{next_home, with_inst_out, with_inst_made, with_inst_back, with_installed}
 use Rattle.wal_law.specs.Effects.{HasAppended, HasGoneOn}
 use Rattle.wal_law.proofs.Newest.{newest_of-append}
 use Rattle.wal_law.proofs.Places.{place_before-drop-le, rising-drop}
-use Rattle.wal_law.proofs.Lawful.{length-changes_of, length-blocks_of}
 
 -- the place of a group's changes doesn't matter for its contents
 newest_of-group : (p q : ℕ) (group : List (BlockNo × Content)) (block : ℕ)
@@ -53,13 +53,16 @@ place_before-append [] places (change ∷ group) = let e : places + 1 - 1 ≡ pl
     rw (not_empty (length group)) e
 place_before-append (x ∷ xs) places group = rw (not_empty (length xs)) refl
 
+blocks-group : (place : ℕ) (group : List (BlockNo × Content))
+    → changed_blocks (changes_of place group) ≡ blocks_of group
+blocks-group place [] = refl
+blocks-group place (change ∷ group) = ap (λ bs. change.0 ∷ bs) (blocks-group place group)
+
 pub seen_append : (log : Log) (group : List (BlockNo × Content)) → IsLawful log
     → HasAppended log group (with_group log group)
 seen_append log group h =
     let new : List LogChange = changes_of (log.places + 1) group in
     let within : log.logged ≤ length log.changes = omega (arith, h.taken_within) in
-    let n : length (log.changes ++ new) ≡ length log.changes + length group = length-append log.changes new
-    ∙ ap (λ k. length log.changes + k) (length-changes_of (log.places + 1) group) in
     record {
       blocks = refl;
       broken = refl;
@@ -67,7 +70,9 @@ seen_append log group h =
       newest_content = λ block. newest_of-append log.changes new block
           ∙ ap (λ o. or_else o (newest_of log.changes block))
           (newest_of-group (log.places + 1) 0 group block);
-      tail = omega (arith, n, length-blocks_of group, h.taken_within);
+      tail = ap changed_blocks (drop-append-le (log.logged + log.taken) log.changes new h.taken_within)
+          ∙ map-append (λ (change : LogChange). change.block) (drop (log.logged + log.taken) log.changes) new
+          ∙ ap (λ bs. tail_blocks log ++ bs) (blocks-group (log.places + 1) group);
       settled = rw (drop-append-le log.logged log.changes new within)
           (place_before-append (drop log.logged log.changes) log.places group);
       installed = place_before-append log.changes log.places group;

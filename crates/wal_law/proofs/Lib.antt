@@ -17,3 +17,4 @@ pub mod Effects
 pub mod Beside
 pub mod OnlyRead
 pub mod Ends
+pub mod Tail
