@@ -1,12 +1,11 @@
-# How the program is built, as ./nfsd and ./check do it. They set `root`, the checkout's top, and read stamp.bash
-# first.
+# How the proved program is built, as ./nfsd and ./check do it; scripts/unproved.bash has the other one. They set `root`, the
+# checkout's top, and read stamp.bash first.
 
-log=$kept/nfsd.log
-lock_file=$kept/nfsd.lock
 # The last crate that was announced.
 announced=
-# The command that this process waits for.
+# The command that this process waits for, and the folder that is removed when the build ends before it is done.
 child=
+room=
 
 say() {
     echo "$*" >&2 || true
@@ -37,18 +36,23 @@ can_write() {
     fi
 }
 
-# Where a build can't be written, says so before an hour is spent on it.
+# Where a build can't be written, says so before an hour is spent on it. What it writes beside its own files is given.
 stop_unless_writable() {
-    local it places=("$kept" "$lock_file" "$log" "$begun" "$stamp" "$list") name
-    for name in "${order[@]}"; do
-        places+=("$root/crates/$name/out")
-    done
+    local it
     mkdir -p "$kept" 2>/dev/null || true
-    for it in "${places[@]}"; do
+    for it in "$kept" "$lock_file" "$log" "$begun" "$stamp" "$list" "$@"; do
         if ! can_write "$it"; then
             stop "$it can't be written, and the program has to be built in this checkout first:" \
-                "run $root/nfsd --help as a user who may write there"
+                "run $root/$builder --help as a user who may write there"
         fi
+    done
+}
+
+# The folders in which rt keeps what it proves.
+proof_folders() {
+    local name
+    for name in "${order[@]}"; do
+        echo "$root/crates/$name/out"
     done
 }
 
@@ -60,7 +64,7 @@ hold_lock() {
     exec {lock}>>"$lock_file"
     flock -n -E 75 "$lock" || status=$?
     if [ "$status" = 75 ]; then
-        say "${0##*/}: waiting for another build of this checkout. A ./nfsd keeps what it prints in $log"
+        say "${0##*/}: waiting for another build of this checkout. A ./$builder keeps what it prints in $log"
     fi
     while [ "$status" = 75 ]; do
         status=0
@@ -80,6 +84,10 @@ give_up() {
     fi
     if [ "$has_begun" = yes ]; then
         rm -f "$begun" "$begun.text"
+        if [ -n "$room" ]; then
+            wait "$child" 2>/dev/null || true
+            rm -rf "$room"
+        fi
     fi
 }
 
@@ -136,19 +144,21 @@ prove_and_build() {
     say "${0##*/}: built in $(((SECONDS - began) / 60)) min: $program"
 }
 
-# Builds the program, unless it is the same still, or another call built it while this one waited.
+# Builds the program by this command, unless it is the same still, or another call built it while this one waited. What the
+# command writes beside the files of the build is given.
 build() {
     order_crates
     if is_same; then
         return
     fi
     rt=$(find_rt) || stop "the kit's command rt is not found"
-    stop_unless_writable
+    mapfile -t places < <("$2")
+    stop_unless_writable "${places[@]}"
     trap give_up EXIT
     hold_lock
     if ! is_built && ! is_same; then
         begin_stamp
-        prove_and_build
+        "$1"
     fi
     trap - EXIT
     release_lock

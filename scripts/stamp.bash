@@ -1,16 +1,27 @@
-# Whether the program is built, as ./nfsd and ./check see it. They set `root`, the checkout's top, and read
-# build.bash too.
+# Whether a program is built: the proved one for ./nfsd and ./check, the unproved one for ./try. They set `root`, the
+# checkout's top, and read build.bash too.
 
-program=$root/crates/nfsd/out/nfsd
 # What has to outlast `rt ci` lies here, since that moves crates/*/out aside.
 kept=$root/out
-# A sum of the program and of what it was made from, and the files and folders that it was made from, below the top,
-# each ended by a zero byte. The stamp is as old as the beginning of the build; it is written last.
-stamp=$kept/nfsd.stamp
-list=$kept/nfsd.parts
-# As old as a build that hasn't ended, and whether that is one of this process.
-begun=$kept/nfsd.begun
+# Whether a build of this process has begun and not ended.
 has_begun=no
+
+# Has all that follows speak of the program that the command of this name builds, which lies here and is made from these
+# folders of each crate.
+name_program() {
+    program=$1
+    builder=$2
+    # A sum of the program and of what it was made from, and the files and folders that it was made from, below the top,
+    # each ended by a zero byte. The stamp is as old as the beginning of the build; it is written last.
+    stamp=$kept/$2.stamp
+    list=$kept/$2.parts
+    # As old as a build that hasn't ended.
+    begun=$kept/$2.begun
+    log=$kept/$2.log
+    lock_file=$kept/$2.lock
+    folders=("${@:3}")
+}
+name_program "$root/crates/nfsd/out/nfsd" nfsd src specs proofs
 
 # The crates that the program is made from, each after those that it uses, and what the lines of crates.txt name.
 order=()
@@ -48,7 +59,7 @@ parts() (
     local name part rooms=(crates.txt)
     cd "$root"
     for name in "${order[@]}"; do
-        for part in src specs proofs; do
+        for part in "${folders[@]}"; do
             if [ -d "crates/$name/$part" ]; then
                 rooms+=("crates/$name/$part")
             fi
@@ -87,7 +98,7 @@ is_built() {
 is_same() {
     local look
     [ -x "$program" ] && [ -s "$stamp" ] && [ -s "$list" ] || return 1
-    look=$(mktemp "$kept/nfsd.look.XXXXXX" 2>/dev/null) || look=
+    look=$(mktemp "$stamp.look.XXXXXX" 2>/dev/null) || look=
     if [ "$(made_from)" != "$(<"$stamp")" ]; then
         rm -f "$look"
         return 1
@@ -112,7 +123,7 @@ end_stamp() {
     parts >"$list"
     changed=$(changed_since "$begun") || changed="a folder"
     if [ -n "$changed" ]; then
-        say "${0##*/}: $changed changed in mid-build, so the next ./nfsd builds again"
+        say "${0##*/}: $changed changed in mid-build, so the next ./$builder builds again"
         rm -f "$begun.text"
     else
         touch -r "$begun" "$begun.text"

@@ -344,19 +344,3 @@ def test_who_may_not_write_the_checkout_may_run_what_is_built(place):
         assert_silent(checkout, **AS_NOBODY)
     finally:
         close(checkout.top, True)
-
-
-def test_a_try_is_told_as_unproved_and_builds_nothing(place):
-    checkout, folder = Checkout(place), place.path("a folder")
-    os.mkdir(folder)
-    arguments = ["once", "an image", "--time", "2000", place.path("another")]
-    ran = checkout.run(arguments, DATA, name="try", cwd=folder)
-    given = ["once", os.path.join(os.path.realpath(folder), "an image"), "--time", "2000", place.path("another")]
-    shown = [os.path.realpath(checkout.path("crates/nfsd")), "try", "--", *given]
-    same("what rt is called with", ran.output, "".join(f"{it}\n" for it in shown).encode() + DATA)
-    proved = os.path.realpath(checkout.command())
-    said = f"try: this program isn't proved. {proved} proves the program and runs that\n"
-    same("standard error", ran.errors.decode(), said)
-    same("status", ran.status, 3)
-    same("calls of rt", len(checkout.calls()), 1)
-    is_so("something was built", not os.path.exists(checkout.path("out")))

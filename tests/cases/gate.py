@@ -100,7 +100,7 @@ def test_a_program_that_the_gate_did_not_leave_is_built(place):
     checkout = checkout_of(place)
     with open(os.path.join(checkout.room, "rt"), encoding="utf-8") as file:
         text = file.read()
-    checkout.put("rt", text.replace('make_program crates/nfsd/out', ":"))
+    checkout.put("rt", text.replace("make_program crates/nfsd/out/nfsd", ":"))
     lines = checked(checkout, "45 passed, 0 failed", 0)
     is_so("nothing tells of it", [it for it in lines if "rt ci left no program" in it])
     same("calls of rt", [it for _, it in checkout.calls()], ["ci", "run -- --help"])

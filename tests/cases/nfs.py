@@ -44,6 +44,32 @@ def read_opaque(data, at):
 
 
 OPAQUE = Code(wire.opaque, read_opaque)
+
+
+def bounded(most):
+    """Bytes of which a reader takes at most so many. The writer has no bound, to spell what is refused."""
+
+    def read(data, at):
+        found, at = read_opaque(data, at)
+        if len(found) > most:
+            raise ValueError(f"{len(found)} bytes and not {most} at most")
+        return found, at
+
+    return Code(wire.opaque, read)
+
+
+def below(count):
+    """A number of an enum whose values are 0, 1 and so on."""
+
+    def read(data, at):
+        found, at = WORD.read(data, at)
+        if found >= count:
+            raise ValueError(f"{found} is none of {count} values")
+        return found, at
+
+    return Code(WORD.write, read)
+
+
 EIGHT = Code(lambda value: value, lambda data, at: read_fixed(data, at, 8))
 
 
@@ -103,6 +129,8 @@ REGULAR, DIRECTORY, BLOCK, CHARACTER, LINK_TYPE, SOCKET, FIFO = range(1, 8)
 OK, PERM, NOENT, IO, ACCES, EXIST, NOTDIR, ISDIR, INVAL = 0, 1, 2, 5, 13, 17, 20, 21, 22
 FBIG, NOSPC, MLINK, NAMETOOLONG, NOTEMPTY, STALE = 27, 28, 31, 63, 66, 70
 BADHANDLE, NOT_SYNC, BAD_COOKIE, NOTSUPP, TOOSMALL, SERVERFAULT = range(10001, 10007)
+STATUSES = {OK, PERM, NOENT, IO, ACCES, EXIST, NOTDIR, ISDIR, INVAL, FBIG, NOSPC, MLINK, NAMETOOLONG, NOTEMPTY, STALE,
+            *range(BADHANDLE, SERVERFAULT + 1)}
 # The bits of ACCESS, the kinds of CREATE, and how stable a WRITE is.
 MAY_READ, MAY_LOOKUP, MAY_MODIFY, MAY_EXTEND, MAY_DELETE, MAY_EXECUTE = 1, 2, 4, 8, 16, 32
 UNCHECKED, GUARDED, EXCLUSIVE = 0, 1, 2
@@ -115,7 +143,7 @@ Attributes, ATTRIBUTES = fields(
     file_system=DOUBLE, number=DOUBLE, atime=TIME, mtime=TIME, ctime=TIME)
 Before, BEFORE = fields("Before", size=DOUBLE, mtime=TIME, ctime=TIME)
 # What is told of a file (`post_op_attr`), of a new one's handle (`post_op_fh3`), and of a change (`wcc_data`).
-TOLD, NEW_HANDLE = optional(ATTRIBUTES), optional(OPAQUE)
+TOLD, NEW_HANDLE = optional(ATTRIBUTES), optional(bounded(64))
 Change, CHANGE = fields("Change", before=optional(BEFORE), after=TOLD)
 # What a time is set to (`set_atime`): it stays, is the server's, or the client's.
 KEPT, SERVER_TIME = (0, None), (1, None)
@@ -175,7 +203,7 @@ def read_whole(code, data):
 
 
 # NULL has neither arguments nor a result, not even a status: `wire` spells its call and its reply.
-HANDLE, NAME = OPAQUE, OPAQUE
+HANDLE, NAME = bounded(64), OPAQUE
 CHANGED = {"change": CHANGE}
 MADE = {"object": NEW_HANDLE, "attributes": TOLD, "change": CHANGE}
 MOVED = {"source": CHANGE, "target": CHANGE}
@@ -197,7 +225,7 @@ ACCESS = Procedure("ACCESS", 4, {**ASKED, "rights": WORD}, {**TELLS, "rights": W
 READLINK = Procedure("READLINK", 5, ASKED, {**TELLS, "target": OPAQUE}, TELLS)
 READ = Procedure("READ", 6, {**ASKED, "offset": DOUBLE, "count": WORD},
                  {**TELLS, "count": WORD, "eof": FLAG, "data": OPAQUE}, TELLS)
-WRITE = Procedure("WRITE", 7, {**ASKED, "offset": DOUBLE, "count": WORD, "stable": WORD, "data": OPAQUE},
+WRITE = Procedure("WRITE", 7, {**ASKED, "offset": DOUBLE, "count": WORD, "stable": below(3), "data": OPAQUE},
                   {**CHANGED, "count": WORD, "committed": WORD, "verifier": EIGHT}, CHANGED)
 CREATE = Procedure("CREATE", 8, {**NAMED, "how": HOW}, MADE, CHANGED)
 MKDIR = Procedure("MKDIR", 9, {**NAMED, "attributes": NEW_ATTRIBUTES}, MADE, CHANGED)

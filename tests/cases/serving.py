@@ -9,7 +9,7 @@ import time
 from cases import images, nfs, wire
 from cases.conversing import ROOT, ROOT_USER
 from cases.running import MADE, NEW_MODE, expect, is_so, same
-from cases.tcp import MNT, UMNT, Server, is_closed, mount_call, mounted, next_reply, replies, spent
+from cases.tcp import LOCAL, MNT, UMNT, Server, is_closed, mount_call, mounted, next_reply, replies, spent
 
 CALLER = nfs.credential(*ROOT_USER)
 # The most connections at once.
@@ -344,6 +344,20 @@ def test_an_address_that_is_taken_is_told(place):
     place.attributes(image, NEW_MODE, MADE, "the image that wasn't served")
     assert_serves(taken)
     taken.end()
+
+
+def test_another_address_of_the_machine_is_refused(place):
+    """It listens where it was told to, and at no other address that leads to this machine."""
+    server = Server(place, place.image(), connections=1)
+    for other in "127.0.0.2", "127.0.1.1", "127.255.255.254":
+        try:
+            socket.create_connection((other, server.port)).close()
+        except ConnectionRefusedError:
+            continue
+        raise AssertionError(f"a server at {LOCAL} is reached at {other}")
+    # None of these was a connection of it: the first one ends it.
+    assert_serves(server)
+    server.end()
 
 
 def test_it_ends_after_so_many_connections_with_all_settled(place):

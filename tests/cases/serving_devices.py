@@ -7,7 +7,7 @@ import threading
 
 from cases import nfs, wire
 from cases.allocations import library
-from cases.conversing import ROOT
+from cases.conversing import ROOT, ROOT_USER
 from cases.running import MADE, Skipped, expect, is_so, same, wait_until
 from cases.serving_kills import CLIENTS, Worker, assert_kept, moments_of, tree_of
 from cases.tcp import Server, next_reply
@@ -98,6 +98,59 @@ def test_a_read_is_answered_while_a_settling_waits(place):
     same("the reply's number", next_reply(first.stream)[:4], wire.words(9))
     first.close()
     second.close()
+    server.end()
+
+
+def written_and_not_settled(place, signs):
+    """A server that holds each settling, with a file whose bytes were written UNSTABLE meanwhile: two clients of it, the
+    file and its bytes, and what the WRITEs told as their verifier."""
+    server = Server(place, place.path("image"), workers=4, **signs.given)
+    first, second = server.client(), server.client()
+    file, data = first.create(ROOT, b"a"), os.urandom(3 * 4096)
+    signs.set("hold barrier")
+    told = {first.write(file, at, data[at : at + 4096], nfs.UNSTABLE).verifier for at in range(0, len(data), 4096)}
+    same("verifiers of the WRITEs", len(told), 1)
+    return server, first, second, file, data, told.pop()
+
+
+def asked_to_commit(first, second, file, data):
+    """Sends a COMMIT, and sees that what comes behind it is answered and it is not."""
+    caller = nfs.credential(*ROOT_USER)
+    first.stream.sendall(nfs.COMMIT.call(901, caller, file, 0, 0) + nfs.GETATTR.call(902, caller, file))
+    same("the first reply's number", next_reply(first.stream)[:4], wire.words(902))
+    same("what the other reads", second.read(file), data)
+    is_so("a COMMIT was answered before it was settled", not select.select([first.stream], [], [], 0)[0])
+
+
+def test_a_commit_waits_for_its_settling_and_its_bytes_outlast_a_kill(place):
+    place.image()
+    signs = Signs(place)
+    server, first, second, file, data, verifier = written_and_not_settled(place, signs)
+    asked_to_commit(first, second, file, data)
+    signs.wait()
+    signs.clear("hold barrier")
+    message = next_reply(first.stream)
+    status, told = nfs.COMMIT.read_result(nfs.result_of(message))
+    same("the COMMIT", (message[:4], status, told.verifier), (wire.words(901), nfs.OK, verifier))
+    server.kill()
+    same("what the next server reads", tree_of(place, place.path("image")), {b"a": data})
+
+
+def test_a_kill_before_a_commit_is_answered_is_told_by_the_verifier(place):
+    place.image()
+    signs = Signs(place)
+    server, first, second, file, data, verifier = written_and_not_settled(place, signs)
+    asked_to_commit(first, second, file, data)
+    server.kill()
+    signs.clear("hold barrier")
+    server = Server(place, place.path("image"), connections=1)
+    client = server.client()
+    is_so("a new boot has the verifier of the old one", client.do(nfs.COMMIT, file, 0, 0).verifier != verifier)
+    # Each block is there as it was written, or not at all.
+    found = client.read(file).ljust(len(data), b"\0")
+    for at in range(0, len(data), 4096):
+        is_so(f"the block from {at} on is neither", found[at : at + 4096] in (data[at : at + 4096], bytes(4096)))
+    client.close()
     server.end()
 
 

@@ -1,12 +1,13 @@
-"""`serve` is killed under load: what was answered as durable is there again."""
+"""`serve` is killed: under load what was answered as durable is there again, and the next boot tells of itself as another
+one."""
 
 import random
 import threading
 import time
 
-from cases import nfs
+from cases import checking, images, nfs
 from cases.conversing import ROOT, ROOT_USER
-from cases.running import same, wait_until
+from cases.running import is_so, same, wait_until
 from cases.tcp import Server
 
 CALLER = nfs.credential(*ROOT_USER)
@@ -100,3 +101,43 @@ def assert_kept(what, worker, found):
         worker.known.pop(name, None)
         if name in found:
             worker.known[name] = found[name]
+
+
+def test_behind_a_kill_a_commit_tells_another_verifier(place):
+    """So a client sees that what it wrote UNSTABLE may be lost (RFC 1813, section 3.3.7)."""
+    image, told = place.image(), []
+    for boot in range(4):
+        server = Server(place, image)
+        client = server.client()
+        file = client.find(ROOT, b"a") if boot else client.create(ROOT, b"a")
+        committed = client.do(nfs.COMMIT, file, 0, 0).verifier
+        # Within a boot it stays: nothing is to be written again.
+        wrote = client.write(file, 0, b"boot %d" % boot, nfs.UNSTABLE)
+        same(f"boot {boot}: what a WRITE tells", (wrote.committed, wrote.verifier), (nfs.UNSTABLE, committed))
+        same(f"boot {boot}: another client's", server.client().do(nfs.COMMIT, file, 0, 0).verifier, committed)
+        client.write(file, 0, b"lost or kept", nfs.UNSTABLE)
+        is_so(f"boot {boot} tells the verifier of an earlier one", committed not in told)
+        told.append(committed)
+        server.kill()
+
+
+def test_behind_a_kill_no_file_has_the_handle_of_a_removed_one(place):
+    # One number of an inode is free, so each new file takes that one.
+    tree = images.Image(images.directory({b"%d" % it: images.regular() for it in range(29)}), inodes=32)
+    image, removed = tree.write(place.path("image")), []
+    same("the numbers that are free", tree.free_files, 1)
+    for boot in range(4):
+        server = Server(place, image)
+        client = server.client()
+        file = client.create(ROOT, b"a", b"secret %d" % boot)
+        # A file of an earlier boot stays lost, also where its number is in use again.
+        for old in removed:
+            for procedure, *more in (nfs.GETATTR,), (nfs.READ, 0, 100), (nfs.WRITE, 0, 1, nfs.FILE_SYNC, b"x"):
+                client.refuse(nfs.STALE, procedure, old, *more)
+        is_so(f"boot {boot}: the new file has the handle of a removed one", file not in removed)
+        same(f"boot {boot}: its bytes", client.read(file), b"secret %d" % boot)
+        client.do(nfs.REMOVE, ROOT, b"a")
+        client.refuse(nfs.STALE, nfs.GETATTR, file)
+        removed.append(file)
+        server.kill()
+    same("why the image is bad", checking.why_bad(image), None)

@@ -1,1 +1,3 @@
 pub mod Moments
+pub mod Outbox
+pub mod Parked

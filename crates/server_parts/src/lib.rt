@@ -3,17 +3,25 @@
 #![tactic(auto)]
 
 mod bell;
+mod free_numbers;
 mod free_seats;
 mod moments;
+mod outbox;
 mod outgoing;
 mod parking;
 mod replies;
 mod rounds;
+mod unheard;
+mod waiting;
 
-pub use bell::{Bell, Rung};
+pub use bell::Bell;
+pub use free_numbers::FreeNumbers;
 pub use free_seats::FreeSeats;
 pub use moments::{Moments, moment_of};
+pub use outbox::{Offer, Outbox};
 pub use outgoing::Outgoing;
-pub use parking::{Parked, Parking, Waiting};
+pub use parking::Parking;
 pub use replies::Replies;
 pub use rounds::Rounds;
+pub use unheard::{Rung, Unheard};
+pub use waiting::{Next, Parked, Waiting};

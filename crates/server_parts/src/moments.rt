@@ -1,5 +1,5 @@
 //! The moments of calls.
-ghost use Rattle.std.specs.Prelude.{◌≡◌, ◌+◌, ◌<◌, ◌≤◌, ◌≢◌, ◌↔◌, Some, IfSome, IsTrue};
+ghost use Rattle.std.specs.Prelude.{◌≡◌, ◌+◌, ◌*◌, ◌^◌, ◌<◌, ◌≤◌, ◌≢◌, ◌↔◌, Some, IfSome, IfNone, IsTrue};
 ghost use Rattle.std.specs.Duration.{as_nanos};
 ghost use Rattle.limits.specs.declared.TheConstants.{NANOSECONDS};
 ghost use Rattle.server_parts.specs.Moments.{IsPast, greatest, since_1970};
@@ -84,6 +84,7 @@ fn after(moment: Moment) -> Moment
 pub fn moment_of(time: Duration) -> Option<Moment>
     ensures whole { IfSome result (λ moment. moment.nanoseconds < NANOSECONDS) }
     ensures same { IfSome result (λ moment. since_1970 moment ≡ as_nanos time) }
+    ensures none { IfNone result (2 ^ 32 * NANOSECONDS ≤ as_nanos time) }
 {
     let seconds = u32::try_from(time.as_secs()).ok()?;
     Some(Moment {

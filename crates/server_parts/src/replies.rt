@@ -1,5 +1,6 @@
 //! Replies that wait to be written to a connection.
-ghost use Rattle.std.specs.Prelude.{◌≡◌, ◌++◌, [], true, false, IfSome, IfNone, length, OnOk, OnErr, IsTrue, IsFalse};
+ghost use Rattle.std.specs.Prelude.{◌≡◌, ◌≢◌, ◌+◌, ◌<◌, ◌++◌, ◌||◌, ◌↔◌, [], true, false, IfSome, IfNone, length, OnOk, OnErr, IsTrue};
+ghost use Rattle.std.specs.Vec.{vec_capacity};
 
 use std::alloc::{AllocError, Global};
 use std::mem;
@@ -38,10 +39,12 @@ impl Replies {
         self.writing
     }
 
-    /// Puts bytes behind those that wait: all of them, or none where memory is refused.
+    /// Puts bytes behind those that wait: all of them, or none where memory is refused, which is never so while the
+    /// buffer has room for them.
     pub fn put(&mut self, bytes: &[u8]) -> Result<(), AllocError>
         ensures put { OnOk result (self.new.pending.items ≡ self.old.pending.items ++ bytes.now) }
         ensures kept { OnErr result (self.new.pending.items ≡ self.old.pending.items) }
+        ensures full { OnErr result (vec_capacity self.old.pending < length self.old.pending.items + length bytes.now) }
         ensures writing { self.new.writing ≡ self.old.writing }
     {
         self.pending.extend_from_slice(bytes)
@@ -50,10 +53,9 @@ impl Replies {
     /// Makes the calling thread the one that writes, where nothing waits and no other thread writes: what it
     /// writes next comes behind all that was put.
     pub fn begin(&mut self) -> bool
-        ensures begun { IsTrue result → (self.old.pending.items ≡ []) × (self.old.writing ≡ false)
-            × (self.new.writing ≡ true) }
+        ensures begun { IsTrue result ↔ ((self.old.pending.items ≡ []) × (self.old.writing ≡ false)) }
+        ensures writing { self.new.writing ≡ (self.old.writing || result) }
         ensures pending { self.new.pending ≡ self.old.pending }
-        ensures left { IsFalse result → self.new ≡ self.old }
     {
         if self.writing || !self.pending.is_empty() {
             return false;
@@ -65,7 +67,7 @@ impl Replies {
     /// Hands the thread that writes all that waits, for a buffer that is used again. Where nothing waits, no
     /// thread writes any more.
     pub fn take(&mut self, used: Vec<u8>) -> Option<Vec<u8>>
-        ensures taken { IfSome result (λ bytes. (bytes.items ≡ self.old.pending.items)
+        ensures taken { IfSome result (λ bytes. (bytes.items ≡ self.old.pending.items) × (bytes.items ≢ [])
             × (self.new.pending.items ≡ []) × (self.new.writing ≡ true)) }
         ensures nothing { IfNone result ((self.old.pending.items ≡ []) × (self.new.pending.items ≡ [])
             × (self.new.writing ≡ false)) }

@@ -21,7 +21,6 @@ pub use Rattle.txn_law.specs.Lists
 pub use Rattle.txn_law.specs.Fetched
 pub use Rattle.txn_law.specs.Steps
 pub use Rattle.txn_law.specs.Commit
-pub use Rattle.txn_law.specs.Absorb
 pub use Rattle.txn_law.specs.HomeRead
 pub use Rattle.txn_law.specs.Tidy
 pub use Rattle.txn_law.specs.CoreLaw

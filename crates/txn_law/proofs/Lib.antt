@@ -1,4 +1,3 @@
-pub mod Absorption
 pub mod Again
 pub mod Alone
 pub mod Beside
@@ -17,6 +16,7 @@ pub mod Installed
 pub mod Laid
 pub mod Leaves
 pub mod Memory
+pub mod Once
 pub mod Moves
 pub mod OtherHome
 pub mod OtherReads

@@ -1,19 +1,16 @@
 -- The blocks that objects lie in.
-use Rattle.std.specs.Prelude.{◌≡◌, Bool, if◌then◌else◌, Option, Some, None, List, [], ◌∷◌, ◌++◌}
+use Rattle.std.specs.Prelude.{◌≡◌, if◌then◌else◌, Option, Some, None, List, [], ◌∷◌, ◌++◌}
 use Rattle.std.specs.Prelude.{nat_eq, replicate}
 use Rattle.limits.specs.declared.TheConstants.{BLOCK_BYTES}
 use Rattle.disk.specs.Device.{Content}
-use Rattle.std.specs.List.{list_any}
 use Rattle.objects.specs.Spliced.{spliced}
 use Rattle.disk.specs.declared.block.BlockNo.{BlockNo}
 use Rattle.wal_law.specs.Log.{Log, newest}
+-- for the crates above
+pub use Rattle.wal_law.specs.Log.{is_among}
 use Rattle.objects.specs.Object.{ObjectBytes}
 use Rattle.objects.specs.Present.{present_of, content_in}
 use Rattle.objects.specs.declared.present.Present.{Present}
-
--- whether the block is among these
-abbrev pub is_among : BlockNo → List BlockNo → Bool
-is_among block blocks = list_any (λ b. nat_eq b.0 block.0) blocks
 
 -- these blocks, and then those of the objects that aren't among them yet
 abbrev pub blocks_after : List BlockNo → List ObjectBytes → List BlockNo

@@ -11,7 +11,6 @@ pub mod Lists
 pub mod Fetched
 pub mod Steps
 pub mod Commit
-pub mod Absorb
 pub mod HomeRead
 pub mod Tidy
 pub mod CoreLaw

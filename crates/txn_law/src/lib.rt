@@ -12,10 +12,10 @@ ghost use Rattle.std.specs.Prelude.{true, false, Some};
 ghost use Rattle.disk.specs.Device.{Content};
 ghost use Rattle.disk.specs.Crash.{Image};
 ghost use Rattle.disk.specs.declared.block.BlockNo.{BlockNo};
-ghost use Rattle.wal_law.specs.Log.{Log, IsLawful, newest, opened, installed_place, settled_place, tail_count};
+ghost use Rattle.wal_law.specs.Log.{Log, IsLawful, newest, opened, installed_place, settled_place};
 ghost use Rattle.wal_law.specs.Law.{IsBoundary, IsOutside, with_changes};
 ghost use Rattle.wal_law.specs.Overlay.{over};
-ghost use Rattle.wal_law.specs.Calls.{home_after, KeepsAgreement};
+ghost use Rattle.wal_law.specs.Calls.{home_after};
 ghost use Rattle.wal_law.specs.Logger.{with_log_out, with_log_back};
 ghost use Rattle.wal_law.specs.Installer.{with_inst_out, with_inst_back};
 ghost use Rattle.wal_law.specs.Grows.{GrowsBy};
@@ -37,11 +37,9 @@ ghost use Rattle.txn_law.specs.Others.{IsApartFrom, IsKeptOff, KeepsTaken};
 ghost use Rattle.txn_law.specs.Wishes.{IsBusy, IsHeld, IsOpen};
 ghost use Rattle.txn_law.specs.Commit.{Planned, IsCommitted, committed, IsReadBy, IsWrittenBy};
 ghost use Rattle.objects.specs.declared.present.Present.{Present};
-ghost use Rattle.wal_law.specs.Room.{with_group};
 ghost use Rattle.txn_law.specs.Window.{Footprint, with_objects, after_commits};
 ghost use Rattle.txn_law.specs.Window.{IsWindowOver, IsAsRead, IsCurrent, ArePinned, now_of, object_at};
 ghost use Rattle.txn_law.specs.Window.{opening};
-ghost use Rattle.txn_law.specs.Absorb.{fresh, with_absorbed};
 ghost use Rattle.txn_law.specs.Steps.{IsBrought, IsMade, with_commit, IsWholeIn};
 
 pub use hold::Hold;
@@ -132,18 +130,6 @@ pub fn a_group_is_laid_over_what_is_current()
     ensures { (present : List Present) (log : Log) (now : Image) (commit : Footprint)
         (group : List (BlockNo × Content)) → IsMade present log now commit group
         → IsBrought now commit group }
-{}
-
-/// An append that takes the place of older changes in the open tail grows the log as any other, and keeps the
-/// agreement with the disk. It adds the blocks that the tail lacks.
-pub fn an_absorbing_append_grows_the_log()
-    ensures grows { (log : Log) (group : List (BlockNo × Content)) → IsLawful log
-        → GrowsBy log group (with_absorbed log group) }
-    ensures agreement { (log : Log) (group : List (BlockNo × Content)) → IsLawful log
-        → KeepsAgreement log (with_absorbed log group) }
-    ensures tail { (log : Log) (group : List (BlockNo × Content)) → IsLawful log
-        → tail_count (with_absorbed log group)
-        ≡ tail_count log + length (fresh (drop (log.logged + log.taken) log.changes) group) }
 {}
 
 /// What the core lets go of memory was read by no commit that it keeps, whichever other blocks it spares.

@@ -134,7 +134,8 @@ impl Wal {
     pub fn added_blocks(&self, blocks: &[BlockNo]) -> usize
         ensures { result ≡ added_blocks self.now blocks.now }
     {
-        blocks.len()
+        let ahead = self.logged + self.taken;
+        search::count_new(&self.changes, ahead, blocks)
     }
 
     /// The count of the disk's blocks.

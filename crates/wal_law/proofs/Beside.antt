@@ -28,7 +28,7 @@ use Rattle.wal_law.specs.Calls.{IsInstallerAt, AgreesBeside, home_after, KeepsAg
 use Rattle.wal_law.specs.Calls.{LogCallComesBack, InstCallGoesOut, InstCallComesBack}
 use Rattle.wal_law.proofs.Contents.{keeps_read}
 use Rattle.wal_law.proofs.LogCalls.{own_kept, log_made_kept, own_called, log_made, homes_spared}
-use Rattle.wal_law.proofs.Ends.{grows}
+use Rattle.wal_law.proofs.Absorption.{grows}
 use Rattle.wal_law.proofs.LogMoves.{with_tail, beside, own_beside, log_made_beside, next_log_beside}
 use Rattle.wal_law.proofs.LogMoves.{own_out, own_made}
 use Rattle.wal_law.proofs.LogMoves.{own_appended, log_made_appended, next_log_appended, own_installed}

@@ -1,28 +1,20 @@
 -- Lemmas: what the methods do, as the layers above see it.
-use Rattle.std.proofs.Common.{◌≡◌, ℕ, ◌+◌, ◌-◌, ◌≤◌, List, [], ◌∷◌, ◌++◌, length, drop, take, Option, Some}
-use Rattle.std.proofs.Common.{None, suc, ne_eqb, refl, sym, ap, subst, ◌∙◌, arith, IsNone, IsSome, Bool, true}
-use Rattle.std.proofs.Common.{false, ◌&&◌, nat_eq, nat_lt, if◌then◌else◌, length-append}
-use Rattle.std.proofs.lemmas.List.{drop-append-le, take-append-drop, drop-drop, length-drop}
+use Rattle.std.proofs.Common.{◌≡◌, ℕ, ◌+◌, ◌-◌, ◌≤◌, List, length, drop, take, Option, Some}
+use Rattle.std.proofs.Common.{None, refl, sym, ap, subst, ◌∙◌, arith, IsNone, IsSome, Bool, true}
+use Rattle.std.proofs.Common.{false, nat_eq, nat_lt, if◌then◌else◌}
+use Rattle.std.proofs.lemmas.List.{take-append-drop, drop-drop, length-drop}
 use Rattle.std.proofs.lemmas.Bool.Decides.{nat_tests}
 use Rattle.disk.specs.Device.{Content}
 use Rattle.disk.specs.declared.block.BlockNo.{BlockNo}
 use Rattle.wal_law.specs.declared.change.LogChange.{LogChange}
-use Rattle.wal_law.specs.Log.{Log, IsLawful, or_else, newest_of, place_before, settled_place, changes_of}
+use Rattle.wal_law.specs.Log.{Log, IsLawful, or_else, newest_of, place_before, settled_place}
 use Rattle.wal_law.specs.Room.{with_group}
 use Rattle.wal_law.specs.Logger.{with_log_out, with_log_made, with_log_back}
 use Rattle.wal_law.specs.Installer.{next_home, with_inst_out, with_inst_made, with_inst_back, with_installed}
 use Rattle.wal_law.specs.Effects.{HasAppended, HasGoneOn}
 use Rattle.wal_law.proofs.Newest.{newest_of-append}
 use Rattle.wal_law.proofs.Places.{place_before-drop-le, rising-drop}
-use Rattle.wal_law.proofs.Lawful.{length-changes_of, length-blocks_of}
-
--- the place of a group's changes doesn't matter for its contents
-newest_of-group : (p q : ℕ) (group : List (BlockNo × Content)) (block : ℕ)
-    → newest_of (changes_of p group) block ≡ newest_of (changes_of q group) block
-newest_of-group p q [] block = refl
-newest_of-group p q (change ∷ group) block =
-    ap (λ o. or_else o (if nat_eq change.0.0 block then Some change.1 else None))
-    (newest_of-group p q group block)
+use Rattle.wal_law.proofs.Absorption.{grows, tail_is}
 
 -- what is in the front of a list is in the list
 front_within : (xs : List LogChange) (n : ℕ) (block : ℕ)
@@ -42,35 +34,18 @@ newest-kept xs n block =
     let e = front_within xs n block in
     rw e (or_else-again (newest_of (drop n xs) block) (newest_of (take n xs) block))
 
-not_empty : (n : ℕ) → nat_eq (suc n) 0 ≡ false
-not_empty n = ne_eqb (suc n) 0 (λ h. absurd (omega arith))
-
-place_before-append : (xs : List LogChange) (places : ℕ) (group : List (BlockNo × Content))
-    → place_before (xs ++ changes_of (places + 1) group) (places + 1)
-    ≡ (if nat_eq (length xs) 0 && nat_eq (length group) 0 then places + 1 else place_before xs places)
-place_before-append [] places [] = refl
-place_before-append [] places (change ∷ group) = let e : places + 1 - 1 ≡ places = omega arith in
-    rw (not_empty (length group)) e
-place_before-append (x ∷ xs) places group = rw (not_empty (length xs)) refl
-
 pub seen_append : (log : Log) (group : List (BlockNo × Content)) → IsLawful log
     → HasAppended log group (with_group log group)
 seen_append log group h =
-    let new : List LogChange = changes_of (log.places + 1) group in
-    let within : log.logged ≤ length log.changes = omega (arith, h.taken_within) in
-    let n : length (log.changes ++ new) ≡ length log.changes + length group = length-append log.changes new
-    ∙ ap (λ k. length log.changes + k) (length-changes_of (log.places + 1) group) in
+    let grown = grows log group h in
     record {
       blocks = refl;
       broken = refl;
       places = refl;
-      newest_content = λ block. newest_of-append log.changes new block
-          ∙ ap (λ o. or_else o (newest_of log.changes block))
-          (newest_of-group (log.places + 1) 0 group block);
-      tail = omega (arith, n, length-blocks_of group, h.taken_within);
-      settled = rw (drop-append-le log.logged log.changes new within)
-          (place_before-append (drop log.logged log.changes) log.places group);
-      installed = place_before-append log.changes log.places group;
+      newest_content = grown.behind 0 (omega arith);
+      tail = tail_is log group h;
+      settled = grown.place log.logged (omega arith);
+      installed = grown.place 0 (omega arith);
     }
 
 -- A step that lets no change go and settles none.

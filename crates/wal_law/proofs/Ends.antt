@@ -3,18 +3,16 @@ use Rattle.std.proofs.Common.{◌≡◌, ℕ, suc, ◌+◌, ◌-◌, ◌<◌, �
 use Rattle.std.proofs.Common.{List, [], ◌∷◌, ◌++◌, length, drop, All, Option, Some, None, refl, ap, ◌∙◌}
 use Rattle.std.proofs.Common.{arith, ne_eqb}
 use Rattle.std.proofs.lemmas.Bool.{eqb-true, eq-eqb}
-use Rattle.std.proofs.lemmas.List.{drop-append-le, take-append-le}
 use Rattle.std.proofs.lemmas.List.Elements.{All-head, All-tail}
 use Rattle.disk.specs.Device.{Content}
 use Rattle.disk.specs.Crash.{Image}
 use Rattle.disk.specs.declared.block.BlockNo.{BlockNo}
 use Rattle.wal_law.specs.declared.change.LogChange.{LogChange}
-use Rattle.wal_law.specs.Log.{Log, IsLawful, IsRising, IsCommitted, newest_of, or_else, place_before}
+use Rattle.wal_law.specs.Log.{IsRising, IsCommitted, newest_of, or_else, place_before}
 use Rattle.wal_law.specs.Log.{changes_of}
-use Rattle.wal_law.specs.Room.{with_group}
-use Rattle.wal_law.proofs.Newest.{newest_of-append, place_before-all}
+use Rattle.wal_law.proofs.Newest.{place_before-all}
 use Rattle.wal_law.proofs.Places.{place_before-drop-le, rising-drop}
-use Rattle.wal_law.specs.Grows.{recovered, GrowsBy}
+use Rattle.wal_law.specs.Grows.{recovered}
 
 -- images with the same contents are the same
 pub same_image : (f g : Image) → ((block : ℕ) → f block ≡ g block) → f ≡ g
@@ -95,33 +93,3 @@ newest_of-group p q [] block = refl
 newest_of-group p q (change ∷ group) block =
     ap (λ o. or_else o (if nat_eq change.0.0 block then Some change.1 else None))
     (newest_of-group p q group block)
-
--- a group that is appended is in the tail
-pub grows : (log : Log) (group : List (BlockNo × Content)) → IsLawful log
-    → GrowsBy log group (with_group log group)
-grows log group h = record {
-  places = refl;
-  installing = refl;
-  logged = refl;
-  taken = refl;
-  front = λ count le. take-append-le count log.changes new (within count le);
-  behind = λ count le block. ap (λ xs. newest_of xs block) (split count le)
-      ∙ newest_of-append (drop count log.changes) new block
-      ∙ ap (λ o. or_else o (newest_of (drop count log.changes) block))
-      (newest_of-group (log.places + 1) 0 group block);
-  place = λ count le. ap (λ xs. place_before xs (log.places + 1)) (split count le)
-      ∙ place_before-append (drop count log.changes) log.places group;
-  opened = λ count le. ap recovered (split count le) ∙ recovered-append (drop count log.changes) new
-      ∙ append_nothing (recovered (drop count log.changes)) (recovered new)
-      (recovered-group log.places group);
-}
-  where
-    new : List LogChange
-    new = changes_of (log.places + 1) group
-
-    within : (count : ℕ) → count ≤ log.logged + log.taken → count ≤ length log.changes
-    within count le = omega (arith, h.taken_within)
-
-    split : (count : ℕ) → count ≤ log.logged + log.taken
-        → drop count (log.changes ++ new) ≡ drop count log.changes ++ new
-    split count le = drop-append-le count log.changes new (within count le)

@@ -17,3 +17,6 @@ pub mod Effects
 pub mod Beside
 pub mod OnlyRead
 pub mod Ends
+pub mod Once
+pub mod Absorption
+pub mod Tail

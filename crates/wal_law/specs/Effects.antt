@@ -1,11 +1,11 @@
 -- What the methods of the memory log do, as the layers above it see the log: by the newest contents, the
--- places and the count of the tail. They hold as well for a tail that keeps one change of each block.
-use Rattle.std.specs.Prelude.{◌≡◌, ℕ, ◌+◌, ◌≤◌, Bool, true, ◌&&◌, if◌then◌else◌, nat_eq, List, length, take}
-use Rattle.std.specs.Prelude.{drop, Option}
+-- places and the blocks of the tail.
+use Rattle.std.specs.Prelude.{◌≡◌, ℕ, ◌+◌, ◌≤◌, Bool, true, ◌&&◌, if◌then◌else◌, nat_eq, List, ◌++◌, length}
+use Rattle.std.specs.Prelude.{take, drop, Option}
 use Rattle.disk.specs.Device.{Content}
 use Rattle.disk.specs.declared.block.BlockNo.{BlockNo}
 use Rattle.wal_law.specs.Log.{Log, or_else, newest_of, newest, settled_place, installed_place, tail_count}
-use Rattle.wal_law.specs.Log.{tail_after, blocks_of, changes_of}
+use Rattle.wal_law.specs.Log.{tail_blocks, new_blocks, blocks_of, changes_of}
 
 -- each change is settled in the log
 abbrev pub is_all_settled : Log → Bool
@@ -26,7 +26,7 @@ pub record HasAppended (old : Log) (group : List (BlockNo × Content)) (new : Lo
   pub broken : new.broken ≡ old.broken
   pub places : new.places ≡ old.places + 1
   pub newest_content : (block : ℕ) → newest new block ≡ or_else (newest_in group block) (newest old block)
-  pub tail : tail_count new ≡ tail_after old (blocks_of group)
+  pub tail : tail_blocks new ≡ tail_blocks old ++ new_blocks (tail_blocks old) (blocks_of group)
   pub settled : settled_place new ≡ (if is_all_settled old && nat_eq (length group) 0 then new.places
       else settled_place old)
   pub installed : installed_place new ≡ (if is_all_home old && nat_eq (length group) 0 then new.places

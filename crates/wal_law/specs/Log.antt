@@ -1,7 +1,8 @@
 -- The memory log: the changes that aren't home yet, and how far the logger and the installer have come with
 -- them.
-use Rattle.std.specs.Prelude.{◌≡◌, ℕ, ◌+◌, ◌-◌, ◌≤◌, ◌<◌, ◌^◌, Bool, false, if◌then◌else◌, nat_eq, List, []}
-use Rattle.std.specs.Prelude.{◌∷◌, length, drop, map, Option, Some, None, All}
+use Rattle.std.specs.Prelude.{◌≡◌, ℕ, ◌+◌, ◌-◌, ◌≤◌, ◌<◌, ◌^◌, Bool, false, not, if◌then◌else◌, nat_eq, List}
+use Rattle.std.specs.Prelude.{[], ◌∷◌, length, drop, map, Option, Some, None, All}
+use Rattle.std.specs.List.{filter, list_any}
 use Rattle.limits.specs.declared.TheConstants.{LOG_SLOTS, FIRST_HOME_BLOCK}
 use Rattle.disk.specs.Device.{Content}
 use Rattle.disk.specs.declared.block.BlockNo.{BlockNo}
@@ -61,13 +62,38 @@ settled_place log = place_before (drop log.logged log.changes) log.places
 abbrev pub installed_place : Log → ℕ
 installed_place log = place_before log.changes log.places
 
--- the blocks that the tail holds: what is changed and not yet taken by the logger
+-- the open tail: what is changed and not yet taken by the logger
+abbrev pub tail_of : Log → List LogChange
+tail_of log = drop (log.logged + log.taken) log.changes
+
+-- how many blocks the tail holds
 abbrev pub tail_count : Log → ℕ
 tail_count log = length log.changes - (log.logged + log.taken)
 
--- how many blocks more the tail holds by a group that changes these: all of them, while it keeps each change
+-- the blocks of changes
+abbrev pub changed_blocks : List LogChange → List BlockNo
+changed_blocks changes = map (λ (change : LogChange). change.block) changes
+
+-- the blocks that the tail holds
+abbrev pub tail_blocks : Log → List BlockNo
+tail_blocks log = changed_blocks (tail_of log)
+
+-- whether the block is among these
+abbrev pub is_among : BlockNo → List BlockNo → Bool
+is_among block blocks = list_any (λ b. nat_eq b.0 block.0) blocks
+
+-- each of the blocks stands there once
+abbrev pub AreOnce : List BlockNo → Type 0
+AreOnce [] = Unit {0}
+AreOnce (block ∷ later) = (is_among block later ≡ false) × AreOnce later
+
+-- those of the blocks that a tail of these lacks: what it gets more by a group that changes them
+abbrev pub new_blocks : List BlockNo → List BlockNo → List BlockNo
+new_blocks tail blocks = filter (λ block. not (is_among block tail)) blocks
+
+-- how many blocks more the tail holds by a group that changes these
 abbrev pub added_blocks : Log → List BlockNo → ℕ
-added_blocks log blocks = length blocks
+added_blocks log blocks = length (new_blocks (tail_blocks log) blocks)
 
 -- the blocks that the tail holds after such a group
 abbrev pub tail_after : Log → List BlockNo → ℕ
@@ -143,3 +169,5 @@ pub record IsLawful (log : Log) : Type 0 where
   pub homes : All (λ (change : LogChange). IsHomeOn log.blocks change.block) log.changes
   pub rising : IsRising log.changes log.places
   pub committed : All IsCommitted (drop log.logged log.changes)
+  -- the open tail has one change of each of its blocks
+  pub once : AreOnce (tail_blocks log)

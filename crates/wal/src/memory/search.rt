@@ -1,7 +1,8 @@
 //! Searches among changes.
 ghost use Rattle.std.specs.Prelude.{◌≡◌, ◌≤◌, ◌+◌, length, MatchOption, Some, None, take, drop, All};
 ghost use Rattle.wal_law.specs.Grows.{IsWholeChange};
-ghost use Rattle.wal_law.specs.Log.{newest_of, place_before};
+ghost use Rattle.wal.specs.Tail.{place_in};
+ghost use Rattle.wal_law.specs.Log.{changed_blocks, is_among, new_blocks, newest_of, place_before};
 ghost use Rattle.wal_law.specs.Installer.{passed_over};
 
 use crate::{LogChange, Seq};
@@ -39,6 +40,49 @@ pub(super) fn last_change(
         }
     }
     None
+}
+
+// Whether a change from an index on is of the block.
+pub(super) fn has_block(changes: &VecDeque<LogChange>, from: usize, block: BlockNo) -> bool
+    requires { from ≤ length changes.now.items }
+    ensures { result ≡ is_among block (changed_blocks (drop from changes.now.items)) }
+{
+    last_change(changes, from, changes.len(), block).is_some()
+}
+
+// Where the first change of the block stands among those from one index up to, not with, another, or the end.
+pub(super) fn place_of(
+    changes: &VecDeque<LogChange>,
+    from: usize,
+    end: usize,
+    block: BlockNo,
+) -> usize
+    requires order { from ≤ end }
+    requires end { end ≤ length changes.now.items }
+    ensures value { result ≡ from + place_in (drop from (take end changes.now.items)) block }
+    ensures within { result ≤ end }
+{
+    for i in from..end {
+        let change = &changes[i];
+        if change.block == block {
+            return i;
+        }
+    }
+    end
+}
+
+// How many of the blocks no change from an index on is of.
+pub(super) fn count_new(changes: &VecDeque<LogChange>, from: usize, blocks: &[BlockNo]) -> usize
+    requires { from ≤ length changes.now.items }
+    ensures { result ≡ length (new_blocks (changed_blocks (drop from changes.now.items)) blocks.now) }
+{
+    let mut count = 0;
+    for block in blocks {
+        if !has_block(changes, from, *block) {
+            count += 1;
+        }
+    }
+    count
 }
 
 // The first change from one index up to, not with, another that is the newest of its block among those, or

@@ -1,4 +1,4 @@
-use Rattle.wal_law.proofs.Ends.{grows}
+use Rattle.wal_law.proofs.Absorption.{grows}
 use Rattle.wal_law.proofs.law.an_append_grows_the_log.Goals as goal
 
 pub returns : goal.returns

@@ -7,7 +7,8 @@ use Rattle.wal_law.specs.Grows.{GrowsBy}
 use Rattle.txn_law.specs.Group.{IsLaid}
 use Rattle.objects.specs.Object.{ObjectBytes}
 use Rattle.objects.specs.Pins.{Residents, pins_of}
-use Rattle.wal_law.specs.Log.{Log, installed_place}
+use Rattle.wal_law.specs.Log.{AreOnce, Log, installed_place}
+use Rattle.txn_law.proofs.Once.{once_of}
 use Rattle.disk.specs.Device.{Content}
 use Rattle.disk.specs.declared.block.BlockNo.{BlockNo}
 use Rattle.txn_law.specs.Commit.{IsOwn, IsReadBy, Planned, footprint, with_record, refreshed}
@@ -21,6 +22,11 @@ use Rattle.txn.proofs.Neat.{neat_with}
 use Rattle.txn.specs.Neat.{IsNeat}
 use Rattle.txn.specs.Pinned.{AreCountable, objects_in}
 use Rattle.txn.proofs.state.State.take_place.Goals as goal
+
+pub append-requires-clause-once : goal.append-requires-clause-once
+append-requires-clause-once g c =
+    subst AreOnce (sym (c.in-Ok.ensures.blocks ∙ c.requires.blocks))
+    (once_of (g.C.Change.planned c.args.change).written)
 
 pub keep-requires-clause-pinned : goal.keep-requires-clause-pinned
 keep-requires-clause-pinned g c =

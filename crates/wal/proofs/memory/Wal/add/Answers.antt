@@ -1,20 +1,25 @@
-use Rattle.std.proofs.Common.{◌≤◌, arith, subst, sym, All}
+use Rattle.std.proofs.Common.{◌≡◌, ◌≤◌, List, ap, ◌∙◌, arith, subst, sym, All}
 use Rattle.limits.specs.declared.TheConstants.{LOG_SLOTS}
-use Rattle.wal_law.specs.Log.{Log, blocks_of, tail_after, IsHomeOn}
+use Rattle.disk.specs.Device.{Content}
+use Rattle.disk.specs.declared.block.BlockNo.{BlockNo}
+use Rattle.wal_law.specs.Log.{Log, added_blocks, blocks_of, tail_after, IsHomeOn}
 use Rattle.wal_law.specs.Room.{HasPlaces}
 use Rattle.wal.specs.View.{log_of}
-use Rattle.wal_law.proofs.Lawful.{lawful_with_group, length-blocks_of}
+use Rattle.wal_law.proofs.Lawful.{lawful_with_group}
 use Rattle.wal.proofs.memory.Wal.add.Goals as goal
 
 pub invariant_of-self-2 : goal.invariant_of-self-2
 invariant_of-self-2 c =
-    let count = length-blocks_of c.args.group.items in
     let log : Log = log_of c.self.inside in
+    let added : c.count_new-added.result ≡ added_blocks log (blocks_of c.args.group.items) =
+    c.count_new-added.ensures
+    ∙ ap (λ (g : List (BlockNo × Content)). added_blocks log (blocks_of g)) c.deref.ensures.value in
     let fits : tail_after log (blocks_of c.args.group.items) ≤ LOG_SLOTS =
-    omega (arith, count, c.if-tail-len.false) in
-    rw (c.push_group.ensures, c.reserve.ensures.items)
+    omega (arith, added, c.if-len-ahead.false) in
+    rw (c.absorb.ensures, c.reserve.ensures.items)
     (lawful_with_group log c.args.group.items c.self.invariant
     (subst (λ (l : Log). HasPlaces l (blocks_of c.args.group.items)) (sym c.self.view_is) c.requires.places)
     fits
     (subst (λ (l : Log). All (IsHomeOn l.blocks) (blocks_of c.args.group.items)) (sym c.self.view_is)
-    c.requires.homes))
+    c.requires.homes)
+    c.requires.once)

@@ -3,7 +3,7 @@ use Rattle.wal_law.specs.Log.{Log}
 use Rattle.wal_law.specs.Effects.{HasAppended}
 use Rattle.wal_law.specs.Grows.{GrowsBy, StandsStill}
 use Rattle.wal_law.proofs.Effects.{seen_append}
-use Rattle.wal_law.proofs.Ends.{grows}
+use Rattle.wal_law.proofs.Absorption.{grows}
 use Rattle.wal_law.proofs.Beside.{appended, still_with_group}
 use Rattle.wal.proofs.memory.Wal.append.Goals as goal
 

@@ -1,6 +1,6 @@
 use Rattle.std.proofs.Common.{◌≡◌, ◌<◌, ℕ, slice_index_or}
-use Rattle.server_parts.specs.declared.parking.Parked.{Parked}
-use Rattle.server_parts.proofs.parking.Waiting.take.Given as goal
+use Rattle.server_parts.specs.declared.waiting.Parked.{Parked}
+use Rattle.server_parts.proofs.waiting.Waiting.take.Given as goal
 
 -- the seats that were looked at wait for more
 abbrev pub invariant-loop-at : goal.invariant-loop-at

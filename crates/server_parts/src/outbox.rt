@@ -1,0 +1,202 @@
+//! What a connection still has to be sent.
+ghost use Rattle.std.specs.Prelude.{◌≡◌, ◌≢◌, ◌↔◌, ◌⊎◌, ◌+◌, ◌-◌, ◌^◌, ◌≤◌, ◌||◌, [], true, false, not, min, IsTrue, IfSome, IfNone, length};
+
+use crate::Replies;
+use std::alloc::Global;
+
+/// What becomes of bytes that a thread would write.
+#[derive(Clone, Copy, Debug, PartialEq, Eq)]
+pub enum Offer {
+    /// That thread writes them: nothing waits, and no other thread writes.
+    Write,
+    /// They were left behind all that waits, where memory wasn't refused for them.
+    Left,
+    /// They were let go: no more is written.
+    Shut,
+}
+
+/// The replies of a connection that wait to be written, and what its end waits for besides.
+#[derive(Drop)]
+pub struct Outbox {
+    replies: Replies,
+    // How many calls were handed on and are neither answered nor let go.
+    due: u64,
+    // Whether no more is written, since a write failed or memory was refused.
+    shut: bool,
+    // Whether no call comes any more.
+    ended: bool,
+    pub ghost let_go: { shut ≡ true → replies.pending.items ≡ [] },
+}
+
+impl Outbox {
+    ghost use Rattle.server_parts.specs.Outbox.{IsLeft, IsDone, IsForWriter};
+
+    /// Nothing waits.
+    pub fn new(alloc: Global) -> Outbox
+        ensures pending { result.replies.pending.items ≡ [] }
+        ensures writing { result.replies.writing ≡ false }
+        ensures due { result.due ≡ 0 }
+        ensures goes_on { (result.shut ≡ false) × (result.ended ≡ false) }
+    {
+        Outbox {
+            replies: Replies::new(alloc),
+            due: 0,
+            shut: false,
+            ended: false,
+        }
+    }
+
+    /// Notes that a call is handed on.
+    pub fn hand_on(&mut self)
+        ensures { self.new ≡ record self.old { due = min (self.old.due + 1) (2 ^ 64 - 1) } }
+    {
+        self.due = self.due.saturating_add(1);
+    }
+
+    /// Takes back that a call was handed on.
+    pub fn take_back(&mut self)
+        ensures { self.new ≡ record self.old { due = self.old.due - 1 } }
+    {
+        self.due = self.due.saturating_sub(1);
+    }
+
+    /// Puts the reply of a call that was handed on, or shuts where there is none.
+    pub fn answer(&mut self, reply: Option<&[u8]>)
+        ensures due { self.new.due ≡ self.old.due - 1 }
+        ensures left { IfSome reply.entry (λ bytes. IsLeft self.old bytes.now self.new) }
+        ensures none { IfNone reply.entry (self.new.shut ≡ true) }
+        ensures writing { self.new.replies.writing ≡ self.old.replies.writing }
+        ensures ended { self.new.ended ≡ self.old.ended }
+    {
+        self.take_back();
+        match reply {
+            Some(bytes) => self.leave(bytes),
+            None => self.shut(),
+        }
+    }
+
+    /// Leaves bytes behind all that waits, and shuts where memory is refused for them. Once no more is written they
+    /// are let go.
+    pub fn leave(&mut self, bytes: &[u8])
+        ensures left { IsLeft self.old bytes.now self.new }
+        ensures due { self.new.due ≡ self.old.due }
+        ensures ended { self.new.ended ≡ self.old.ended }
+    {
+        if !self.shut && self.replies.put(bytes).is_err() {
+            self.shut();
+        }
+    }
+
+    /// What becomes of bytes that a thread would write: where it writes them it is from then on the one that writes.
+    pub fn offer(&mut self, bytes: &[u8]) -> Offer
+        ensures shut { (result ≡ Offer.Shut) ↔ (self.old.shut ≡ true) }
+        ensures let_go { result ≡ Offer.Shut → self.new ≡ self.old }
+        ensures begins { (result ≡ Offer.Write) ↔ ((self.old.shut ≡ false)
+            × (self.old.replies.pending.items ≡ []) × (self.old.replies.writing ≡ false)) }
+        ensures begun { result ≡ Offer.Write → (self.new.replies.pending.items ≡ [])
+            × (self.new.replies.writing ≡ true) × (self.new.shut ≡ false) }
+        ensures left { result ≡ Offer.Left → IsLeft self.old bytes.now self.new }
+        ensures due { self.new.due ≡ self.old.due }
+        ensures ended { self.new.ended ≡ self.old.ended }
+    {
+        if self.shut {
+            return Offer::Shut;
+        }
+        if self.replies.begin() {
+            return Offer::Write;
+        }
+        self.leave(bytes);
+        Offer::Left
+    }
+
+    /// What the thread that writes writes next, when its last write was done or failed: all that waits, in a buffer
+    /// that is used again. None where nothing waits: then no thread writes any more.
+    pub fn go_on(&mut self, is_done: bool, used: Vec<u8>) -> Option<Vec<u8>>
+        ensures taken { IfSome result (λ bytes. IsTrue is_done × (bytes.items ≡ self.old.replies.pending.items)
+            × (bytes.items ≢ []) × (self.new.replies.pending.items ≡ []) × (self.new.replies.writing ≡ true)) }
+        ensures nothing { IfNone result ((IsTrue is_done → self.old.replies.pending.items ≡ [])
+            × (self.new.replies.pending.items ≡ []) × (self.new.replies.writing ≡ false)) }
+        ensures shut { self.new.shut ≡ (self.old.shut || not is_done) }
+        ensures due { self.new.due ≡ self.old.due }
+        ensures ended { self.new.ended ≡ self.old.ended }
+    {
+        if !is_done {
+            self.shut();
+        }
+        self.replies.take(used)
+    }
+
+    /// Whether the connection's own writer has something to write that no other thread writes, or nothing more to
+    /// wait for.
+    pub fn is_for_writer(&self) -> bool
+        ensures { IsTrue result ↔ IsForWriter self.now }
+    {
+        self.ended || self.shut || (!self.replies.is_writing() && self.replies.waiting() != 0)
+    }
+
+    /// Makes the connection's own writer the thread that writes, and hands it all that waits. None where it has
+    /// nothing more to wait for.
+    pub fn begin(&mut self, used: Vec<u8>) -> Option<Vec<u8>>
+        requires { IsForWriter self.old }
+        ensures taken { IfSome result (λ bytes. (bytes.items ≡ self.old.replies.pending.items) × (bytes.items ≢ [])
+            × (self.old.replies.writing ≡ false)
+            × (self.new.replies.pending.items ≡ []) × (self.new.replies.writing ≡ true)) }
+        ensures ends { IfNone result (((self.old.ended ≡ true) ⊎ (self.old.shut ≡ true)) × (self.new ≡ self.old)) }
+        ensures shut { self.new.shut ≡ self.old.shut }
+        ensures due { self.new.due ≡ self.old.due }
+        ensures ended { self.new.ended ≡ self.old.ended }
+    {
+        if self.ended || self.shut {
+            return None;
+        }
+        self.replies.take(used)
+    }
+
+    /// Whether no more than so many bytes wait, or no more is written.
+    pub fn has_room(&self, most: usize) -> bool
+        ensures { IsTrue result ↔ ((self.now.shut ≡ true) ⊎ (length self.now.replies.pending.items ≤ most)) }
+    {
+        self.shut || self.replies.waiting() <= most
+    }
+
+    /// Whether no more is written.
+    pub fn is_shut(&self) -> bool
+        ensures { result ≡ self.now.shut }
+    {
+        self.shut
+    }
+
+    /// Whether a thread writes.
+    pub fn is_writing(&self) -> bool
+        ensures { result ≡ self.now.replies.writing }
+    {
+        self.replies.is_writing()
+    }
+
+    /// Whether each call that was handed on is answered, and each reply written; or no more is written.
+    pub fn is_done(&self) -> bool
+        ensures { IsTrue result ↔ IsDone self.now }
+    {
+        self.shut || (self.due == 0 && self.replies.waiting() == 0 && !self.replies.is_writing())
+    }
+
+    /// Notes that no call comes any more.
+    pub fn end(&mut self)
+        requires { IsDone self.old }
+        ensures { self.new ≡ record self.old { ended = true } }
+    {
+        self.ended = true;
+    }
+
+    /// Lets go all that waits, and writes no more.
+    pub fn shut(&mut self)
+        ensures shut { self.new.shut ≡ true }
+        ensures pending { self.new.replies.pending.items ≡ [] }
+        ensures writing { self.new.replies.writing ≡ self.old.replies.writing }
+        ensures due { self.new.due ≡ self.old.due }
+        ensures ended { self.new.ended ≡ self.old.ended }
+    {
+        self.shut = true;
+        self.replies.forget();
+    }
+}

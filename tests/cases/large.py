@@ -1,0 +1,131 @@
+"""Images of the greatest sizes, empty, half full and full, and a directory of many names: what is new is found and kept behind
+all that is there. An image is written with holes where blocks are zeros, so it takes little of the disk."""
+
+import os
+
+from cases import checking, images, nfs
+from cases.conversing import NO_VERIFIER, ROOT
+from cases.running import is_so, same
+from cases.tcp import Server
+
+BLOCK, SPAN = images.BLOCK_BYTES, images.DIRECT + images.INDIRECT
+MOST_BLOCKS, MOST_INODES = 1_048_576, 65_536
+# What the largest file takes: its blocks and the indirect one.
+LARGEST_COST = SPAN + 1
+NAMES = 10_000
+
+
+def filled(blocks, inodes, share):
+    """The image of a tree whose files use this share of the data blocks, from the first on. The last ones are those of a file
+    with bytes, `last`, which is found behind all others."""
+    data = os.urandom(9 * BLOCK)
+
+    def of(count):
+        files = {b"%d" % it: images.regular(size=images.LARGEST_FILE, mapped=range(SPAN)) for it in range(count)}
+        return images.directory({**files, b"last": images.regular((0, data))}, span=-(-(count + 8) // images.SLOTS))
+
+    few = images.Image(of(0), 1024, 32)
+    # Room for the names, `last`, what the case writes, and as many largest files as fit then.
+    room = blocks - few.data - inodes // images.INODES_PER_BLOCK - blocks // images.BITS - inodes // images.BITS - 64
+    return images.Image(of(int(room * share / LARGEST_COST)), blocks, inodes), data
+
+
+def free(client):
+    found = client.do(nfs.FSSTAT, ROOT)
+    return found.free_bytes // BLOCK, found.free_files
+
+
+def assert_served(place, image, data):
+    """Old bytes are read, and new blocks, names and files are found; behind a kill all is there, in a good image."""
+    path = image.write(place.path("image"))
+    server = Server(place, path)
+    client, last, new = server.client(), image.root.below(b"last"), os.urandom(9 * BLOCK)
+    same("what is free", free(client), (image.free_blocks, image.free_files))
+    same("the last file", client.find(ROOT, b"last"), last.handle())
+    same("its bytes", client.read(last.handle()), data)
+    # A block behind the ones of its indirect block, and a file with nine blocks and an indirect one.
+    client.write(last.handle(), 20 * BLOCK + 5, b"behind")
+    file = client.create(ROOT, b"new", new)
+    same("what is free then", free(client), (image.free_blocks - 11, image.free_files - 1))
+    wanted = {b"last": data + bytes(11 * BLOCK + 5) + b"behind", b"new": new}
+    for name, it in (b"last", last.handle()), (b"new", file):
+        same(f"the bytes of {name}", client.read(it), wanted[name])
+    if image.root.slots[0][0] == b"0":
+        client.do(nfs.REMOVE, ROOT, b"0")
+        same("what is free at the end", free(client)[0], image.free_blocks - 11 + LARGEST_COST)
+    server.kill()
+    read = checking.reader_of(path)
+    root = read.files[images.ROOT]
+    for name, content in wanted.items():
+        same(f"{name} of the image", root.below(name).bytes(), content)
+    server = Server(place, path, connections=1)
+    client = server.client()
+    same("the bytes of the new file", client.read(client.find(ROOT, b"new")), new)
+    same("what is free", free(client), (image.blocks - image.data - read.counts()[1], image.inodes - 1 - read.counts()[0]))
+    client.close()
+    server.end()
+
+
+def test_an_image_that_is_full_past_block_65536(place):
+    image, data = filled(68_000, 256, 1)
+    used = [number for number in image.content if number > 65_536]
+    is_so(f"{len(used)} blocks past 65536 are used", len(used) > 1000)
+    is_so(f"{image.free_blocks} blocks are free", image.free_blocks < 2000)
+    assert_served(place, image, data)
+
+
+def test_an_image_of_the_most_blocks_and_inodes_that_is_empty(place):
+    assert_served(place, *filled(MOST_BLOCKS, MOST_INODES, 0))
+
+
+def test_an_image_of_the_most_blocks_that_is_half_full(place):
+    image, data = filled(MOST_BLOCKS, 1024, 0.5)
+    is_so(f"{image.free_blocks} blocks are free", image.free_blocks > MOST_BLOCKS // 3)
+    assert_served(place, image, data)
+
+
+def test_an_image_of_the_most_blocks_that_is_full(place):
+    image, data = filled(MOST_BLOCKS, 1024, 1)
+    is_so(f"{image.free_blocks} blocks are free", image.free_blocks < 2000)
+    assert_served(place, image, data)
+
+
+def listed(client, directory, procedure, cookie, *counts):
+    """What READDIR or READDIRPLUS list behind a cookie, call by call to the end."""
+    found, is_end = [], False
+    while not is_end:
+        part = client.do(procedure, directory, cookie, NO_VERIFIER, *counts)
+        is_so("a listing that goes on has no entry", part.entries or part.eof)
+        found, is_end = found + part.entries, part.eof
+        cookie = found[-1].cookie if found else cookie
+    return found
+
+
+def test_a_directory_of_10000_names(place):
+    one, other = images.regular((0, b"one")), images.regular((0, b"other"))
+    names = {b"name %d" % it: (one, other)[it % 2] for it in range(NAMES)}
+    tree = images.Image(images.directory({b"many": images.directory(names)}), 2048, 64)
+    path = tree.write(place.path("image"))
+    server = Server(place, path)
+    client, many = server.client(), tree.root.below(b"many")
+    for it in NAMES - 1, 0, NAMES // 2:
+        same(f"name {it}", client.find(many.handle(), b"name %d" % it), (one, other)[it % 2].handle())
+    client.refuse(nfs.NOENT, nfs.LOOKUP, many.handle(), b"name %d" % NAMES)
+    # In the order of their slots, of which the first has cookie 3.
+    wanted = [(b"name %d" % it, (one, other)[it % 2].number, it + 3) for it in range(NAMES)]
+    found = [(it.name, it.number, it.cookie) for it in listed(client, many.handle(), nfs.READDIR, 2, 32_768)]
+    same("how many names are listed", len(found), NAMES)
+    same("what READDIR lists", found, wanted)
+    plus = listed(client, many.handle(), nfs.READDIRPLUS, NAMES - 300 + 2, 32_768, 32_768)
+    same("what READDIRPLUS lists", [(it.name, it.number, it.cookie) for it in plus], wanted[-300:])
+    same("its last entry", (plus[-1].attributes, plus[-1].handle), (other.attributes(), other.handle()))
+    # A new name comes behind all, or into a slot that is let go.
+    new = client.create(many.handle(), b"new", b"new")
+    client.do(nfs.REMOVE, many.handle(), b"name %d" % (NAMES // 2))
+    client.do(nfs.LINK, new, many.handle(), b"linked")
+    for name, cookie in (b"new", NAMES + 3), (b"linked", NAMES // 2 + 3):
+        same(f"{name}", client.find(many.handle(), name), new)
+        (found, *_) = client.do(nfs.READDIR, many.handle(), cookie - 1, NO_VERIFIER, 200).entries
+        same(f"{name}: where it is listed", (found.name, found.cookie), (name, cookie))
+    server.kill()
+    same("why the image is bad", checking.why_bad(path), None)
