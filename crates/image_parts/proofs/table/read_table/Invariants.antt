@@ -1,0 +1,16 @@
+use Rattle.std.proofs.Common.{◌≡◌, ◌*◌}
+use Rattle.limits.specs.declared.TheConstants.{INODES_PER_BLOCK}
+use Rattle.wal_law.specs.Recovery.{HasOnlyRead, IsUnspoiled, image_of}
+use Rattle.overlays.specs.LaidOver.{laid_over}
+use Rattle.image_parts.specs.Table.{IsTable}
+use Rattle.image_parts.proofs.table.read_table.Given as goal
+
+abbrev pub invariant-indexes : goal.invariant-indexes
+invariant-indexes g l = record {
+  reads : HasOnlyRead (g.D.CrashDisk.device l.fn.disk) (g.D.CrashDisk.device l.disk);
+  failures : (g.D.CrashDisk.device l.disk).failures ≡ (g.D.CrashDisk.device l.fn.disk).failures;
+  model : g.D.CrashDisk.keeps_model l.disk → g.D.CrashDisk.keeps_model l.fn.disk;
+  table : g.D.CrashDisk.keeps_model l.disk → IsUnspoiled (g.D.CrashDisk.device l.fn.disk)
+      → IsTable l.geometry (laid_over l.overlay (image_of (g.D.CrashDisk.device l.fn.disk)))
+      (INODES_PER_BLOCK * l.index) l.table.items;
+}
