@@ -3,6 +3,7 @@ use Rattle.std.proofs.Common.{◌≡◌, ℕ, ◌+◌, ◌*◌, ◌/◌, ◌%◌
 use Rattle.limits.specs.declared.TheConstants.{FIRST_HOME_BLOCK}
 use Rattle.objects.specs.declared.addr.Addr.{Addr}
 use Rattle.layout.specs.declared.geometry.Geometry.{Geometry}
+use Rattle.layout.specs.declared.grid.TheConstants.{PIECE_BYTES, PIECES_PER_BLOCK}
 use Rattle.layout.specs.Geometry.{table_at}
 use Rattle.layout.specs.Objects.{IsObject, bits}
 use Rattle.inode.specs.declared.snap.Snap.{Snap}
@@ -13,10 +14,10 @@ use Rattle.inode.specs.Snap.{IsNew}
 use Rattle.bitmap.specs.Pieces.{IsAskedObject}
 
 pub is_object : (g : Geometry) (first piece : ℕ) (addr : Addr) → FIRST_HOME_BLOCK ≤ first
-    → first + piece / 8 < table_at g.blocks g.inodes → addr.block.0 ≡ first + piece / 8
-    → addr.offset ≡ 512 * (piece % 8) → addr.len ≡ 512 → IsObject g addr
+    → first + piece / PIECES_PER_BLOCK < table_at g.blocks g.inodes → addr.block.0 ≡ first + piece / PIECES_PER_BLOCK
+    → addr.offset ≡ PIECE_BYTES * (piece % PIECES_PER_BLOCK) → addr.len ≡ PIECE_BYTES → IsObject g addr
 is_object g first piece addr from to block offset len =
-    bits (piece % 8) (omega arith) (omega (arith, from, block)) (omega (arith, to, block)) offset len
+    bits (piece % PIECES_PER_BLOCK) (omega arith) (omega (arith, from, block)) (omega (arith, to, block)) offset len
 
 pub may_stop : (snap : Snap) (why : Stop) → IsNew snap why → IsAskedObject snap.geometry why → MayStop snap why
 may_stop snap (stop.Need addr) new asked = (new, asked)

@@ -4,8 +4,9 @@ use Rattle.std.proofs.Common.{List, [], ◌∷◌, length, drop, get_or, nat_eq,
 use Rattle.std.specs.List.{range_with_len}
 use Rattle.std.proofs.lemmas.List.{get_or-drop, get_or-take}
 use Rattle.std.proofs.lemmas.List.Sums.{sum_by-cons}
-use Rattle.limits.specs.declared.TheConstants.{BLOCK_BYTES}
+use Rattle.limits.specs.declared.TheConstants.{BITS_PER_BLOCK, BLOCK_BYTES}
 use Rattle.disk.specs.Crash.{Image}
+use Rattle.layout.specs.declared.grid.TheConstants.{PIECE_BYTES, PIECES_PER_BLOCK}
 use Rattle.layout.specs.Parts.{bit_at}
 use Rattle.layout.proofs.Fits.{part-length}
 use Rattle.bitmap.specs.Clear.{clear_of}
@@ -88,10 +89,10 @@ module _ (blocks : Image) (first count : ℕ)
     (long : (number : ℕ) → number < first + count → length (blocks number) ≡ BLOCK_BYTES) where
   -- a byte of the bitmap
   abbrev byte : ℕ → ℕ
-  byte y = get_or (blocks (first + y / 4096)) (y % 4096) 0
+  byte y = get_or (blocks (first + y / BLOCK_BYTES)) (y % BLOCK_BYTES) 0
 
   abbrev bit : ℕ → ℕ
-  bit b = one_if (not (nat_eq (get_or (blocks (first + b / 32768)) (b % 32768 / 8) 0 / 2 ^ (b % 8) % 2) 1))
+  bit b = one_if (not (nat_eq (get_or (blocks (first + b / BITS_PER_BLOCK)) (b % BITS_PER_BLOCK / 8) 0 / 2 ^ (b % 8) % 2) 1))
 
   in_byte : (y : ℕ) → sum_by (λ t. bit (8 * y + t)) (range_with_len 0 8) ≡ clear_in_byte (byte y)
   in_byte y = same_sums (λ t. bit (8 * y + t)) (λ t. one_if (not (nat_eq (byte y / 2 ^ t % 2) 1))) 0 8
@@ -99,61 +100,61 @@ module _ (blocks : Image) (first count : ℕ)
     where
       same : (t : ℕ) → t < 8 → bit (8 * y + t) ≡ one_if (not (nat_eq (byte y / 2 ^ t % 2) 1))
       same t less =
-          let block : (8 * y + t) / 32768 ≡ y / 4096 = omega (arith, less) in
-          let at : (8 * y + t) % 32768 / 8 ≡ y % 4096 = omega (arith, less) in
+          let block : (8 * y + t) / BITS_PER_BLOCK ≡ y / BLOCK_BYTES = omega (arith, less) in
+          let at : (8 * y + t) % BITS_PER_BLOCK / 8 ≡ y % BLOCK_BYTES = omega (arith, less) in
           let last : (8 * y + t) % 8 ≡ t = omega (arith, less) in
           λ i. one_if (not (nat_eq (get_or (blocks (first + block i)) (at i) 0 / 2 ^ last i % 2) 1))
 
-  in_piece : (p : ℕ) → p < 8 * count
-      → sum_by (λ i. clear_in_byte (byte (512 * p + i))) (range_with_len 0 512)
+  in_piece : (p : ℕ) → p < PIECES_PER_BLOCK * count
+      → sum_by (λ i. clear_in_byte (byte (PIECE_BYTES * p + i))) (range_with_len 0 PIECE_BYTES)
       ≡ clear_in (piece_in blocks first p)
   in_piece p less =
-      let has : length (piece_in blocks first p) ≡ 512 = piece_long in
-      same_sums (λ i. clear_in_byte (byte (512 * p + i)))
-      (λ i. clear_in_byte (get_or (piece_in blocks first p) i 0)) 0 512
+      let has : length (piece_in blocks first p) ≡ PIECE_BYTES = piece_long in
+      same_sums (λ i. clear_in_byte (byte (PIECE_BYTES * p + i)))
+      (λ i. clear_in_byte (get_or (piece_in blocks first p) i 0)) 0 PIECE_BYTES
       (λ i from to. ap clear_in_byte (same i (omega (arith, to))))
       ∙ ap (λ n. sum_by (λ i. clear_in_byte (get_or (piece_in blocks first p) i 0)) (range_with_len 0 n))
       (sym has)
       ∙ sym (by_places clear_in_byte (piece_in blocks first p))
     where
-      whole : length (blocks (first + p / 8)) ≡ BLOCK_BYTES
-      whole = long (first + p / 8) (omega (arith, less))
+      whole : length (blocks (first + p / PIECES_PER_BLOCK)) ≡ BLOCK_BYTES
+      whole = long (first + p / PIECES_PER_BLOCK) (omega (arith, less))
 
-      piece_long : length (piece_in blocks first p) ≡ 512
-      piece_long = part-length 512 (512 * (p % 8)) (blocks (first + p / 8)) (omega (arith, whole))
+      piece_long : length (piece_in blocks first p) ≡ PIECE_BYTES
+      piece_long = part-length PIECE_BYTES (PIECE_BYTES * (p % PIECES_PER_BLOCK)) (blocks (first + p / PIECES_PER_BLOCK)) (omega (arith, whole))
 
-      same : (i : ℕ) → i < 512 → byte (512 * p + i) ≡ get_or (piece_in blocks first p) i 0
+      same : (i : ℕ) → i < PIECE_BYTES → byte (PIECE_BYTES * p + i) ≡ get_or (piece_in blocks first p) i 0
       same i under =
-          let block : (512 * p + i) / 4096 ≡ p / 8 = omega (arith, under) in
-          let at : (512 * p + i) % 4096 ≡ 512 * (p % 8) + i = omega (arith, under) in
+          let block : (PIECE_BYTES * p + i) / BLOCK_BYTES ≡ p / PIECES_PER_BLOCK = omega (arith, under) in
+          let at : (PIECE_BYTES * p + i) % BLOCK_BYTES ≡ PIECE_BYTES * (p % PIECES_PER_BLOCK) + i = omega (arith, under) in
           (λ j. get_or (blocks (first + block j)) (at j) 0)
-          ∙ sym (get_or-drop (512 * (p % 8)) (blocks (first + p / 8)) i 0)
-          ∙ sym (get_or-take 512 (drop (512 * (p % 8)) (blocks (first + p / 8))) i 0 under)
+          ∙ sym (get_or-drop (PIECE_BYTES * (p % PIECES_PER_BLOCK)) (blocks (first + p / PIECES_PER_BLOCK)) i 0)
+          ∙ sym (get_or-take PIECE_BYTES (drop (PIECE_BYTES * (p % PIECES_PER_BLOCK)) (blocks (first + p / PIECES_PER_BLOCK))) i 0 under)
 
-  pub clear_pieces : sum_by (λ p. clear_in (piece_in blocks first p)) (range_with_len 0 (8 * count))
+  pub clear_pieces : sum_by (λ p. clear_in (piece_in blocks first p)) (range_with_len 0 (PIECES_PER_BLOCK * count))
       ≡ clear_of blocks first count
   unfolding bit_at
   clear_pieces =
-      let bytes : sum_by bit (range_with_len 0 (8 * (4096 * count)))
-      ≡ sum_by (λ y. clear_in_byte (byte y)) (range_with_len 0 (4096 * count)) =
-      chunks bit 8 (4096 * count)
+      let bytes : sum_by bit (range_with_len 0 (8 * (BLOCK_BYTES * count)))
+      ≡ sum_by (λ y. clear_in_byte (byte y)) (range_with_len 0 (BLOCK_BYTES * count)) =
+      chunks bit 8 (BLOCK_BYTES * count)
       ∙ same_sums (λ y. sum_by (λ t. bit (8 * y + t)) (range_with_len 0 8)) (λ y. clear_in_byte (byte y))
-      0 (4096 * count) (λ y from to. in_byte y) in
-      let pieces : sum_by (λ y. clear_in_byte (byte y)) (range_with_len 0 (512 * (8 * count)))
-      ≡ sum_by (λ p. clear_in (piece_in blocks first p)) (range_with_len 0 (8 * count)) =
-      chunks (λ y. clear_in_byte (byte y)) 512 (8 * count)
-      ∙ same_sums (λ p. sum_by (λ i. clear_in_byte (byte (512 * p + i))) (range_with_len 0 512))
-      (λ p. clear_in (piece_in blocks first p)) 0 (8 * count) (λ p from to. in_piece p (omega (arith, to))) in
-      let all : sum_by bit (range_with_len 0 (32768 * count))
-      ≡ sum_by bit (range_with_len 0 (8 * (4096 * count))) =
+      0 (BLOCK_BYTES * count) (λ y from to. in_byte y) in
+      let pieces : sum_by (λ y. clear_in_byte (byte y)) (range_with_len 0 (PIECE_BYTES * (PIECES_PER_BLOCK * count)))
+      ≡ sum_by (λ p. clear_in (piece_in blocks first p)) (range_with_len 0 (PIECES_PER_BLOCK * count)) =
+      chunks (λ y. clear_in_byte (byte y)) PIECE_BYTES (PIECES_PER_BLOCK * count)
+      ∙ same_sums (λ p. sum_by (λ i. clear_in_byte (byte (PIECE_BYTES * p + i))) (range_with_len 0 PIECE_BYTES))
+      (λ p. clear_in (piece_in blocks first p)) 0 (PIECES_PER_BLOCK * count) (λ p from to. in_piece p (omega (arith, to))) in
+      let all : sum_by bit (range_with_len 0 (BITS_PER_BLOCK * count))
+      ≡ sum_by bit (range_with_len 0 (8 * (BLOCK_BYTES * count))) =
       ap (λ n. sum_by bit (range_with_len 0 n)) as_bytes in
-      let same : sum_by (λ y. clear_in_byte (byte y)) (range_with_len 0 (4096 * count))
-      ≡ sum_by (λ y. clear_in_byte (byte y)) (range_with_len 0 (512 * (8 * count))) =
+      let same : sum_by (λ y. clear_in_byte (byte y)) (range_with_len 0 (BLOCK_BYTES * count))
+      ≡ sum_by (λ y. clear_in_byte (byte y)) (range_with_len 0 (PIECE_BYTES * (PIECES_PER_BLOCK * count))) =
       ap (λ n. sum_by (λ y. clear_in_byte (byte y)) (range_with_len 0 n)) as_pieces in
       sym (all ∙ bytes ∙ same ∙ pieces)
     where
-      as_pieces : 4096 * count ≡ 512 * (8 * count)
+      as_pieces : BLOCK_BYTES * count ≡ PIECE_BYTES * (PIECES_PER_BLOCK * count)
       as_pieces = omega arith
 
-      as_bytes : 32768 * count ≡ 8 * (4096 * count)
+      as_bytes : BITS_PER_BLOCK * count ≡ 8 * (BLOCK_BYTES * count)
       as_bytes = omega arith

@@ -12,6 +12,7 @@ use Rattle.model.specs.Tree as model
 use Rattle.procedures.specs.Fresh.{IsNewNumber, IsUnused}
 use Rattle.layout.specs.declared.fault.LayoutFault.{LayoutFault}
 use Rattle.layout.specs.declared.geometry.Geometry.{Geometry}
+use Rattle.layout.specs.declared.grid.TheConstants.{PIECE_BITS, PIECE_BYTES, PIECES_PER_BLOCK}
 use Rattle.layout.specs.declared.inode.Inode.{Inode}
 use Rattle.layout.specs.Decode.{file_of}
 use Rattle.layout.specs.Geometry.{bitmap_blocks, inode_bitmap_at}
@@ -22,36 +23,36 @@ use Rattle.bitmap.specs.Bits.{IsClearIn, IsClearOf}
 use Rattle.layout_records.specs.Bits.{bit_in}
 use Rattle.layout_records.specs.Bits.{piece_in}
 
-pub in_piece : (blocks : Image) (first piece bit : ℕ) → bit < 4096
-    → bit_in (piece_in blocks first piece) bit ≡ bit_at blocks first (4096 * piece + bit)
+pub in_piece : (blocks : Image) (first piece bit : ℕ) → bit < PIECE_BITS
+    → bit_in (piece_in blocks first piece) bit ≡ bit_at blocks first (PIECE_BITS * piece + bit)
 unfolding bit_at
 in_piece blocks first piece bit less =
-    let content = blocks (first + piece / 8) in
-    let block : piece / 8 ≡ (4096 * piece + bit) / BITS_PER_BLOCK = omega (arith, less) in
-    let byte : 512 * (piece % 8) + bit / 8 ≡ (4096 * piece + bit) % BITS_PER_BLOCK / 8 = omega (arith, less) in
-    let rest : bit % 8 ≡ (4096 * piece + bit) % 8 = omega arith in
+    let content = blocks (first + piece / PIECES_PER_BLOCK) in
+    let block : piece / PIECES_PER_BLOCK ≡ (PIECE_BITS * piece + bit) / BITS_PER_BLOCK = omega (arith, less) in
+    let byte : PIECE_BYTES * (piece % PIECES_PER_BLOCK) + bit / 8 ≡ (PIECE_BITS * piece + bit) % BITS_PER_BLOCK / 8 = omega (arith, less) in
+    let rest : bit % 8 ≡ (PIECE_BITS * piece + bit) % 8 = omega arith in
     ap (λ v. nat_eq (v / 2 ^ (bit % 8) % 2) 1)
-    (get_or-take 512 (drop (512 * (piece % 8)) content) (bit / 8) 0 (omega (arith, less))
-    ∙ get_or-drop (512 * (piece % 8)) content (bit / 8) 0)
+    (get_or-take PIECE_BYTES (drop (PIECE_BYTES * (piece % PIECES_PER_BLOCK)) content) (bit / 8) 0 (omega (arith, less))
+    ∙ get_or-drop (PIECE_BYTES * (piece % PIECES_PER_BLOCK)) content (bit / 8) 0)
     ∙ (λ i. nat_eq (get_or (blocks (first + block i)) (byte i) 0 / 2 ^ rest i % 2) 1)
 
 -- all bits are set up to a piece, and in it
 pub more_set : (blocks : Image) (first piece : ℕ)
-    → ((bit : ℕ) → bit < 4096 * piece → bit_at blocks first bit ≡ true)
+    → ((bit : ℕ) → bit < PIECE_BITS * piece → bit_at blocks first bit ≡ true)
     → IsClearIn (piece_in blocks first piece) None
-    → (bit : ℕ) → bit < 4096 * (piece + 1) → bit_at blocks first bit ≡ true
-more_set blocks first piece before none bit less = elim (cases_lt bit (4096 * piece)) [
+    → (bit : ℕ) → bit < PIECE_BITS * (piece + 1) → bit_at blocks first bit ≡ true
+more_set blocks first piece before none bit less = elim (cases_lt bit (PIECE_BITS * piece)) [
   | inl low ↦ before bit low
   | inr past ↦
-      let split : 4096 * piece + (bit - 4096 * piece) ≡ bit = omega (arith, past) in
+      let split : PIECE_BITS * piece + (bit - PIECE_BITS * piece) ≡ bit = omega (arith, past) in
       ap (bit_at blocks first) (sym split)
-      ∙ sym (in_piece blocks first piece (bit - 4096 * piece) (omega (arith, less, past)))
-      ∙ none (bit - 4096 * piece) (omega (arith, less, past))
+      ∙ sym (in_piece blocks first piece (bit - PIECE_BITS * piece) (omega (arith, less, past)))
+      ∙ none (bit - PIECE_BITS * piece) (omega (arith, less, past))
 ]
 
 pub found_clear : (blocks : Image) (first count piece bit : ℕ) → piece < 8 * count
     → IsClearIn (piece_in blocks first piece) (Some bit)
-    → IsClearOf blocks first count (Some (4096 * piece + bit))
+    → IsClearOf blocks first count (Some (PIECE_BITS * piece + bit))
 found_clear blocks first count piece bit less clear = (
   let low = clear.0 in omega (arith, low, less),
   sym (in_piece blocks first piece bit clear.0) ∙ clear.1,

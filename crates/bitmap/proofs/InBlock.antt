@@ -6,6 +6,7 @@ use Rattle.std.proofs.lemmas.Bool.{cases_eq, cases_lt}
 use Rattle.std.proofs.lemmas.List.{get_or-append-add, get_or_append_left, get_or-drop}
 use Rattle.std.proofs.lemmas.List.{get_or-take, length-take-le}
 use Rattle.objects.specs.Spliced.{spliced}
+use Rattle.layout.specs.declared.grid.TheConstants.{PIECE_BITS, PIECE_BYTES}
 use Rattle.layout_records.specs.Bits.{bit_in}
 use Rattle.layout_records.proofs.OneBit.{differs, equal}
 
@@ -40,67 +41,67 @@ module _ (content piece : List ℕ) (offset : ℕ) (room : offset + length piece
       ∙ get_or-append-add (take offset content ++ piece) (drop (offset + length piece) content) j 0
       ∙ get_or-drop (offset + length piece) content j 0
 
-module _ (content piece : List ℕ) (at bit : ℕ) (is : Bool) (room : 512 * at + 512 ≤ length content)
-    (long : length piece ≡ 512) (low : bit < 4096)
+module _ (content piece : List ℕ) (at bit : ℕ) (is : Bool) (room : PIECE_BYTES * at + PIECE_BYTES ≤ length content)
+    (long : length piece ≡ PIECE_BYTES) (low : bit < PIECE_BITS)
     (put : (other : ℕ) → bit_in piece other
-    ≡ cond (nat_eq other bit) is (bit_in (take 512 (drop (512 * at) content)) other)) where
-  fits : 512 * at + length piece ≤ length content
+    ≡ cond (nat_eq other bit) is (bit_in (take PIECE_BYTES (drop (PIECE_BYTES * at) content)) other)) where
+  fits : PIECE_BYTES * at + length piece ≤ length content
   fits = omega (arith, room, long)
 
   same_byte : (other : ℕ) (a b : ℕ) → a ≡ b → nat_eq (a / 2 ^ (other % 8) % 2) 1
       ≡ nat_eq (b / 2 ^ (other % 8) % 2) 1
   same_byte other a b same = ap (λ v. nat_eq (v / 2 ^ (other % 8) % 2) 1) same
 
-  kept : (other : ℕ) → (other ≡ 4096 * at + bit → ⊥)
-      → get_or (spliced content (512 * at) piece) (other / 8) 0 ≡ get_or content (other / 8) 0
-      → bit_in (spliced content (512 * at) piece) other
-      ≡ cond (nat_eq other (4096 * at + bit)) is (bit_in content other)
+  kept : (other : ℕ) → (other ≡ PIECE_BITS * at + bit → ⊥)
+      → get_or (spliced content (PIECE_BYTES * at) piece) (other / 8) 0 ≡ get_or content (other / 8) 0
+      → bit_in (spliced content (PIECE_BYTES * at) piece) other
+      ≡ cond (nat_eq other (PIECE_BITS * at + bit)) is (bit_in content other)
   kept other not same =
       same_byte other _ _ same
-      ∙ sym (ap (λ b. cond b is (bit_in content other)) (differs other (4096 * at + bit) not))
+      ∙ sym (ap (λ b. cond b is (bit_in content other)) (differs other (PIECE_BITS * at + bit) not))
 
-  within : (j : ℕ) → j < 4096 → bit_in (spliced content (512 * at) piece) (4096 * at + j)
-      ≡ cond (nat_eq (4096 * at + j) (4096 * at + bit)) is (bit_in content (4096 * at + j))
+  within : (j : ℕ) → j < PIECE_BITS → bit_in (spliced content (PIECE_BYTES * at) piece) (PIECE_BITS * at + j)
+      ≡ cond (nat_eq (PIECE_BITS * at + j) (PIECE_BITS * at + bit)) is (bit_in content (PIECE_BITS * at + j))
   within j less =
-      let byte : (4096 * at + j) / 8 ≡ 512 * at + j / 8 = omega arith in
-      let rest : (4096 * at + j) % 8 ≡ j % 8 = omega arith in
+      let byte : (PIECE_BITS * at + j) / 8 ≡ PIECE_BYTES * at + j / 8 = omega arith in
+      let rest : (PIECE_BITS * at + j) % 8 ≡ j % 8 = omega arith in
       let low_byte : j / 8 < length piece = omega (arith, less, long) in
-      (λ i. nat_eq (get_or (spliced content (512 * at) piece) (byte i) 0 / 2 ^ (rest i) % 2) 1)
-      ∙ ap (λ v. nat_eq (v / 2 ^ (j % 8) % 2) 1) (inside content piece (512 * at) fits (j / 8) low_byte)
+      (λ i. nat_eq (get_or (spliced content (PIECE_BYTES * at) piece) (byte i) 0 / 2 ^ (rest i) % 2) 1)
+      ∙ ap (λ v. nat_eq (v / 2 ^ (j % 8) % 2) 1) (inside content piece (PIECE_BYTES * at) fits (j / 8) low_byte)
       ∙ put j
       ∙ (λ i. cond (same_test i) is (nat_eq (old_byte i / 2 ^ (sym rest i) % 2) 1))
     where
-      same_test : nat_eq j bit ≡ nat_eq (4096 * at + j) (4096 * at + bit)
+      same_test : nat_eq j bit ≡ nat_eq (PIECE_BITS * at + j) (PIECE_BITS * at + bit)
       same_test = elim (cases_eq j bit) [
-        | inl is ↦ equal j bit is ∙ sym (equal (4096 * at + j) (4096 * at + bit) (ap (λ n. 4096 * at + n) is))
+        | inl is ↦ equal j bit is ∙ sym (equal (PIECE_BITS * at + j) (PIECE_BITS * at + bit) (ap (λ n. PIECE_BITS * at + n) is))
         | inr not ↦ differs j bit not
-            ∙ sym (differs (4096 * at + j) (4096 * at + bit) (λ is. not (omega (arith, is))))
+            ∙ sym (differs (PIECE_BITS * at + j) (PIECE_BITS * at + bit) (λ is. not (omega (arith, is))))
       ]
 
-      old_byte : get_or (take 512 (drop (512 * at) content)) (j / 8) 0 ≡ get_or content ((4096 * at + j) / 8) 0
+      old_byte : get_or (take PIECE_BYTES (drop (PIECE_BYTES * at) content)) (j / 8) 0 ≡ get_or content ((PIECE_BITS * at + j) / 8) 0
       old_byte =
-          let byte : (4096 * at + j) / 8 ≡ 512 * at + j / 8 = omega arith in
-          get_or-take 512 (drop (512 * at) content) (j / 8) 0 (omega (arith, less))
-          ∙ get_or-drop (512 * at) content (j / 8) 0
+          let byte : (PIECE_BITS * at + j) / 8 ≡ PIECE_BYTES * at + j / 8 = omega arith in
+          get_or-take PIECE_BYTES (drop (PIECE_BYTES * at) content) (j / 8) 0 (omega (arith, less))
+          ∙ get_or-drop (PIECE_BYTES * at) content (j / 8) 0
           ∙ ap (λ n. get_or content n 0) (sym byte)
 
-  pub in_block : (other : ℕ) → bit_in (spliced content (512 * at) piece) other
-      ≡ cond (nat_eq other (4096 * at + bit)) is (bit_in content other)
-  in_block other = elim (cases_lt other (4096 * at)) [
+  pub in_block : (other : ℕ) → bit_in (spliced content (PIECE_BYTES * at) piece) other
+      ≡ cond (nat_eq other (PIECE_BITS * at + bit)) is (bit_in content other)
+  in_block other = elim (cases_lt other (PIECE_BITS * at)) [
     | inl ahead_of ↦ kept other (λ same. omega (arith, same, ahead_of))
-        (ahead content piece (512 * at) fits (other / 8) (omega (arith, ahead_of)))
-    | inr from ↦ (elim (cases_lt other (4096 * at + 4096)) [
+        (ahead content piece (PIECE_BYTES * at) fits (other / 8) (omega (arith, ahead_of)))
+    | inr from ↦ (elim (cases_lt other (PIECE_BITS * at + PIECE_BITS)) [
       | inl less ↦
-          let split : 4096 * at + (other - 4096 * at) ≡ other = omega (arith, from) in
-          ap (λ o. bit_in (spliced content (512 * at) piece) o) (sym split)
-          ∙ within (other - 4096 * at) (omega (arith, from, less))
-          ∙ ap (λ o. cond (nat_eq o (4096 * at + bit)) is (bit_in content o)) split
+          let split : PIECE_BITS * at + (other - PIECE_BITS * at) ≡ other = omega (arith, from) in
+          ap (λ o. bit_in (spliced content (PIECE_BYTES * at) piece) o) (sym split)
+          ∙ within (other - PIECE_BITS * at) (omega (arith, from, less))
+          ∙ ap (λ o. cond (nat_eq o (PIECE_BITS * at + bit)) is (bit_in content o)) split
       | inr behind ↦
-          let split : 512 * at + length piece + (other / 8 - (512 * at + 512)) ≡ other / 8 =
+          let split : PIECE_BYTES * at + length piece + (other / 8 - (PIECE_BYTES * at + PIECE_BYTES)) ≡ other / 8 =
           omega (arith, behind, long) in
           kept other (λ same. omega (arith, same, behind, low))
-          (ap (λ n. get_or (spliced content (512 * at) piece) n 0) (sym split)
-          ∙ past content piece (512 * at) fits (other / 8 - (512 * at + 512))
+          (ap (λ n. get_or (spliced content (PIECE_BYTES * at) piece) n 0) (sym split)
+          ∙ past content piece (PIECE_BYTES * at) fits (other / 8 - (PIECE_BYTES * at + PIECE_BYTES))
           ∙ ap (λ n. get_or content n 0) split)
     ])
   ]

@@ -4,10 +4,11 @@ use Rattle.std.proofs.Common.{arith, true, false, List, nat_eq, get_or}
 use Rattle.std.specs.Int.{trailing_ones, w8}
 use Rattle.std.proofs.lemmas.Bool.{cases_lt}
 use Rattle.std.proofs.lemmas.Nat.Bits.{bit_at-trailing_ones}
+use Rattle.layout.specs.declared.grid.TheConstants.{PIECE_BITS, PIECE_BYTES}
 use Rattle.layout_records.specs.Bits.{bit_in}
 
-pub lowest_clear : (bytes : List ℕ) (at : ℕ) → at < 512 → get_or bytes at 0 < 255
-    → (8 * at + trailing_ones w8 (get_or bytes at 0) < 4096)
+pub lowest_clear : (bytes : List ℕ) (at : ℕ) → at < PIECE_BYTES → get_or bytes at 0 < 255
+    → (8 * at + trailing_ones w8 (get_or bytes at 0) < PIECE_BITS)
     × (bit_in bytes (8 * at + trailing_ones w8 (get_or bytes at 0)) ≡ false)
 lowest_clear bytes at less low =
     let byte = get_or bytes at 0 in

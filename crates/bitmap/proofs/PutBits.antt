@@ -7,6 +7,7 @@ use Rattle.disk.specs.Crash.{Image}
 use Rattle.nfs_types.specs.Fits.{AreBytes}
 use Rattle.objects.specs.declared.addr.Addr.{Addr}
 use Rattle.objects.specs.Spliced.{spliced}
+use Rattle.layout.specs.declared.grid.TheConstants.{PIECE_BITS, PIECE_BYTES, PIECES_PER_BLOCK}
 use Rattle.layout.specs.Parts.{bit_at, with_bytes}
 use Rattle.layout.proofs.Fits.{part-length}
 use Rattle.layout.proofs.Written.{elsewhere, here}
@@ -27,15 +28,15 @@ as_in image first bit =
     (get_or (image (first + bit / BITS_PER_BLOCK)) (bit % BITS_PER_BLOCK / 8) 0 / 2 ^ s % 2) 1) same
 
 module _ (image next : Image) (first bit : ℕ) (is : Bool) (addr : Addr) (old new : List ℕ)
-    (block : addr.block.0 ≡ first + bit / 4096 / 8) (offset : addr.offset ≡ 512 * (bit / 4096 % 8))
-    (len : addr.len ≡ 512) (long : length (image addr.block.0) ≡ BLOCK_BYTES)
-    (was : object_at image addr ≡ old) (put : HasBit (bit % 4096) is old new)
+    (block : addr.block.0 ≡ first + bit / PIECE_BITS / PIECES_PER_BLOCK) (offset : addr.offset ≡ PIECE_BYTES * (bit / PIECE_BITS % PIECES_PER_BLOCK))
+    (len : addr.len ≡ PIECE_BYTES) (long : length (image addr.block.0) ≡ BLOCK_BYTES)
+    (was : object_at image addr ≡ old) (put : HasBit (bit % PIECE_BITS) is old new)
     (next_is : next ≡ with_bytes image addr.block.0 addr.offset new) where
   abbrev at : ℕ
   at = first + bit / BITS_PER_BLOCK
 
   abbrev piece : ℕ
-  piece = bit / 4096 % 8
+  piece = bit / PIECE_BITS % PIECES_PER_BLOCK
 
   same_block : addr.block.0 ≡ at
   same_block = block ∙ omega arith
@@ -43,36 +44,36 @@ module _ (image next : Image) (first bit : ℕ) (is : Bool) (addr : Addr) (old n
   whole : length (image at) ≡ BLOCK_BYTES
   whole = ap (λ k. length (image k)) (sym same_block) ∙ long
 
-  old_is : old ≡ take 512 (drop (512 * piece) (image at))
+  old_is : old ≡ take PIECE_BYTES (drop (PIECE_BYTES * piece) (image at))
   old_is = sym was ∙ (λ i. take (len i) (drop (offset i) (image (same_block i))))
 
-  old_long : length old ≡ 512
+  old_long : length old ≡ PIECE_BYTES
   old_long = ap (λ (l : List ℕ). length l) old_is
-      ∙ part-length 512 (512 * piece) (image at) (let w = whole in omega (arith, w))
+      ∙ part-length PIECE_BYTES (PIECE_BYTES * piece) (image at) (let w = whole in omega (arith, w))
 
-  new_long : length new ≡ 512
+  new_long : length new ≡ PIECE_BYTES
   new_long = put.len ∙ old_long
 
-  written : next ≡ with_bytes image at (512 * piece) new
+  written : next ≡ with_bytes image at (PIECE_BYTES * piece) new
   written = next_is ∙ (λ i. with_bytes image (same_block i) (offset i) new)
 
-  there : next at ≡ spliced (image at) (512 * piece) new
-  there = (λ i. written i at) ∙ here image at (512 * piece) new
+  there : next at ≡ spliced (image at) (PIECE_BYTES * piece) new
+  there = (λ i. written i at) ∙ here image at (PIECE_BYTES * piece) new
 
   others : (one : ℕ) → (one ≡ at → ⊥) → next one ≡ image one
-  others one not = (λ i. written i one) ∙ elsewhere image at (512 * piece) new one not
+  others one not = (λ i. written i one) ∙ elsewhere image at (PIECE_BYTES * piece) new one not
 
   bytes_still : AreBytes (image at) → AreBytes (next at)
   bytes_still are =
       subst AreBytes (sym there)
-      (spliced-bytes (image at) new (512 * piece) are (record {
+      (spliced-bytes (image at) new (PIECE_BYTES * piece) are (record {
         are = put.bytes
-            (subst AreBytes (sym old_is) (taken 512 (dropped (512 * piece) (record { are = are }))).are);
+            (subst AreBytes (sym old_is) (taken PIECE_BYTES (dropped (PIECE_BYTES * piece) (record { are = are }))).are);
       }))
 
   puts_in : (other : ℕ) → bit_in new other
-      ≡ cond (nat_eq other (bit % 4096)) is (bit_in (take 512 (drop (512 * piece) (image at))) other)
-  puts_in other = put.bits other ∙ ap (λ l. cond (nat_eq other (bit % 4096)) is (bit_in l other)) old_is
+      ≡ cond (nat_eq other (bit % PIECE_BITS)) is (bit_in (take PIECE_BYTES (drop (PIECE_BYTES * piece) (image at))) other)
+  puts_in other = put.bits other ∙ ap (λ l. cond (nat_eq other (bit % PIECE_BITS)) is (bit_in l other)) old_is
 
   bits_are : (other : ℕ) → bit_at next first other ≡ cond (nat_eq other bit) is (bit_at image first other)
   bits_are other = elim (cases_eq (other / BITS_PER_BLOCK) (bit / BITS_PER_BLOCK)) [
@@ -87,17 +88,17 @@ module _ (image next : Image) (first bit : ℕ) (is : Bool) (addr : Addr) (old n
         as_in next first other
         ∙ ap (λ k. bit_in (next (first + k)) (other % BITS_PER_BLOCK)) same
         ∙ ap (λ content. bit_in content (other % BITS_PER_BLOCK)) there
-        ∙ in_block (image at) new piece (bit % 4096) is (let w = whole in omega (arith, w)) new_long
+        ∙ in_block (image at) new piece (bit % PIECE_BITS) is (let w = whole in omega (arith, w)) new_long
         (omega arith) puts_in (other % BITS_PER_BLOCK)
         ∙ (λ i. cond (test same i) is (back same i))
   ]
     where
       test : other / BITS_PER_BLOCK ≡ bit / BITS_PER_BLOCK
-          → nat_eq (other % BITS_PER_BLOCK) (4096 * piece + bit % 4096) ≡ nat_eq other bit
+          → nat_eq (other % BITS_PER_BLOCK) (PIECE_BITS * piece + bit % PIECE_BITS) ≡ nat_eq other bit
       test same = elim (cases_eq other bit) [
-        | inl is ↦ equal (other % BITS_PER_BLOCK) (4096 * piece + bit % 4096) (omega (arith, is))
+        | inl is ↦ equal (other % BITS_PER_BLOCK) (PIECE_BITS * piece + bit % PIECE_BITS) (omega (arith, is))
             ∙ sym (equal other bit is)
-        | inr not ↦ differs (other % BITS_PER_BLOCK) (4096 * piece + bit % 4096)
+        | inr not ↦ differs (other % BITS_PER_BLOCK) (PIECE_BITS * piece + bit % PIECE_BITS)
             (λ is. not (omega (arith, is, same))) ∙ sym (differs other bit not)
       ]
 

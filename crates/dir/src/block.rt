@@ -1,6 +1,6 @@
 //! The slots of one block of a directory.
-ghost use Rattle.std.specs.Prelude.{◌≡◌, ◌+◌, ◌≤◌, length, IfOk, IfErr};
-ghost use Rattle.limits.specs.declared.TheConstants.{BLOCK_BYTES, SLOTS_PER_BLOCK};
+ghost use Rattle.std.specs.Prelude.{◌≡◌, ◌+◌, ◌*◌, ◌≤◌, length, IfOk, IfErr};
+ghost use Rattle.limits.specs.declared.TheConstants.{BLOCK_BYTES, MOST_SPAN, SLOTS_PER_BLOCK};
 ghost use Rattle.dir.specs.Slots.{HasFault, IsFound, IsNext, block_slot};
 
 use files::{Entry, SlotName};
@@ -17,7 +17,7 @@ pub(crate) fn find_in_block(
     name: &[u8],
 ) -> Result<Option<Entry>, LayoutFault>
     requires len { length block.now ≡ BLOCK_BYTES }
-    requires small { first + SLOTS_PER_BLOCK ≤ 40000 }
+    requires small { first + SLOTS_PER_BLOCK ≤ SLOTS_PER_BLOCK * MOST_SPAN }
     ensures ok { IfOk result
         (λ found. IsFound (block_slot inodes first block.now) name.now first (first + SLOTS_PER_BLOCK) found) }
     ensures err { IfErr result (λ fault. HasFault (block_slot inodes first block.now) first
@@ -45,7 +45,7 @@ pub(crate) fn next_in_block(
     from: u32,
 ) -> Result<Result<Option<SlotName>, LayoutFault>, AllocError>
     requires len { length block.now ≡ BLOCK_BYTES }
-    requires small { first + SLOTS_PER_BLOCK ≤ 40000 }
+    requires small { first + SLOTS_PER_BLOCK ≤ SLOTS_PER_BLOCK * MOST_SPAN }
     requires from { first ≤ from }
     ensures ok { IfOk result (λ read. IfOk read
         (λ found. IsNext (block_slot inodes first block.now) from (first + SLOTS_PER_BLOCK) found)) }

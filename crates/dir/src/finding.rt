@@ -2,7 +2,7 @@
 ghost use Rattle.std.specs.Prelude.{◌≡◌, ◌+◌, ◌*◌, ◌<◌, ◌≤◌, ℕ, IfErr, IfOk, IfSome, Some};
 ghost use Rattle.std.specs.FinMap.{get};
 ghost use Rattle.std.specs.Option.{option_map};
-ghost use Rattle.limits.specs.declared.TheConstants.{FILE_INDEXES, SLOTS_PER_BLOCK};
+ghost use Rattle.limits.specs.declared.TheConstants.{MOST_SPAN, SLOTS_PER_BLOCK};
 ghost use Rattle.disk.specs.Crash.{Image};
 ghost use Rattle.model.specs.Tree.{Tree};
 ghost use Rattle.layout.specs.Decode.{entries_in, span_of};
@@ -20,7 +20,7 @@ use limits::SLOTS_PER_BLOCK;
 
 // A slot that has a name, of those in the block at an index.
 fn find_at(snap: &Snap, inode: &Inode, index: usize, name: &[u8]) -> Result<Option<Entry>, Stop>
-    requires { index < FILE_INDEXES }
+    requires { index < MOST_SPAN }
     ensures ok { IfOk result (λ found. (blocks : Image) (tree : Tree) (file : ℕ)
         → IsDirectoryOf snap.now blocks tree file inode.now → index < span_of inode.now
         → IsFound (slot_at snap.now.geometry.inodes (content_in snap.now.geometry blocks) inode.now) name.now
@@ -44,7 +44,7 @@ fn find_at(snap: &Snap, inode: &Inode, index: usize, name: &[u8]) -> Result<Opti
 // How many of a directory's first blocks were read, as it seems: the last of them was, and the one behind them
 // wasn't, where there are any.
 fn reached(snap: &Snap, inode: &Inode, span: usize) -> usize
-    requires { span ≤ FILE_INDEXES }
+    requires { span ≤ MOST_SPAN }
     ensures { result ≤ span }
 {
     let mut least = 0;
@@ -63,7 +63,7 @@ fn reached(snap: &Snap, inode: &Inode, span: usize) -> usize
 // What a name leads to, where it lies in the block before an index, which was read last, and the next one wasn't
 // read. For this one it stops.
 fn find_before(snap: &Snap, inode: &Inode, index: usize, name: &[u8]) -> Result<Option<Entry>, Stop>
-    requires { index < FILE_INDEXES }
+    requires { index < MOST_SPAN }
     ensures ok { IfOk result (λ found. (blocks : Image) (tree : Tree) (file : ℕ)
         → IsDirectoryOf snap.now blocks tree file inode.now → index < span_of inode.now
         → IfSome found (λ place. IsFound (slot_at snap.now.geometry.inodes (content_in snap.now.geometry blocks)
@@ -84,7 +84,7 @@ fn find_before(snap: &Snap, inode: &Inode, index: usize, name: &[u8]) -> Result<
 
 // What a name leads to, by a look at all slots.
 fn find_among(snap: &Snap, inode: &Inode, span: usize, name: &[u8]) -> Result<Option<Entry>, Stop>
-    requires few { span ≤ FILE_INDEXES }
+    requires few { span ≤ MOST_SPAN }
     requires spans { span ≡ span_of inode.now }
     ensures ok { IfOk result (λ found. (blocks : Image) (tree : Tree) (file : ℕ)
         → IsDirectoryOf snap.now blocks tree file inode.now

@@ -1,6 +1,6 @@
 //! The names of a directory, by their slots.
 ghost use Rattle.std.specs.Prelude.{◌≡◌, ◌+◌, ◌*◌, ◌<◌, ◌≤◌, ℕ, IfErr, IfOk, IfSome};
-ghost use Rattle.limits.specs.declared.TheConstants.{FILE_INDEXES, SLOTS_PER_BLOCK};
+ghost use Rattle.limits.specs.declared.TheConstants.{MOST_SPAN, SLOTS_PER_BLOCK};
 ghost use Rattle.disk.specs.Crash.{Image};
 ghost use Rattle.model.specs.Tree.{Tree};
 ghost use Rattle.layout.specs.Decode.{span_of};
@@ -33,7 +33,7 @@ fn next_at(
     index: usize,
     from: u32,
 ) -> Result<Option<SlotName>, Stop>
-    requires index { index < FILE_INDEXES }
+    requires index { index < MOST_SPAN }
     requires from { SLOTS_PER_BLOCK * index ≤ from }
     ensures ok { IfOk result (λ found. (blocks : Image) (tree : Tree) (file : ℕ)
         → IsDirectoryOf snap.now blocks tree file inode.now → index < span_of inode.now
@@ -65,7 +65,7 @@ fn next_below(
     span: usize,
     from: u32,
 ) -> Result<Option<SlotName>, Stop>
-    requires few { span ≤ FILE_INDEXES }
+    requires few { span ≤ MOST_SPAN }
     requires spans { span ≡ span_of inode.now }
     ensures ok { IfOk result (λ found. (blocks : Image) (tree : Tree) (file : ℕ)
         → IsDirectoryOf snap.now blocks tree file inode.now

@@ -1,6 +1,6 @@
 //! The blocks that a directory spans.
 ghost use Rattle.std.specs.Prelude.{◌≡◌, ◌+◌, ◌*◌, ◌<◌, ◌≤◌, ℕ, cond, length, nat_lt, IfErr, IfNone, IfOk, IfSome};
-ghost use Rattle.limits.specs.declared.TheConstants.{BLOCK_BYTES, DIRECT_INDEXES, FILE_INDEXES, SLOTS_PER_BLOCK};
+ghost use Rattle.limits.specs.declared.TheConstants.{BLOCK_BYTES, DIRECT_INDEXES, MOST_SPAN, SLOTS_PER_BLOCK};
 ghost use Rattle.disk.specs.Crash.{Image};
 ghost use Rattle.model.specs.Tree.{Tree};
 ghost use Rattle.layout.specs.Decode.{span_of};
@@ -16,7 +16,7 @@ use limits::{BLOCK_BYTES, DIRECT_INDEXES, LARGEST_DIRECTORY};
 
 /// How many blocks a directory spans: None where it is larger than one may be.
 pub(crate) fn span_of(inode: &Inode) -> Option<usize>
-    ensures few { IfSome result (λ span. span ≤ FILE_INDEXES) }
+    ensures few { IfSome result (λ span. span ≤ MOST_SPAN) }
     ensures some { IfSome result (λ span. span ≡ span_of inode.now) }
     ensures none { IfNone result ((snap : Snap) (blocks : Image) (tree : Tree) (file : ℕ)
         → IsDirectoryOf snap blocks tree file inode.now → ⊥) }
@@ -30,7 +30,7 @@ pub(crate) fn span_of(inode: &Inode) -> Option<usize>
 /// How many blocks a directory uses: those that it spans, and its indirect block where it needs one. None where it
 /// is larger than one may be.
 pub fn used_of_directory(inode: &Inode) -> Option<u32>
-    ensures few { IfSome result (λ used. used ≤ FILE_INDEXES + 1) }
+    ensures few { IfSome result (λ used. used ≤ MOST_SPAN + 1) }
     ensures some { IfSome result (λ used. (snap : Snap) (blocks : Image) (tree : Tree) (file : ℕ)
         → IsDirectoryOf snap blocks tree file inode.now
         → IsShown inode.now used (body_in snap.geometry blocks inode.now)) }
@@ -45,7 +45,7 @@ pub fn used_of_directory(inode: &Inode) -> Option<u32>
 
 // So many blocks, and an indirect one where an inode doesn't name them all.
 fn with_indirect(span: u32) -> u32
-    requires { span ≤ FILE_INDEXES }
+    requires { span ≤ MOST_SPAN }
     ensures { result ≡ span + cond (nat_lt DIRECT_INDEXES span) 1 0 }
 {
     if (span as usize) > DIRECT_INDEXES {
@@ -61,7 +61,7 @@ pub(crate) fn directory_block<'a>(
     inode: &Inode,
     index: usize,
 ) -> Result<&'a [u8], Stop>
-    requires { index < FILE_INDEXES }
+    requires { index < MOST_SPAN }
     ensures len { IfOk result (λ block. length block.now ≡ BLOCK_BYTES) }
     ensures ok { IfOk result (λ block. (blocks : Image) (tree : Tree) (file : ℕ)
         → IsDirectoryOf snap.now blocks tree file inode.now → index < span_of inode.now

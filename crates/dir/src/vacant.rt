@@ -1,6 +1,6 @@
 //! Slots of directories in which no name lies.
 ghost use Rattle.std.specs.Prelude.{◌≡◌, ◌+◌, ◌*◌, ◌<◌, ◌≤◌, ℕ, length, IfErr, IfOk};
-ghost use Rattle.limits.specs.declared.TheConstants.{BLOCK_BYTES, FILE_INDEXES, SLOTS_PER_BLOCK};
+ghost use Rattle.limits.specs.declared.TheConstants.{BLOCK_BYTES, MOST_SPAN, SLOTS_PER_BLOCK};
 ghost use Rattle.disk.specs.Crash.{Image};
 ghost use Rattle.model.specs.Tree.{Tree};
 ghost use Rattle.procedures.specs.Places.{least_free_slot};
@@ -18,7 +18,7 @@ use limits::{MOST_SPAN, SLOTS_PER_BLOCK};
 // The first free slot of a block, where the block's slots are numbered from one on.
 fn free_in_block(block: &[u8], first: u32) -> Option<u32>
     requires len { length block.now ≡ BLOCK_BYTES }
-    requires small { first + SLOTS_PER_BLOCK ≤ 40000 }
+    requires small { first + SLOTS_PER_BLOCK ≤ SLOTS_PER_BLOCK * MOST_SPAN }
     ensures { (inodes : ℕ)
         → IsFirstFree (block_slot inodes first block.now) first (first + SLOTS_PER_BLOCK) result }
 {
@@ -32,7 +32,7 @@ fn free_in_block(block: &[u8], first: u32) -> Option<u32>
 
 // The first free slot of those in the block at an index.
 fn free_at(snap: &Snap, inode: &Inode, index: usize) -> Result<Option<u32>, Stop>
-    requires { index < FILE_INDEXES }
+    requires { index < MOST_SPAN }
     ensures ok { IfOk result (λ free. (blocks : Image) (tree : Tree) (file : ℕ)
         → IsDirectoryOf snap.now blocks tree file inode.now → index < span_of inode.now
         → IsFirstFree (slot_at snap.now.geometry.inodes (content_in snap.now.geometry blocks) inode.now)

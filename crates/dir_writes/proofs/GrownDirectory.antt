@@ -31,8 +31,7 @@ use Rattle.layout.specs.declared.inode.InodeKind.TheVariants as kinds
 use Rattle.layout.specs.declared.slot.Slot.{Slot}
 use Rattle.layout.specs.declared.slot.TheConstants.{SLOT_BYTES}
 use Rattle.layout.specs.Decode.{IsDirectory, IsOfKind, body_of, bytes_of, content_of, directory_in, entries_in}
-use Rattle.layout.specs.Decode.{named_in, node_with, numbers_of, slot_bytes, slots_of, span_of}
-use Rattle.layout.specs.Fields.{numbers_at}
+use Rattle.layout.specs.Decode.{named_in, node_with, numbers_in, numbers_of, slot_bytes, slots_of, span_of}
 use Rattle.layout.proofs.Written.{not_same}
 use Rattle.layout.specs.InodeForm.{SoundInode, is_data_block_or_none, is_sound_directory, is_sound_file, is_sound_inode}
 use Rattle.layout.specs.InodeForm.{is_sound_kind, is_sound_map, names_first}
@@ -580,8 +579,7 @@ module _ (snap : Snap) (base : Image) (tree : Tree) (n : ℕ) (inode : Inode) (n
 
         direct_first : names_first (min (span_of new) DIRECT_INDEXES) direct ≡ true
         direct_first = ap (λ m. names_first (min (span_of new) m) direct) (sym fills.count)
-            ∙ names_direct direct (cond (nat_eq far 0) (replicate INDIRECT_INDEXES 0)
-            (numbers_at INDIRECT_INDEXES 0 (after far))) (span_of new) spans_now
+            ∙ names_direct direct (numbers_in after far) (span_of new) spans_now
 
         far_first : cond (nat_lt DIRECT_INDEXES (span_of new)) (not (nat_eq far 0)) (nat_eq far 0) ≡ true
         far_first = ap (λ k. cond (nat_lt DIRECT_INDEXES k) (not (nat_eq far 0)) (nat_eq far 0)) new_span ∙ far_is

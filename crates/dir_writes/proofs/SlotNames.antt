@@ -10,7 +10,7 @@ use Rattle.std.proofs.lemmas.Bool.{cases_eq, eq-eqb}
 use Rattle.std.proofs.lemmas.List.{get_or-take, length-take-le}
 use Rattle.std.proofs.lemmas.List.FromFn.{get_or-range_with_len, length-range_with_len}
 use Rattle.std.proofs.lemmas.List.Elements.{All-from_get_or}
-use Rattle.limits.specs.declared.TheConstants.{BLOCK_BYTES, INDIRECT_INDEXES, SLOTS_PER_BLOCK}
+use Rattle.limits.specs.declared.TheConstants.{BLOCK_BYTES, SLOTS_PER_BLOCK}
 use Rattle.disk.specs.Crash.{Image}
 use Rattle.layout.specs.declared.geometry.Geometry.{Geometry}
 use Rattle.layout.specs.declared.inode.Inode.{Inode}
@@ -18,9 +18,9 @@ use Rattle.layout.specs.declared.slot.Slot.{Slot}
 use Rattle.layout.specs.declared.slot.TheConstants.{SLOT_BYTES}
 use Rattle.layout.specs.Decode.{IsDirectory, bytes_of, content_of, entries_in, entry_in, named_in, numbers_of}
 use Rattle.layout.specs.Decode.{slot_bytes, slots_of, span_of}
-use Rattle.layout.specs.Fields.{numbers_at}
 use Rattle.layout.specs.InodeForm.{is_data_block_or_none, names_first}
 use Rattle.layout.specs.SlotForm.{read_slot}
+use Rattle.layout.proofs.NumbersIn.{same_in}
 use Rattle.layout.proofs.Written.{not_same}
 use Rattle.inode.proofs.AllTests.{all_two}
 use Rattle.dir.specs.Slots.{Lying, slot_at}
@@ -103,9 +103,8 @@ module _ (g : Geometry) (content : Image) (inode : Inode) (s : ℕ) (bytes : Lis
 
   pub same_numbers : numbers_of after inode ≡ numbers
   unfolding numbers_of
-  same_numbers = ap (λ block. inode.direct ++ cond (nat_eq inode.indirect 0) (replicate INDIRECT_INDEXES 0)
-      (numbers_at INDIRECT_INDEXES 0 block))
-      (other_block content spanned s b bytes count long b_is some within alone inode.indirect once.indirect)
+  same_numbers = ap (λ l. inode.direct ++ l) (same_in after content inode.indirect
+      (λ mapped. other_block content spanned s b bytes count long b_is some within alone inode.indirect once.indirect))
 
   -- ---- its slots
 

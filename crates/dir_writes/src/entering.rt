@@ -1,6 +1,6 @@
 //! A name that is put into a directory.
 ghost use Rattle.std.specs.Prelude.{◌≡◌, ◌+◌, ◌*◌, ◌<◌, ◌≤◌, ℕ, length, true, false, IfErr, IfNone, IfOk, IfSome, IsSome, Ok, OnOk, Some};
-ghost use Rattle.limits.specs.declared.TheConstants.{BLOCK_BYTES, FILE_INDEXES, MOST_SPAN, NAME_BYTES};
+ghost use Rattle.limits.specs.declared.TheConstants.{BLOCK_BYTES, MOST_SPAN, NAME_BYTES};
 ghost use Rattle.limits.specs.declared.TheConstants.{SLOTS_PER_BLOCK};
 ghost use Rattle.disk.specs.Crash.{Image};
 ghost use Rattle.model.specs.Node.{Node};
@@ -65,7 +65,7 @@ fn enter_within(
 // behind those that it spans, or it may have no more.
 fn next_index(inode: &Inode, slot: u32) -> Option<usize>
     ensures some { IfSome result (λ index. (index ≡ span_of inode.now) × (slot ≡ SLOTS_PER_BLOCK * index)) }
-    ensures few { IfSome result (λ index. index < FILE_INDEXES) }
+    ensures few { IfSome result (λ index. index < MOST_SPAN) }
     ensures none { IfNone result (slot < SLOTS_PER_BLOCK * MOST_SPAN → SLOTS_PER_BLOCK * span_of inode.now ≤ slot
         → slot ≤ SLOTS_PER_BLOCK * span_of inode.now → ⊥) }
 {
@@ -90,7 +90,7 @@ fn enter_behind(
     entry_number: u32,
 ) -> Result<Inode, Stop>
     requires short { length name.now ≤ NAME_BYTES }
-    requires within { index < FILE_INDEXES }
+    requires within { index < MOST_SPAN }
     ensures ok { IfOk result (λ made. (blocks : Image) (tree : Tree) (node : Node) → IsDraft draft.old blocks tree
         → IsGrowth draft.old.there (image_of blocks draft.old) tree number inode.now node name.now entry_number
         → index ≡ span_of inode.now

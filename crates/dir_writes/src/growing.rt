@@ -1,6 +1,6 @@
 //! Directories that span one block more.
 ghost use Rattle.std.specs.Prelude.{◌≡◌, ◌+◌, ◌*◌, ◌<◌, ◌≤◌, ℕ, List, length, nat_eq, true, IfErr, IfOk};
-ghost use Rattle.limits.specs.declared.TheConstants.{BLOCK_BYTES, DIRECT_INDEXES, FILE_INDEXES, SLOTS_PER_BLOCK};
+ghost use Rattle.limits.specs.declared.TheConstants.{BLOCK_BYTES, DIRECT_INDEXES, MOST_SPAN, SLOTS_PER_BLOCK};
 ghost use Rattle.disk.specs.Crash.{Image};
 ghost use Rattle.model.specs.Node.{Node};
 ghost use Rattle.model.specs.Tree.{Tree, free};
@@ -26,7 +26,7 @@ use std::alloc::Global;
 
 // The size of a directory that has a block at this index, and none behind it.
 fn size_with(index: usize) -> u64
-    requires { index < FILE_INDEXES }
+    requires { index < MOST_SPAN }
     ensures { result ≡ BLOCK_BYTES * (index + 1) }
 {
     BLOCK_BYTES as u64 * (index as u64 + 1)
@@ -83,7 +83,7 @@ fn grow_far(
 ) -> Result<Inode, Stop>
     requires far { is_data draft.old.there.geometry inode.now.indirect ≡ true }
     requires past { DIRECT_INDEXES ≤ index }
-    requires within { index < FILE_INDEXES }
+    requires within { index < MOST_SPAN }
     requires len { length bytes.items ≡ BLOCK_BYTES }
     ensures ok { IfOk result (λ made. (blocks : Image) (tree : Tree) (node : Node) (name : List ℕ)
         (entry_number : ℕ) → IsDraft draft.old blocks tree
@@ -139,7 +139,7 @@ fn grow_first(
 ) -> Result<Inode, Stop>
     requires none { nat_eq inode.now.indirect 0 ≡ true }
     requires past { DIRECT_INDEXES ≤ index }
-    requires within { index < FILE_INDEXES }
+    requires within { index < MOST_SPAN }
     requires len { length bytes.items ≡ BLOCK_BYTES }
     ensures ok { IfOk result (λ made. (blocks : Image) (tree : Tree) (node : Node) (name : List ℕ)
         (entry_number : ℕ) → IsDraft draft.old blocks tree
@@ -186,7 +186,7 @@ pub(crate) fn grow(
     index: usize,
     bytes: Vec<u8>,
 ) -> Result<Inode, Stop>
-    requires within { index < FILE_INDEXES }
+    requires within { index < MOST_SPAN }
     requires len { length bytes.items ≡ BLOCK_BYTES }
     ensures ok { IfOk result (λ made. (blocks : Image) (tree : Tree) (node : Node) (name : List ℕ)
         (entry_number : ℕ) → IsDraft draft.old blocks tree

@@ -17,7 +17,7 @@ use drafts::Draft;
 use inode::{Snap, Stop, block_number, data_block};
 use layout::Inode;
 use layout_records::with_slot;
-use limits::{FILE_INDEXES, SLOTS_PER_BLOCK};
+use limits::{MOST_SPAN, SLOTS_PER_BLOCK};
 use objects::Addr;
 use std::alloc::Global;
 
@@ -41,7 +41,7 @@ fn slotted_block(
         → IsPause stop) }
 {
     let index = (slot / SLOTS_PER_BLOCK) as usize;
-    if index >= FILE_INDEXES {
+    if index >= MOST_SPAN {
         return Err(Stop::Io);
     }
     let number = match block_number(snap, inode, index) {

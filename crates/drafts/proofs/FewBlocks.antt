@@ -12,6 +12,7 @@ use Rattle.std.proofs.lemmas.Map.Made.{length-le_from_is_member}
 use Rattle.limits.specs.declared.TheConstants.{CHANGED_BLOCKS, FIRST_HOME_BLOCK}
 use Rattle.disk.specs.declared.block.BlockNo.{BlockNo}
 use Rattle.layout.specs.declared.geometry.Geometry.{Geometry}
+use Rattle.layout.specs.declared.grid.TheConstants.{PIECE_BYTES}
 use Rattle.layout.specs.Geometry.{table_at}
 use Rattle.layout.specs.Objects.{IsObject, inode, bits, whole}
 use Rattle.txn.specs.Group.{blocks_after, blocks_of, is_among}
@@ -158,7 +159,7 @@ module _ (g : Geometry) where
       ]
 
       -- a place that was written, of no part of a bitmap, is among those of what is spent
-      has : (block offset len : ℕ) (os : List ObjectBytes) → nat_eq len 512 ≡ false
+      has : (block offset len : ℕ) (os : List ObjectBytes) → nat_eq len PIECE_BYTES ≡ false
           → is_written block offset len os ≡ true → list_any (nat_eq block) (spent_places os) ≡ true
       has block offset len [] big e = let clash : false ≡ true = e in cc
       has block offset len (o ∷ os) big e =
@@ -182,7 +183,7 @@ module _ (g : Geometry) where
               one_of (is_place block offset len o.addr) (is_written block offset len os) e is in
               let is_counted : counts o os ≡ true =
               counted (is_spent o) (is_written o.addr.block.0 o.addr.offset o.addr.len os)
-              (ap (λ k. not (nat_eq k 512)) (sym (same_len block offset len o.addr same)) ∙ ap not big)
+              (ap (λ k. not (nat_eq k PIECE_BYTES)) (sym (same_len block offset len o.addr same)) ∙ ap not big)
               (sym (same_written block offset len o.addr os same) ∙ is) in
               ap (λ t. list_any (nat_eq block) (cond t (o.addr.block.0 ∷ spent_places os) (spent_places os))) is_counted
               ∙ is_it block o.addr.block.0 (spent_places os) (same_block block offset len o.addr same)
@@ -194,10 +195,10 @@ module _ (g : Geometry) where
           in_bitmaps (spent_places all) o.addr.block.0 from to
       one all o (inode number low block offset len) there =
           in_spent (spent_places all) o.addr.block.0
-          (has o.addr.block.0 o.addr.offset o.addr.len all (ap (λ k. nat_eq k 512) len) there)
+          (has o.addr.block.0 o.addr.offset o.addr.len all (ap (λ k. nat_eq k PIECE_BYTES) len) there)
       one all o (whole is offset len) there =
           in_spent (spent_places all) o.addr.block.0
-          (has o.addr.block.0 o.addr.offset o.addr.len all (ap (λ k. nat_eq k 512) len) there)
+          (has o.addr.block.0 o.addr.offset o.addr.len all (ap (λ k. nat_eq k PIECE_BYTES) len) there)
 
       itself : (n m k : ℕ) → (nat_eq n n && nat_eq m m && nat_eq k k) ≡ true
       itself n m k = grind (arith, nat_tests)

@@ -6,6 +6,7 @@ use Rattle.std.proofs.lemmas.Bool.Decides.{nat_tests}
 use Rattle.limits.specs.declared.TheConstants.{INODE_BYTES}
 use Rattle.objects.specs.declared.addr.Addr.{Addr}
 use Rattle.layout.specs.declared.geometry.Geometry.{Geometry}
+use Rattle.layout.specs.declared.grid.TheConstants.{PIECE_BYTES}
 use Rattle.layout.specs.Places.{inode_block, inode_offset}
 use Rattle.txn.specs.Object.{ObjectBytes}
 use Rattle.inode.proofs.AllTests.{all_three}
@@ -121,7 +122,7 @@ module _ (first object : ObjectBytes) (objects : List ObjectBytes) where
       (is_written first.addr.block.0 first.addr.offset first.addr.len (objects ++ object ∷ []))
       (behind ∙ ap (λ t. before || t) e) in
       let one : ◌≡◌ {A = ℕ} (one_if (counts first objects)) (one_if (counts object objects)) =
-      sym (λ i. one_if (not (nat_eq (same_len object.addr.block.0 object.addr.offset object.addr.len first.addr e i) 512)
+      sym (λ i. one_if (not (nat_eq (same_len object.addr.block.0 object.addr.offset object.addr.len first.addr e i) PIECE_BYTES)
       && not (same_written object.addr.block.0 object.addr.offset object.addr.len first.addr objects e i))) in
       omega (arith, gone, one, rest)
 
@@ -145,10 +146,10 @@ at_most false true = omega arith
 at_most false false = omega arith
 
 pub spent_by : (objects : List ObjectBytes) (object : ObjectBytes)
-    → spent_in (objects ++ object ∷ []) ≤ spent_in objects + cond (nat_eq object.addr.len 512) 0 1
+    → spent_in (objects ++ object ∷ []) ≤ spent_in objects + cond (nat_eq object.addr.len PIECE_BYTES) 0 1
 spent_by objects object =
     let more = spent_more objects object in
-    let most = at_most (nat_eq object.addr.len 512)
+    let most = at_most (nat_eq object.addr.len PIECE_BYTES)
     (is_written object.addr.block.0 object.addr.offset object.addr.len objects) in
     omega (arith, more, most)
 
@@ -188,12 +189,12 @@ stays_written block offset len objects object =
     fewer false false = omega arith
 
 pub more_spent : (old new : List ObjectBytes) (object : ObjectBytes) (addr : Addr) → object.addr ≡ addr
-    → new ≡ old ++ object ∷ [] → spent_in new ≤ spent_in old + cond (nat_eq addr.len 512) 0 1
+    → new ≡ old ++ object ∷ [] → spent_in new ≤ spent_in old + cond (nat_eq addr.len PIECE_BYTES) 0 1
 more_spent old new object addr is more =
     let by = spent_by old object in
     let count : spent_in new ≡ spent_in (old ++ object ∷ []) = ap spent_in more in
-    let len : ◌≡◌ {A = ℕ} (cond (nat_eq object.addr.len 512) 0 1) (cond (nat_eq addr.len 512) 0 1) =
-    ap (λ (a : Addr). cond (nat_eq a.len 512) 0 1) is in
+    let len : ◌≡◌ {A = ℕ} (cond (nat_eq object.addr.len PIECE_BYTES) 0 1) (cond (nat_eq addr.len PIECE_BYTES) 0 1) =
+    ap (λ (a : Addr). cond (nat_eq a.len PIECE_BYTES) 0 1) is in
     omega (arith, by, count, len)
 
 -- ---- drafts

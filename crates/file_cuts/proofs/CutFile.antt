@@ -21,7 +21,7 @@ use Rattle.layout.specs.declared.fault.LayoutFault.TheVariants.{Range}
 use Rattle.layout.specs.declared.geometry.Geometry.{Geometry}
 use Rattle.layout.specs.declared.inode.Inode.{Inode}
 use Rattle.layout.specs.Decode.{IsOfKind, IsRegular, body_of, bytes_of, content_of, inode_at, mapped_of, numbers_of}
-use Rattle.layout.specs.Decode.{regular_in}
+use Rattle.layout.specs.Decode.{numbers_in, regular_in}
 use Rattle.layout.specs.Fields.{four_at, four_bytes, is_zeros, number_bytes, numbers_at}
 use Rattle.layout.specs.InodeForm.{SoundInode, is_data_block_or_none, is_sound_file, is_sound_inode, is_sound_kind}
 use Rattle.layout.specs.InodeForm.{is_sound_map, is_sound_regular}
@@ -29,6 +29,7 @@ use Rattle.layout.specs.Owners.{owned_by}
 use Rattle.layout.specs.Parts.{content_in, parts_of, put}
 use Rattle.layout.specs.Places.{is_data}
 use Rattle.layout.proofs.Mapped.{regular-cost}
+use Rattle.layout.proofs.NumbersIn.{in_length, none_at, none_in, some_in}
 use Rattle.layout.proofs.OnGrid.{data_within}
 use Rattle.layout.proofs.Written.{not_same}
 use Rattle.inode.proofs.AllTests.{all_three, all_two, same_number}
@@ -43,7 +44,7 @@ use Rattle.file_cuts.specs.Cut.{count_before, cut_content, far_of, first_of, gon
 use Rattle.file_cuts.specs.Cut.{left_in, numbered, with_zeros, zeroed}
 use Rattle.file_cuts.proofs.CutBytes.{cut_bytes, more_zeros}
 use Rattle.file_cuts.proofs.CutNumbers.{all_dropped, all_stay, all_taken, are_zeros, before, in_front, none_some}
-use Rattle.file_cuts.proofs.CutNumbers.{parted, past, same_length, still_mapped, zero_at}
+use Rattle.file_cuts.proofs.CutNumbers.{parted, past, same_length, still_mapped}
 
 -- ---- numbers that were written are read
 
@@ -298,11 +299,8 @@ module _ (g : Geometry) (image : Image) (tree : Tree) (n : ℕ) (inode : Inode) 
   unfolding numbers_of
   no_far_numbers none q =
       let eight = (whole.sound g image tree n inode has).fits.count in
-      behind inode.direct (cond (nat_eq inode.indirect 0) (replicate INDIRECT_INDEXES 0)
-      (numbers_at INDIRECT_INDEXES 0 (content inode.indirect))) (DIRECT_INDEXES + q) (omega (arith, eight))
-      ∙ ap (λ t. get_or (cond t (replicate INDIRECT_INDEXES 0)
-      (numbers_at INDIRECT_INDEXES 0 (content inode.indirect))) (DIRECT_INDEXES + q - length inode.direct) 0) none
-      ∙ zero_at INDIRECT_INDEXES (DIRECT_INDEXES + q - length inode.direct)
+      behind inode.direct (numbers_in content inode.indirect) (DIRECT_INDEXES + q) (omega (arith, eight))
+      ∙ none_at content inode.indirect none (DIRECT_INDEXES + q - length inode.direct)
 
   none_behind : nat_eq far 0 ≡ true → (q : ℕ) → get_or (drop DIRECT_INDEXES kept) q 0 ≡ 0
   none_behind none q = by_test (is_far kept) refl none
@@ -317,13 +315,14 @@ module _ (g : Geometry) (image : Image) (tree : Tree) (n : ℕ) (inode : Inode) 
           ])
       by_test false is e = none_some (drop DIRECT_INDEXES kept) is q
 
-  far_read : (t : Bool) → nat_eq far 0 ≡ t
-      → cond t (replicate INDIRECT_INDEXES 0) (numbers_at INDIRECT_INDEXES 0 (after far)) ≡ drop DIRECT_INDEXES kept
+  far_read : (t : Bool) → nat_eq far 0 ≡ t → numbers_in after far ≡ drop DIRECT_INDEXES kept
   far_read true e =
-      sym (are_zeros (drop DIRECT_INDEXES kept) (λ q inside. none_behind e q)
-      ∙ ap (λ m. replicate {A = ℕ} m 0) far_count)
+      none_in after far e
+      ∙ ap (λ m. replicate {A = ℕ} m 0) (in_length after far ∙ sym far_count)
+      ∙ sym (are_zeros (drop DIRECT_INDEXES kept) (λ q inside. none_behind e q))
   far_read false e =
-      ap (numbers_at INDIRECT_INDEXES 0) (at_far e)
+      some_in after far e
+      ∙ ap (numbers_at INDIRECT_INDEXES 0) (at_far e)
       ∙ ap (λ m. numbers_at m 0 (number_bytes (drop DIRECT_INDEXES kept))) (sym far_count)
       ∙ written_back (drop DIRECT_INDEXES kept) (number_bytes (drop DIRECT_INDEXES kept)) 0
       (small_all g (drop DIRECT_INDEXES kept)

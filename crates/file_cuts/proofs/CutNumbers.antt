@@ -20,7 +20,7 @@ use Rattle.drafts.proofs.Marks.{times}
 use Rattle.file_writes.proofs.OneNumber.{is_mapped, none_mapped}
 use Rattle.file_cuts.specs.Cut.{count_before, first_of, is_some}
 
-pub zero_at : (m j : ℕ) → ◌≡◌ {A = ℕ} (get_or (replicate m 0) j 0) 0
+zero_at : (m j : ℕ) → ◌≡◌ {A = ℕ} (get_or (replicate m 0) j 0) 0
 zero_at zero j = refl
 zero_at (suc m) zero = refl
 zero_at (suc m) (suc j) = zero_at m j
@@ -67,11 +67,14 @@ all_both p [] ys first rest = rest
 all_both p (x ∷ xs) ys first rest =
     let both = all_two (p x) (list_all p xs) first in λ i. both.0 i && all_both p xs ys both.1 rest i
 
+pub all_padded : (p : ℕ → Bool) (k m : ℕ) (numbers : List ℕ) → list_all p numbers ≡ true → p 0 ≡ true
+    → list_all p (take k numbers ++ replicate m 0) ≡ true
+all_padded p k m numbers all is =
+    all_both p (take k numbers) (replicate m 0) (all_taken p k numbers all) (all_zeros p m is)
+
 pub all_stay : (p : ℕ → Bool) (k : ℕ) (numbers : List ℕ) → list_all p numbers ≡ true → p 0 ≡ true
     → list_all p (first_of k numbers) ≡ true
-all_stay p k numbers all is =
-    all_both p (take k numbers) (replicate (length numbers - k) 0) (all_taken p k numbers all)
-    (all_zeros p (length numbers - k) is)
+all_stay p k numbers all is = all_padded p k (length numbers - k) numbers all is
 
 pub all_dropped : (p : ℕ → Bool) (k : ℕ) (xs : List ℕ) → list_all p xs ≡ true → list_all p (drop k xs) ≡ true
 all_dropped p zero xs all = all

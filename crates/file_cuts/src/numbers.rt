@@ -15,7 +15,8 @@ use layout::Inode;
 use limits::{DIRECT_INDEXES, FILE_INDEXES};
 use std::alloc::{AllocError, Global};
 
-/// The numbers of the blocks of all indexes of a file, 0 where no block is mapped.
+/// The numbers of the blocks of all indexes of a file, 0 where no block is mapped. Only where it has an indirect
+/// block are there more than those of the direct indexes.
 pub(crate) fn all_numbers(alloc: Global, snap: &Snap, inode: &Inode) -> Result<Vec<u32>, Stop>
     ensures len { IfOk result (λ numbers. length numbers.items ≡ FILE_INDEXES) }
     ensures placed { IfOk result
@@ -28,7 +29,12 @@ pub(crate) fn all_numbers(alloc: Global, snap: &Snap, inode: &Inode) -> Result<V
         → HasInode snap.now blocks tree file inode.now → IsPause stop) }
 {
     let mut numbers = Vec::new(alloc);
-    'indexes: for index in 0..FILE_INDEXES {
+    let count = if inode.indirect == 0 {
+        DIRECT_INDEXES
+    } else {
+        FILE_INDEXES
+    };
+    'indexes: for index in 0..count {
         match block_number(snap, inode, index) {
             Ok(number) => match numbers.push(number) {
                 Ok(()) => {}
@@ -37,6 +43,7 @@ pub(crate) fn all_numbers(alloc: Global, snap: &Snap, inode: &Inode) -> Result<V
             Err(stop) => return Err(stop),
         }
     }
+    numbers.resize(FILE_INDEXES, 0)?;
     Ok(numbers)
 }
 

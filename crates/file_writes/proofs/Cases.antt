@@ -14,13 +14,14 @@ use Rattle.model.specs.Tree.{Tree}
 use Rattle.layout.specs.declared.fault.LayoutFault.TheVariants.{Range}
 use Rattle.layout.specs.declared.geometry.Geometry.{Geometry}
 use Rattle.layout.specs.declared.inode.Inode.{Inode}
-use Rattle.layout.specs.Decode.{content_of, inode_at, numbers_of}
+use Rattle.layout.specs.Decode.{content_of, inode_at, numbers_in, numbers_of}
 use Rattle.layout.specs.Fields.{four_bytes, numbers_at}
 use Rattle.layout.specs.InodeForm.{is_data_block_or_none}
 use Rattle.layout.specs.Owners.{owned, owned_by}
 use Rattle.layout.specs.Parts.{parts_of, put}
 use Rattle.layout.specs.Places.{is_data}
 use Rattle.layout.proofs.AllNumbers.{maps}
+use Rattle.layout.proofs.NumbersIn.{same_in, some_in}
 use Rattle.layout.proofs.OnGrid.{data_within}
 use Rattle.layout.proofs.Written.{not_same}
 use Rattle.drafts.proofs.Marks.{times}
@@ -125,20 +126,6 @@ put_here content b block = ap (λ t. cond t block (content b)) (eq-eqb b b refl)
 put_else : (content : Image) (b : ℕ) (block : List ℕ) (q : ℕ) → (q ≡ b → ⊥) → put content b block q ≡ content q
 put_else content b block q not = ap (λ t. cond t block (content q)) (not_same q b not)
 
--- the numbers of the indirect block
-abbrev pub far_numbers : Image → ℕ → List ℕ
-far_numbers blocks far = cond (nat_eq far 0) (replicate INDIRECT_INDEXES 0) (numbers_at INDIRECT_INDEXES 0 (blocks far))
-
-same_far : (one two : Image) (far : ℕ) → (nat_eq far 0 ≡ false → one far ≡ two far)
-    → far_numbers one far ≡ far_numbers two far
-same_far one two far same = by_test (nat_eq far 0) refl
-  where
-    by_test : (t : Bool) → nat_eq far 0 ≡ t
-        → cond t (replicate INDIRECT_INDEXES 0) (numbers_at INDIRECT_INDEXES 0 (one far))
-        ≡ cond t (replicate INDIRECT_INDEXES 0) (numbers_at INDIRECT_INDEXES 0 (two far))
-    by_test true e = refl
-    by_test false e = ap (numbers_at INDIRECT_INDEXES 0) (same e)
-
 module _ (g : Geometry) (base : Image) (tree : Tree) (n : ℕ) (inode : Inode)
     (has : HasMapped g base tree n inode) where
   abbrev was : Image
@@ -225,7 +212,7 @@ module _ (g : Geometry) (base : Image) (tree : Tree) (n : ℕ) (inode : Inode)
 
       now_there : numbers_of (put was b block) (mapping inode size inode.direct inode.indirect) ≡ all
       unfolding numbers_of
-      now_there = ap (λ l. inode.direct ++ l) (same_far (put was b block) was inode.indirect far_kept)
+      now_there = ap (λ l. inode.direct ++ l) (same_in (put was b block) was inode.indirect far_kept)
 
       pub block_there : Fills g base inode offset piece b inode.direct inode.indirect (put was b block) []
       block_there = record {
@@ -286,8 +273,8 @@ module _ (g : Geometry) (base : Image) (tree : Tree) (n : ℕ) (inode : Inode)
         unfolding numbers_of
         now_near =
             let long = direct_count in
-            ap (λ l. set inode.direct index b ++ l) (same_far (put was b block) was inode.indirect far_still)
-            ∙ sym (set-append_left inode.direct (far_numbers was inode.indirect) index b (omega (arith, long, near)))
+            ap (λ l. set inode.direct index b ++ l) (same_in (put was b block) was inode.indirect far_still)
+            ∙ sym (set-append_left inode.direct (numbers_in was inode.indirect) index b (omega (arith, long, near)))
 
         pub block_named : Fills g base inode offset piece b (set inode.direct index b) inode.indirect
             (put was b block) (b ∷ [])
@@ -325,14 +312,12 @@ module _ (g : Geometry) (base : Image) (tree : Tree) (n : ℕ) (inode : Inode)
 
         -- the numbers, where those of the indirect block have this one too
         named_far : (after : Image) (far : ℕ) → nat_eq far 0 ≡ false
-            → numbers_at INDIRECT_INDEXES 0 (after far) ≡ set (far_numbers was inode.indirect) place b
+            → numbers_at INDIRECT_INDEXES 0 (after far) ≡ set (numbers_in was inode.indirect) place b
             → numbers_of after (mapping inode size inode.direct far) ≡ set all index b
         unfolding numbers_of
         named_far after far some_far is =
-            ap (λ t. inode.direct ++ cond t (replicate INDIRECT_INDEXES 0) (numbers_at INDIRECT_INDEXES 0 (after far)))
-            some_far
-            ∙ ap (λ l. inode.direct ++ l) is
-            ∙ sym (set-append_right inode.direct (far_numbers was inode.indirect) DIRECT_INDEXES index b direct_count past)
+            ap (λ l. inode.direct ++ l) (some_in after far some_far ∙ is)
+            ∙ sym (set-append_right inode.direct (numbers_in was inode.indirect) DIRECT_INDEXES index b direct_count past)
 
         used_far : (far : ℕ) → (nat_eq far 0 || list_any is_some (drop (length inode.direct) (set all index b))) ≡ true
         used_far far = or_right (nat_eq far 0)
@@ -359,8 +344,7 @@ module _ (g : Geometry) (base : Image) (tree : Tree) (n : ℕ) (inode : Inode)
               (ap (numbers_at INDIRECT_INDEXES 0) far_has
               ∙ far_set (was inode.indirect) place b (long_content g base tree n inode has inode.indirect) far_low
               (data_fits b free.lies)
-              ∙ ap (λ t. set (cond t (replicate INDIRECT_INDEXES 0)
-              (numbers_at INDIRECT_INDEXES 0 (was inode.indirect))) place b) (sym some_far))
+              ∙ ap (λ l. set l place b) (sym (some_in was inode.indirect some_far)))
 
           pub block_named_far : Fills g base inode offset piece b inode.direct inode.indirect after_far (b ∷ [])
           block_named_far = record {
@@ -419,9 +403,7 @@ module _ (g : Geometry) (base : Image) (tree : Tree) (n : ℕ) (inode : Inode)
           now_first = named_far after_first far (not_zero g far far_free.lies)
               (ap (numbers_at INDIRECT_INDEXES 0) first_has
               ∙ far_set (replicate BLOCK_BYTES 0) place b refl far_low (data_fits b free.lies)
-              ∙ ap (λ l. set l place b) far_none
-              ∙ ap (λ t. set (cond t (replicate INDIRECT_INDEXES 0)
-              (numbers_at INDIRECT_INDEXES 0 (was inode.indirect))) place b) (sym no_far))
+              ∙ ap (λ l. set l place b) (far_none was inode.indirect no_far))
 
           not_first : (q : ℕ) → 1 ≤ times q own → q ≡ far → ⊥
           not_first q some_q same =

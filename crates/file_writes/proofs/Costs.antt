@@ -1,20 +1,20 @@
 -- What a piece adds to the blocks that a file uses.
 use Rattle.std.proofs.Common.{◌≡◌, ℕ, zero, suc, ◌+◌, ◌-◌, ◌/◌, ◌<◌, ◌≤◌, sym, ap, ◌∙◌, refl, Bool, true, false}
-use Rattle.std.proofs.Common.{cond, not, List, [], ◌∷◌, ◌++◌, length, get_or, drop, set, replicate, nat_eq}
+use Rattle.std.proofs.Common.{cond, not, List, [], ◌∷◌, length, get_or, drop, set, nat_eq}
 use Rattle.std.proofs.Common.{count_by, arith}
 use Rattle.std.specs.List.{list_any, range_with_len}
 use Rattle.std.proofs.lemmas.List.Sums.{sum_by-cons}
-use Rattle.limits.specs.declared.TheConstants.{BLOCK_BYTES, DIRECT_INDEXES, INDIRECT_INDEXES}
+use Rattle.limits.specs.declared.TheConstants.{BLOCK_BYTES, DIRECT_INDEXES}
 use Rattle.disk.specs.Crash.{Image}
 use Rattle.model.specs.Cost.{cost, file_cost}
 use Rattle.model.specs.Tree.{Tree}
 use Rattle.procedures.specs.Write.{mapped_with, touched, with_text}
 use Rattle.layout.specs.declared.geometry.Geometry.{Geometry}
 use Rattle.layout.specs.declared.inode.Inode.{Inode}
-use Rattle.layout.specs.Decode.{body_of, mapped_of, numbers_of}
-use Rattle.layout.specs.Fields.{numbers_at}
+use Rattle.layout.specs.Decode.{body_of, mapped_of, numbers_in, numbers_of}
 use Rattle.layout.specs.Parts.{content_in}
 use Rattle.layout.proofs.Mapped.{regular-cost}
+use Rattle.layout.proofs.NumbersIn.{none_some, past_direct}
 use Rattle.inode.specs.Shown.{body_in}
 use Rattle.file_writes.specs.Filling.{HasRegular, IsPiece}
 use Rattle.file_writes.proofs.OneNumber.{any_behind, is_some, mapped_more, same_behind}
@@ -35,14 +35,6 @@ count_more (x ∷ xs) (suc index) less none =
     let one = one_first x (set xs index 1) in
     let two = one_first x xs in
     let rest = count_more xs index (omega (arith, less)) none in omega (arith, one, two, rest)
-
-pub none_far : (k : ℕ) → list_any is_some (replicate k 0) ≡ false
-none_far zero = refl
-none_far (suc k) = none_far k
-
-pub drop_behind : (xs ys : List ℕ) → drop (length xs) (xs ++ ys) ≡ ys
-drop_behind [] ys = refl
-drop_behind (x ∷ xs) ys = drop_behind xs ys
 
 pub one_touched : (offset : ℕ) (piece : List ℕ) → IsPiece offset piece
     → touched offset (length piece) ≡ offset / BLOCK_BYTES ∷ []
@@ -105,17 +97,12 @@ module _ (g : Geometry) (base : Image) (tree : Tree) (n : ℕ) (inode : Inode)
       let one = before in let two = after in omega (arith, more, far, most, one, two)
 
   pub first_adds : DIRECT_INDEXES ≤ index → nat_eq inode.indirect 0 ≡ true → new_cost - body_cost ≡ 2
-  unfolding numbers_of
   first_adds past no_far =
       let more = count_more numbers index low none in
       let far = far_there past in
       let direct = (sound g base tree n inode has).fits.count in
-      let zeros : drop DIRECT_INDEXES numbers ≡ replicate INDIRECT_INDEXES 0 =
-      ap (λ k. drop k numbers) (sym direct)
-      ∙ drop_behind inode.direct (cond (nat_eq inode.indirect 0) (replicate INDIRECT_INDEXES 0)
-      (numbers_at INDIRECT_INDEXES 0 (content_in g base inode.indirect)))
-      ∙ ap (λ t. cond t (replicate INDIRECT_INDEXES 0)
-      (numbers_at INDIRECT_INDEXES 0 (content_in g base inode.indirect))) no_far in
-      let no = ap {B = ℕ} (λ l. cond (list_any is_some l) 1 0) zeros
-      ∙ ap {B = ℕ} (λ (t : Bool). cond t 1 0) (none_far INDIRECT_INDEXES) in
+      let behind : drop DIRECT_INDEXES numbers ≡ numbers_in (content_in g base) inode.indirect =
+      ap (λ k. drop k numbers) (sym direct) ∙ past_direct (content_in g base) inode in
+      let no = ap {B = ℕ} (λ l. cond (list_any is_some l) 1 0) behind
+      ∙ ap {B = ℕ} (λ (t : Bool). cond t 1 0) (none_some (content_in g base) inode.indirect no_far) in
       let one = before in let two = after in omega (arith, more, far, no, one, two)

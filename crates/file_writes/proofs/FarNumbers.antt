@@ -1,16 +1,19 @@
 -- The numbers in an indirect block after one of them was set.
 use Rattle.std.proofs.Common.{◌≡◌, ℕ, suc, ◌+◌, ◌-◌, ◌*◌, ◌<◌, ◌≤◌, ◌^◌, inl, inr, sym, ap, ◌∙◌, refl}
-use Rattle.std.proofs.Common.{List, [], ◌∷◌, length, take, drop, get_or, replicate, set, arith}
+use Rattle.std.proofs.Common.{List, [], ◌∷◌, length, take, drop, get_or, nat_eq, replicate, set, true, arith}
 use Rattle.std.specs.Int.{w32, from_le_bytes, to_le_bytes}
 use Rattle.std.proofs.lemmas.Bool.{cases_eq, cases_lt}
-use Rattle.std.proofs.lemmas.List.{drop-replicate, ext_get_or, get_or-replicate, get_or-set_other, get_or-set_same}
-use Rattle.std.proofs.lemmas.List.{length-replicate, length-set}
+use Rattle.std.proofs.lemmas.List.{drop-replicate, ext_get_or, get_or-set_other, get_or-set_same}
+use Rattle.std.proofs.lemmas.List.{length-set}
 use Rattle.std.proofs.lemmas.Nat.{from_le_bytes-to_le_bytes_4}
 use Rattle.limits.specs.declared.TheConstants.{BLOCK_BYTES, INDIRECT_INDEXES}
+use Rattle.disk.specs.Crash.{Image}
 use Rattle.objects.specs.Spliced.{spliced}
 use Rattle.objects.proofs.Splices as splices
+use Rattle.layout.specs.Decode.{numbers_in}
 use Rattle.layout.specs.Fields.{four_at, four_bytes, numbers_at}
 use Rattle.layout.proofs.NumbersAt.{number_at, numbers-length}
+use Rattle.layout.proofs.NumbersIn.{in_length, none_at}
 
 only_four : (xs : List ℕ) → from_le_bytes w32 xs ≡ from_le_bytes w32 (take 4 xs)
 only_four [] = refl
@@ -92,23 +95,25 @@ four_zeros m = ap (λ k. take 4 (replicate {A = ℕ} k 0)) there
     there : 4 + m ≡ suc (suc (suc (suc m)))
     there = omega arith
 
-pub far_none : numbers_at INDIRECT_INDEXES 0 (replicate BLOCK_BYTES 0) ≡ replicate INDIRECT_INDEXES 0
-far_none =
+-- it has the numbers that are there without a block
+pub far_none : (content : Image) (far : ℕ) → nat_eq far 0 ≡ true
+    → numbers_at INDIRECT_INDEXES 0 (replicate BLOCK_BYTES 0) ≡ numbers_in content far
+far_none content far none =
     let one = numbers-length INDIRECT_INDEXES 0 (replicate BLOCK_BYTES 0) in
-    let two : length (replicate {A = ℕ} INDIRECT_INDEXES 0) ≡ INDIRECT_INDEXES = length-replicate {A = ℕ} INDIRECT_INDEXES 0 in
-    ext_get_or 0 (numbers_at INDIRECT_INDEXES 0 (replicate BLOCK_BYTES 0)) (replicate INDIRECT_INDEXES 0)
+    let two = in_length content far in
+    ext_get_or 0 (numbers_at INDIRECT_INDEXES 0 (replicate BLOCK_BYTES 0)) (numbers_in content far)
     (omega (arith, one, two)) (λ j inside. at j (omega (arith, inside, one)))
   where
     at : (j : ℕ) → j < INDIRECT_INDEXES
         → get_or (numbers_at INDIRECT_INDEXES 0 (replicate BLOCK_BYTES 0)) j 0
-        ≡ get_or (replicate INDIRECT_INDEXES 0) j 0
+        ≡ get_or (numbers_in content far) j 0
     at j inside =
         let left : BLOCK_BYTES - (0 + 4 * j) ≡ 4 + (BLOCK_BYTES - 4 * j - 4) = omega (arith, inside) in
         number_at INDIRECT_INDEXES 0 (replicate BLOCK_BYTES 0) j inside
         ∙ told_by (0 + 4 * j) (replicate BLOCK_BYTES 0) (replicate 4 0)
         (ap (take 4) (drop-replicate (0 + 4 * j) BLOCK_BYTES 0 ∙ ap (λ m. replicate {A = ℕ} m 0) left)
         ∙ four_zeros (BLOCK_BYTES - 4 * j - 4))
-        ∙ sym (get_or-replicate INDIRECT_INDEXES j 0 0 inside)
+        ∙ sym (none_at content far none j)
 
 -- the bytes of a number, as they are written
 pub le_four : (number : ℕ) (bytes : List ℕ) → bytes ≡ to_le_bytes w32 number → bytes ≡ four_bytes number

@@ -1,24 +1,25 @@
 -- The indexes of a file that get blocks, and what they add to its cost.
 use Rattle.std.proofs.Common.{◌≡◌, ℕ, zero, suc, ◌+◌, ◌-◌, ◌<◌, ◌≤◌, sym, ap, ◌∙◌, refl, Bool, true, false, cond}
-use Rattle.std.proofs.Common.{not, ◌||◌, List, length, get_or, drop, set, nat_eq, replicate, arith}
+use Rattle.std.proofs.Common.{not, ◌||◌, List, length, get_or, drop, set, nat_eq, arith}
 use Rattle.std.specs.FinSet.{insert}
 use Rattle.std.specs.List.{list_any, range_with_len}
 use Rattle.std.proofs.lemmas.List.{get_or-set_other, length-set, set-get_or}
-use Rattle.limits.specs.declared.TheConstants.{DIRECT_INDEXES, FILE_INDEXES, INDIRECT_INDEXES}
+use Rattle.limits.specs.declared.TheConstants.{DIRECT_INDEXES, FILE_INDEXES}
 use Rattle.disk.specs.Crash.{Image}
 use Rattle.model.specs.Cost.{file_cost}
 use Rattle.model.specs.Tree.{Tree}
 use Rattle.procedures.specs.Write.{mapped_with}
 use Rattle.layout.specs.declared.geometry.Geometry.{Geometry}
 use Rattle.layout.specs.declared.inode.Inode.{Inode}
-use Rattle.layout.specs.Decode.{mapped_of, numbers_of}
-use Rattle.layout.specs.Fields.{count_of, numbers_at}
+use Rattle.layout.specs.Decode.{mapped_of, numbers_in, numbers_of}
+use Rattle.layout.specs.Fields.{count_of}
 use Rattle.layout.specs.Parts.{content_in}
 use Rattle.layout.proofs.Mapped.{regular-cost}
+use Rattle.layout.proofs.NumbersIn.{none_some, past_direct}
 use Rattle.file_writes.specs.Adding.{filled_up, some_number}
 use Rattle.file_writes.specs.Filling.{HasRegular}
 use Rattle.file_writes.proofs.Adjoining.{ranges}
-use Rattle.file_writes.proofs.Costs.{count_more, drop_behind, none_far}
+use Rattle.file_writes.proofs.Costs.{count_more}
 use Rattle.file_writes.proofs.OneNumber.{any_behind, is_some, mapped_more, same_behind}
 use Rattle.file_writes.proofs.PieceWritten.{count, rules, sound}
 
@@ -158,16 +159,11 @@ module _ (g : Geometry) (base : Image) (tree : Tree) (n : ℕ) (inode : Inode)
 
   pub first_added : missing + count_of numbers ≡ count_of filled → DIRECT_INDEXES ≤ last
       → nat_eq inode.indirect 0 ≡ true → missing + 1 ≡ after - before
-  unfolding numbers_of
   first_added sum past no_far =
       let now = far_now past in
       let direct = (sound g base tree n inode has).fits.count in
-      let zeros : drop DIRECT_INDEXES numbers ≡ replicate INDIRECT_INDEXES 0 =
-      ap (λ k. drop k numbers) (sym direct)
-      ∙ drop_behind inode.direct (cond (nat_eq inode.indirect 0) (replicate INDIRECT_INDEXES 0)
-      (numbers_at INDIRECT_INDEXES 0 (content_in g base inode.indirect)))
-      ∙ ap (λ t. cond t (replicate INDIRECT_INDEXES 0)
-      (numbers_at INDIRECT_INDEXES 0 (content_in g base inode.indirect))) no_far in
-      let none = ap {B = ℕ} (λ l. one_if (list_any is_some l)) zeros
-      ∙ ap one_if (none_far INDIRECT_INDEXES) in
+      let far : drop DIRECT_INDEXES numbers ≡ numbers_in (content_in g base) inode.indirect =
+      ap (λ k. drop k numbers) (sym direct) ∙ past_direct (content_in g base) inode in
+      let none = ap {B = ℕ} (λ l. one_if (list_any is_some l)) far
+      ∙ ap one_if (none_some (content_in g base) inode.indirect no_far) in
       let one = after_is in let two = before_is in omega (arith, sum, now, none, one, two)

@@ -15,6 +15,7 @@ use Rattle.layout.specs.InodeForm.{is_data_block_or_none}
 use Rattle.layout.specs.Parts.{content_in}
 use Rattle.layout.specs.Places.{is_data}
 use Rattle.layout.proofs.AllNumbers as all
+use Rattle.layout.proofs.NumbersIn.{none_at, some_in}
 use Rattle.txn.specs.Window.{object_at}
 use Rattle.inode.specs.declared.snap.Snap.{Snap}
 use Rattle.inode.specs.Over.{HasInode, IsOver, far_at, number_at}
@@ -72,23 +73,16 @@ module _ (g : Geometry) (blocks : Image) (inode : Inode) (index : ℕ) (direct :
         ap (λ k. far_at content inode.indirect (index - k)) (sym direct)
         ∙ sym (behind inode.direct _ index (omega (arith, more, direct)))
 
-no_number : (count index : ℕ) → ◌≡◌ {A = ℕ} (get_or (replicate count 0) index 0) 0
-no_number zero index = refl
-no_number (suc count) zero = refl
-no_number (suc count) (suc index) = no_number count index
-
 pub none_far : (content : Image) (indirect index : ℕ) → nat_eq indirect 0 ≡ true
     → 0 ≡ far_at content indirect index
 none_far content indirect index none =
-    sym (ap (λ b. get_or (cond b (replicate INDIRECT_INDEXES 0) (numbers_at INDIRECT_INDEXES 0 (content indirect)))
-    index 0) none ∙ no_number INDIRECT_INDEXES index)
+    sym (none_at content indirect none index)
 
 pub some_far : (content : Image) (indirect index : ℕ) (bytes : List ℕ) → nat_eq indirect 0 ≡ false
     → bytes ≡ content indirect → get_or (numbers_at INDIRECT_INDEXES 0 bytes) index 0 ≡ far_at content indirect index
 some_far content indirect index bytes some is =
     ap (λ block. get_or (numbers_at INDIRECT_INDEXES 0 block) index 0) is
-    ∙ sym (ap (λ b. get_or (cond b (replicate INDIRECT_INDEXES 0)
-    (numbers_at INDIRECT_INDEXES 0 (content indirect))) index 0) some)
+    ∙ sym (ap (λ l. get_or l index 0) (some_in content indirect some))
 
 module _ (snap : Snap) (blocks : Image) (tree : Tree) (number : ℕ) (inode : Inode)
     (has : HasInode snap blocks tree number inode) where

@@ -1,20 +1,21 @@
 -- A file that was read uses as many blocks as its inode and its indirect block name.
-use Rattle.std.proofs.Common.{◌≡◌, ℕ, zero, suc, ◌+◌, ◌≤◌, sym, ap, ◌∙◌, refl, Bool, true, false, cond, not}
-use Rattle.std.proofs.Common.{List, length, take, drop, replicate, nat_eq, nat_lt, count_by, arith}
+use Rattle.std.proofs.Common.{◌≡◌, ℕ, ◌+◌, ◌≤◌, sym, ap, ◌∙◌, refl, Bool, true, false, cond, not}
+use Rattle.std.proofs.Common.{List, length, take, drop, nat_eq, nat_lt, count_by, arith}
 use Rattle.std.specs.List.{list_all}
-use Rattle.std.proofs.lemmas.List.Sums.{sum_by-append, sum_by-cons}
+use Rattle.std.proofs.lemmas.List.Sums.{sum_by-append}
 use Rattle.limits.specs.declared.TheConstants.{DIRECT_INDEXES, INDIRECT_INDEXES, LARGEST_DIRECTORY}
 use Rattle.disk.specs.Crash.{Image}
 use Rattle.model.specs.Cost.{file_cost}
 use Rattle.layout.specs.declared.geometry.Geometry.{Geometry}
 use Rattle.layout.specs.declared.inode.Inode.{Inode}
-use Rattle.layout.specs.Decode.{numbers_of, mapped_of, span_of, IsMapped}
+use Rattle.layout.specs.Decode.{numbers_in, numbers_of, mapped_of, span_of, IsMapped}
 use Rattle.layout.specs.Fields.{numbers_at, count_of}
 use Rattle.layout.specs.InodeForm.{names_first}
 use Rattle.layout.proofs.Mapped.{is_some}
 use Rattle.layout.proofs.Used.{regular_held, first_count}
 use Rattle.inode.proofs.AllTests.{all_two}
 use Rattle.layout.proofs.AllNumbers.{all-length}
+use Rattle.layout.proofs.NumbersIn.{none_count, some_in}
 
 -- what is counted of an inode: what it names directly, and, where it has one, the indirect block and what
 -- that names
@@ -23,19 +24,11 @@ counted content inode =
     count_of inode.direct
     + cond (nat_eq inode.indirect 0) 0 (count_of (numbers_at INDIRECT_INDEXES 0 (content inode.indirect)) + 1)
 
-zero_more : (k : ℕ) → k ≡ 0 → 0 + k ≡ 0
-zero_more k e = omega (arith, e)
-
-no_blocks : (n : ℕ) → count_of (replicate n 0) ≡ 0
-no_blocks zero = refl
-no_blocks (suc n) = sum_by-cons (λ y. cond (is_some y) 1 0) 0 (replicate n 0)
-    ∙ zero_more (count_of (replicate n 0)) (no_blocks n)
-
-far_count : (none : Bool) (numbers : List ℕ)
-    → count_of (cond none (replicate INDIRECT_INDEXES 0) numbers) + cond none 0 1
-    ≡ cond none 0 (count_of numbers + 1)
-far_count true numbers = let none = no_blocks INDIRECT_INDEXES in omega (arith, none)
-far_count false numbers = refl
+far_count : (content : Image) (indirect : ℕ) (none : Bool) → nat_eq indirect 0 ≡ none
+    → count_of (numbers_in content indirect) + cond none 0 1
+    ≡ cond none 0 (count_of (numbers_at INDIRECT_INDEXES 0 (content indirect)) + 1)
+far_count content indirect true e = let none = none_count content indirect e in omega (arith, none)
+far_count content indirect false e = ap (λ l. count_of l + 1) (some_in content indirect e)
 
 module _ (g : Geometry) (content : Image) (inode : Inode) (direct : length inode.direct ≡ DIRECT_INDEXES)
   where
@@ -46,9 +39,8 @@ module _ (g : Geometry) (content : Image) (inode : Inode) (direct : length inode
         ≡ counted content inode
     unfolding numbers_of
     all_counted =
-        let both = sum_by-append (λ n. cond (is_some n) 1 0) inode.direct
-        (cond (nat_eq inode.indirect 0) (replicate INDIRECT_INDEXES 0) far) in
-        let rest = far_count (nat_eq inode.indirect 0) far in
+        let both = sum_by-append (λ n. cond (is_some n) 1 0) inode.direct (numbers_in content inode.indirect) in
+        let rest = far_count content inode.indirect (nat_eq inode.indirect 0) refl in
         omega (arith, both, rest)
 
     pub regular_counted : IsMapped g content inode

@@ -1,12 +1,12 @@
 -- Which blocks were read, and when a reading may stop.
-use Rattle.std.specs.Prelude.{◌≡◌, ℕ, ◌<◌, List, Some, Ok, true, false, cond, nat_eq, get_or, replicate}
+use Rattle.std.specs.Prelude.{◌≡◌, ℕ, ◌<◌, List, Some, Ok, true, false, nat_eq, get_or}
 use Rattle.std.specs.List.{list_all}
 use Rattle.limits.specs.declared.TheConstants.{INDIRECT_INDEXES}
 use Rattle.disk.specs.Crash.{Image}
 use Rattle.model.specs.Tree.{Tree}
 use Rattle.layout.specs.declared.geometry.Geometry.{Geometry}
 use Rattle.layout.specs.declared.inode.Inode.{Inode}
-use Rattle.layout.specs.Decode.{bytes_of, inode_at, numbers_of}
+use Rattle.layout.specs.Decode.{bytes_of, inode_at, numbers_in, numbers_of}
 use Rattle.layout.specs.Fields.{numbers_at}
 use Rattle.layout.specs.InodeForm.{is_data_block_or_none}
 use Rattle.layout.specs.Objects.{IsObject}
@@ -47,9 +47,7 @@ IsPause stop.NoMemory = Unit {0}
 
 -- the number at an index of an indirect block, 0 where there is none
 abbrev pub far_at : Image → ℕ → ℕ → ℕ
-far_at content indirect index =
-    get_or (cond (nat_eq indirect 0) (replicate INDIRECT_INDEXES 0)
-    (numbers_at INDIRECT_INDEXES 0 (content indirect))) index 0
+far_at content indirect index = get_or (numbers_in content indirect) index 0
 
 -- the number of the block at an index of a file
 abbrev pub number_at : Geometry → Image → Inode → ℕ → ℕ

@@ -4,4 +4,3 @@ pub mod Removed
 pub mod MoreBlocks
 pub mod Made
 pub mod Linked
-pub mod NoFar

@@ -1,7 +1,7 @@
 -- The blocks of a file that were read.
 use Rattle.std.proofs.Common.{◌≡◌, ℕ, ◌-◌, ◌<◌, ◌≤◌, ◌∙◌, sym, ap, subst, get_or, Option, Some, None, Result, Ok, Err}
 use Rattle.std.proofs.Common.{arith}
-use Rattle.limits.specs.declared.TheConstants.{DIRECT_INDEXES, FILE_INDEXES}
+use Rattle.limits.specs.declared.TheConstants.{DIRECT_INDEXES, MOST_SPAN}
 use Rattle.disk.specs.Crash.{Image}
 use Rattle.layout.specs.declared.fault.LayoutFault.{LayoutFault}
 use Rattle.layout.specs.declared.inode.Inode.{Inode}
@@ -27,8 +27,8 @@ module _ (snap : Snap) (blocks : Image) (inode : Inode) (index : ℕ) where
   far_read number more (near less is) = absurd (omega (arith, less, more))
   far_read number more (far past within read is) = read
 
-  -- no file has a block past its last index
-  pub named_within : (number : ℕ) → Names snap blocks inode index number → index < FILE_INDEXES
+  -- no directory has a block past its greatest span
+  pub named_within : (number : ℕ) → Names snap blocks inode index number → index < MOST_SPAN
   named_within number (near less is) = omega (arith, less)
   named_within number (far more within read is) = within
 

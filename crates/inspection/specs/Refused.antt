@@ -2,7 +2,7 @@
 use Rattle.std.specs.Prelude.{◌≡◌, ℕ, ◌-◌, ◌*◌, ◌<◌, ◌≤◌, List, length, true, false, take, drop, get_or, Some, Ok}
 use Rattle.std.specs.Prelude.{Err}
 use Rattle.std.specs.List.{list_all}
-use Rattle.limits.specs.declared.TheConstants.{BLOCK_BYTES, DIRECT_INDEXES, FILE_INDEXES, INDIRECT_INDEXES}
+use Rattle.limits.specs.declared.TheConstants.{BLOCK_BYTES, DIRECT_INDEXES, INDIRECT_INDEXES, MOST_SPAN}
 use Rattle.limits.specs.declared.TheConstants.{SLOTS_PER_BLOCK}
 use Rattle.disk.specs.Crash.{Image}
 use Rattle.objects.specs.declared.addr.Addr.{Addr}
@@ -39,10 +39,10 @@ pub record WasReadBlock (snap : Snap) (blocks : Image) (number : ℕ) : Type 0 w
 abbrev pub far_numbers : Image → Inode → List ℕ
 far_numbers blocks inode = numbers_at INDIRECT_INDEXES 0 (blocks inode.indirect)
 
--- A file has the block of this number at an index: by its inode, or by its indirect block, which was read.
+-- A directory has the block of this number at an index: by its inode, or by its indirect block, which was read.
 pub data Names (snap : Snap) (blocks : Image) (inode : Inode) (index number : ℕ) : Type 0 where
   near : index < DIRECT_INDEXES → number ≡ get_or inode.direct index 0 → Names snap blocks inode index number
-  far : DIRECT_INDEXES ≤ index → index < FILE_INDEXES → WasReadBlock snap blocks inode.indirect
+  far : DIRECT_INDEXES ≤ index → index < MOST_SPAN → WasReadBlock snap blocks inode.indirect
       → number ≡ get_or (far_numbers blocks inode) (index - DIRECT_INDEXES) 0
       → Names snap blocks inode index number
 

@@ -1,7 +1,7 @@
 //! The blocks of a file, as far as they were read.
 ghost use Rattle.std.specs.Prelude.{ℕ, ◌≡◌, ◌<◌, length, true, false, IfNone, IfSome};
 ghost use Rattle.std.specs.List.{list_all};
-ghost use Rattle.limits.specs.declared.TheConstants.{BLOCK_BYTES, FILE_INDEXES, INDIRECT_INDEXES};
+ghost use Rattle.limits.specs.declared.TheConstants.{BLOCK_BYTES, INDIRECT_INDEXES, MOST_SPAN};
 ghost use Rattle.disk.specs.Crash.{Image};
 ghost use Rattle.layout.specs.Decode.{span_of};
 ghost use Rattle.layout.specs.Fields.{numbers_at};
@@ -13,7 +13,7 @@ ghost use Rattle.inspection.specs.Refused.{WasReadBlock};
 use disk::BlockNo;
 use inode::Snap;
 use layout::{Geometry, Inode, InodeKind, Numbers, Slot};
-use limits::{BLOCK_BYTES, DIRECT_INDEXES, FILE_INDEXES, INDIRECT_INDEXES, SLOTS_PER_BLOCK};
+use limits::{BLOCK_BYTES, DIRECT_INDEXES, INDIRECT_INDEXES, MOST_SPAN, SLOTS_PER_BLOCK};
 use objects::Addr;
 
 // The bytes of a data block, if it was read.
@@ -66,9 +66,9 @@ fn has_refused_slot(inodes: u32, block: &[u8]) -> bool
     false
 }
 
-// The number of the block at an index of a file, if what names it was read.
+// The number of the block at an index of a directory, if what names it was read.
 fn named_at(snap: &Snap, inode: &Inode, index: usize) -> Option<u32>
-    requires { index < FILE_INDEXES }
+    requires { index < MOST_SPAN }
     ensures some { IfSome result (λ number. (blocks : Image) → AreRead snap.now blocks
         → Names snap.now blocks inode.now index number) }
     ensures one { IfSome result (λ number. (blocks : Image) (other : ℕ) → Saw blocks snap.now
@@ -86,7 +86,7 @@ fn named_at(snap: &Snap, inode: &Inode, index: usize) -> Option<u32>
 
 // Whether the layout refuses a slot of a block that was read of a directory.
 fn is_refused_at(snap: &Snap, inode: &Inode, index: usize) -> bool
-    requires { index < FILE_INDEXES }
+    requires { index < MOST_SPAN }
     ensures some { result ≡ true → (blocks : Image) → AreRead snap.now blocks
         → IsRefusedAt snap.now blocks inode.now index }
     ensures none { result ≡ false → (blocks : Image) → Saw blocks snap.now
@@ -109,7 +109,7 @@ fn is_refused_directory(snap: &Snap, inode: &Inode) -> bool
         → index < span_of inode.now → IsRefusedAt snap.now blocks inode.now index → ⊥ }
 {
     let span = inode.size / BLOCK_BYTES as u64;
-    'indexes: for index in 0..FILE_INDEXES {
+    'indexes: for index in 0..MOST_SPAN {
         if index as u64 >= span {
             return false;
         }

@@ -1,6 +1,6 @@
 -- The numbers of a file's blocks: how many there are, and where they lie.
-use Rattle.std.proofs.Common.{◌≡◌, ℕ, zero, suc, ◌∙◌, refl, Bool, true, false, cond, ◌&&◌}
-use Rattle.std.proofs.Common.{length-append, length, List, replicate, nat_eq, arith}
+use Rattle.std.proofs.Common.{◌≡◌, ℕ, ◌∙◌, Bool, true, false, ◌&&◌}
+use Rattle.std.proofs.Common.{length-append, length, List, nat_eq, arith}
 use Rattle.std.specs.List.{list_all}
 use Rattle.std.proofs.lemmas.List.Folds.{list_all-append}
 use Rattle.limits.specs.declared.TheConstants.{DIRECT_INDEXES, FILE_INDEXES, INDIRECT_INDEXES}
@@ -9,12 +9,12 @@ use Rattle.layout.specs.declared.geometry.Geometry.{Geometry}
 use Rattle.layout.specs.declared.inode.Inode.{Inode}
 use Rattle.layout.specs.declared.inode.InodeKind.{InodeKind}
 use Rattle.layout.specs.declared.inode.InodeKind.TheVariants.{Regular, Directory, Link}
-use Rattle.layout.specs.Decode.{numbers_of}
+use Rattle.layout.specs.Decode.{numbers_in, numbers_of}
 use Rattle.layout.specs.Fields.{numbers_at}
 use Rattle.layout.specs.InodeForm.{SoundInode, is_data_block_or_none, is_sound_inode, is_sound_kind}
 use Rattle.layout.specs.InodeForm.{is_sound_file, is_sound_map, is_sound_regular, is_sound_directory}
 use Rattle.layout.specs.InodeForm.{is_sound_link}
-use Rattle.layout.proofs.NumbersAt.{numbers-length}
+use Rattle.layout.proofs.NumbersIn.{in_length, placed_in}
 use Rattle.layout.proofs.Respelled.{all_two, all_three}
 
 -- a sound inode names data blocks alone
@@ -27,34 +27,17 @@ map_is g Directory inode e =
 map_is g Link inode e =
     (all_three (is_sound_file inode) (is_sound_map g inode) (is_sound_link inode) e).1
 
-far-length : (content : Image) (indirect : ℕ) (none : Bool)
-    → length (cond none (replicate INDIRECT_INDEXES 0) (numbers_at INDIRECT_INDEXES 0 (content indirect)))
-    ≡ INDIRECT_INDEXES
-far-length content indirect true = refl
-far-length content indirect false = numbers-length INDIRECT_INDEXES 0 (content indirect)
-
 pub all-length : (content : Image) (inode : Inode) → length inode.direct ≡ DIRECT_INDEXES
     → length (numbers_of content inode) ≡ FILE_INDEXES
 unfolding numbers_of
 all-length content inode direct =
-    let far = far-length content inode.indirect (nat_eq inode.indirect 0) in
-    let both = length-append inode.direct
-    (cond (nat_eq inode.indirect 0) (replicate INDIRECT_INDEXES 0)
-    (numbers_at INDIRECT_INDEXES 0 (content inode.indirect))) in
+    let far = in_length content inode.indirect in
+    let both = length-append inode.direct (numbers_in content inode.indirect) in
     omega (arith, both, far, direct)
 
 module _ (g : Geometry) where
   abbrev are_placed : List ℕ → Bool
   are_placed = list_all (is_data_block_or_none g)
-
-  none_placed : (count : ℕ) → are_placed (replicate count 0) ≡ true
-  none_placed zero = refl
-  none_placed (suc count) = none_placed count
-
-  far_placed : (none : Bool) (far : List ℕ) → (none ≡ false → are_placed far ≡ true)
-      → are_placed (cond none (replicate INDIRECT_INDEXES 0) far) ≡ true
-  far_placed true far placed = none_placed INDIRECT_INDEXES
-  far_placed false far placed = placed refl
 
   pub maps : (inode : Inode) → SoundInode g inode
       → (are_placed inode.direct ≡ true) × (is_data_block_or_none g inode.indirect ≡ true)
@@ -69,8 +52,5 @@ module _ (g : Geometry) where
       → are_placed (numbers_of content inode) ≡ true
   unfolding numbers_of
   all_placed content inode sound placed =
-      list_all-append (is_data_block_or_none g) inode.direct
-      (cond (nat_eq inode.indirect 0) (replicate INDIRECT_INDEXES 0)
-      (numbers_at INDIRECT_INDEXES 0 (content inode.indirect)))
-      ∙ (λ i. (maps inode sound).0 i
-      && far_placed (nat_eq inode.indirect 0) (numbers_at INDIRECT_INDEXES 0 (content inode.indirect)) placed i)
+      list_all-append (is_data_block_or_none g) inode.direct (numbers_in content inode.indirect)
+      ∙ (λ i. (maps inode sound).0 i && placed_in content inode.indirect g placed i)

@@ -1,6 +1,6 @@
 -- The numbers of an indirect block, counted where they lie.
 use Rattle.std.proofs.Common.{◌≡◌, ℕ, zero, suc, ◌+◌, ◌*◌, ◌<◌, ap, ◌∙◌, sym, refl, Bool, true, false, ◌&&◌, cond, not}
-use Rattle.std.proofs.Common.{List, [], ◌∷◌, ◌++◌, length, nat_eq, get_or, arith}
+use Rattle.std.proofs.Common.{List, [], ◌∷◌, length, nat_eq, get_or, arith}
 use Rattle.std.specs.List.{list_all}
 use Rattle.std.proofs.lemmas.Bool.{eq-eqb, ne_eqb}
 use Rattle.std.proofs.lemmas.List.Sums.{sum_by-append, sum_by-cons}

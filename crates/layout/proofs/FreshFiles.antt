@@ -23,10 +23,12 @@ use Rattle.layout.specs.Decode.{IsFile, IsDirectory, file_of, inode_at, numbers_
 use Rattle.layout.specs.Fresh.{HasFreshHomes, root_inode, is_outside}
 use Rattle.layout.specs.Owners.{IsMarked, owned, owned_by, is_used, is_marked_block, is_marked_inode}
 use Rattle.layout.specs.Parts.{Parts, parts_of, table_of, content_in, bit_at}
+use Rattle.layout.specs.InodeForm.{is_data_block_or_none}
 use Rattle.layout.specs.Geometry.{IsLawful, bitmap_blocks, inode_bitmap_at, data_at}
 use Rattle.layout.specs.Stands.{geometry_of, file_at}
 use Rattle.layout.proofs.FreshBits.{bit_is}
 use Rattle.layout.proofs.FreshInodes.{free_at, root_at}
+use Rattle.layout.proofs.NumbersIn.{none_left, none_pass}
 
 -- ---- the two inodes
 
@@ -34,8 +36,8 @@ module _ (g : Geometry) (image : Image) (moment : Moment) where
   root_kept : IsDirectory g image (root_inode moment)
   unfolding numbers_of named_in
   root_kept = record {
-    mapped = record { numbers = refl; used = refl };
-    spans = refl;
+    mapped = record { numbers = none_pass image 0 refl (is_data_block_or_none g) refl; used = refl };
+    spans = none_pass image 0 refl (λ number. nat_eq number 0) refl;
     slots = λ k d less. absurd (omega (arith, less));
     once = len-empty (slice_cmp nat_cmp) DirectoryEntry;
   }
@@ -52,7 +54,7 @@ module _ (g : Geometry) (image : Image) (moment : Moment) where
 
   root_owns : owned_by image (Ok (Some (root_inode moment))) ≡ []
   unfolding numbers_of
-  root_owns = refl
+  root_owns = none_left image 0 refl
 
   free_owns : owned_by image (Ok None) ≡ []
   free_owns = refl

@@ -26,6 +26,7 @@ pub mod SuperBytes
 pub mod OneGeometry
 pub mod Versions
 pub mod AllNumbers
+pub mod NumbersIn
 pub mod OnGrid
 pub mod Holding
 pub mod CountedAt

@@ -6,26 +6,23 @@ use Rattle.std.specs.List.{AllByRecursion, filter_map, list_all, list_any}
 use Rattle.std.specs.Cmp.Lexicographic.{slice_cmp}
 use Rattle.std.specs.Ordering.{nat_cmp}
 use Rattle.std.specs.FinMap as map
-use Rattle.limits.specs.declared.TheConstants.{BLOCK_BYTES, INDIRECT_INDEXES}
+use Rattle.limits.specs.declared.TheConstants.{BLOCK_BYTES}
 use Rattle.disk.specs.Crash.{Image}
 use Rattle.layout.specs.declared.fault.LayoutFault.{LayoutFault}
 use Rattle.layout.specs.declared.geometry.Geometry.{Geometry}
 use Rattle.layout.specs.declared.inode.Inode.{Inode}
 use Rattle.layout.specs.declared.inode.InodeKind.{InodeKind}
 use Rattle.layout.specs.declared.inode.InodeKind.TheVariants.{Regular, Directory, Link}
-use Rattle.layout.specs.Decode.{numbers_of, content_of, bytes_of, mapped_of, span_of, slot_bytes}
+use Rattle.layout.specs.Decode.{numbers_in, numbers_of, content_of, bytes_of, mapped_of, span_of, slot_bytes}
 use Rattle.layout.specs.declared.slot.TheConstants.{SLOT_BYTES}
 use Rattle.layout.specs.Decode.{slots_of, entry_in, named_in, node_with, body_of, file_of, IsMapped}
 use Rattle.layout.specs.Decode.{IsOfKind, IsFile, pointer_blocks}
-use Rattle.layout.specs.Fields.{numbers_at, is_zeros}
+use Rattle.layout.specs.Fields.{is_zeros}
 use Rattle.layout.specs.InodeForm.{is_data_block_or_none, names_first}
 use Rattle.layout.specs.Owners.{owned_by}
 use Rattle.layout.specs.SlotForm.{read_slot}
+use Rattle.layout.proofs.NumbersIn.{either, same_in}
 use Rattle.model.specs.Node as model
-
-either : {A : Type 0} (t : Bool) (z x y : A) → (t ≡ false → x ≡ y) → cond t z x ≡ cond t z y
-either true z x y h = refl
-either false z x y h = h refl
 
 module _ (P : ℕ → Type 0) where
   all_left : (xs ys : List ℕ) → AllByRecursion P (xs ++ ys) → AllByRecursion P xs
@@ -77,11 +74,7 @@ module _ (a b : Image) where
 
     numbers : numbers_of b inode ≡ numbers_of a inode
     unfolding numbers_of
-    numbers = ap (λ far. inode.direct ++ far)
-        (either (nat_eq inode.indirect 0) (replicate INDIRECT_INDEXES 0)
-        (numbers_at INDIRECT_INDEXES 0 (b inode.indirect))
-        (numbers_at INDIRECT_INDEXES 0 (a inode.indirect))
-        (λ mapped. ap (numbers_at INDIRECT_INDEXES 0) (both.0 mapped)))
+    numbers = ap (λ far. inode.direct ++ far) (same_in b a inode.indirect both.0)
 
     each : AllByRecursion IsAlike (numbers_of a inode)
     each = same_parts (numbers_of a inode) both.1
@@ -96,9 +89,7 @@ module _ (a b : Image) where
     each_direct : AllByRecursion IsAlike inode.direct
     unfolding numbers_of
     each_direct =
-        all_left IsAlike inode.direct
-        (cond (nat_eq inode.indirect 0) (replicate INDIRECT_INDEXES 0)
-        (numbers_at INDIRECT_INDEXES 0 (a inode.indirect))) each
+        all_left IsAlike inode.direct (numbers_in a inode.indirect) each
 
     target : bytes_of b (take 1 inode.direct) ≡ bytes_of a (take 1 inode.direct)
     target = same_bytes (take 1 inode.direct) (all_take IsAlike 1 inode.direct each_direct)

@@ -1,22 +1,17 @@
 -- What a file's inode and blocks say of how many blocks it holds.
 use Rattle.std.proofs.Common.{◌≡◌, ℕ, zero, suc, ◌+◌, ◌≤◌, sym, ap, ◌∙◌, refl, Bool, true, false, cond, not}
-use Rattle.std.proofs.Common.{◌||◌, ◌&&◌, List, [], ◌∷◌, length, take, drop, nat_eq, replicate, count_by}
+use Rattle.std.proofs.Common.{◌||◌, ◌&&◌, List, [], ◌∷◌, length, take, drop, nat_eq, count_by}
 use Rattle.std.proofs.Common.{arith}
 use Rattle.std.specs.List.{list_any, list_all}
-use Rattle.std.proofs.Math.Seq.{drop-append_seam}
 use Rattle.std.proofs.lemmas.List.Sums.{sum_by-cons}
-use Rattle.limits.specs.declared.TheConstants.{DIRECT_INDEXES, INDIRECT_INDEXES}
+use Rattle.limits.specs.declared.TheConstants.{DIRECT_INDEXES}
 use Rattle.disk.specs.Crash.{Image}
 use Rattle.model.specs.Cost.{file_cost}
 use Rattle.layout.specs.declared.geometry.Geometry.{Geometry}
 use Rattle.layout.specs.declared.inode.Inode.{Inode}
 use Rattle.layout.specs.Decode.{numbers_of, mapped_of, IsMapped}
-use Rattle.layout.specs.Fields.{numbers_at}
 use Rattle.layout.proofs.Mapped.{is_some, regular-cost}
-
-none_of : (n : ℕ) → list_any is_some (replicate n 0) ≡ false
-none_of zero = refl
-none_of (suc n) = none_of n
+use Rattle.layout.proofs.NumbersIn.{none_some, past_direct}
 
 by_far : (none any : Bool) → (none || any) ≡ true → (none ≡ true → any ≡ false)
     → ◌≡◌ {A = ℕ} (cond any 1 0) (cond none 0 1)
@@ -25,20 +20,9 @@ by_far false any e no_more = ap (λ b. cond b 1 0) e
 
 module _ (g : Geometry) (content : Image) (inode : Inode) (direct : length inode.direct ≡ DIRECT_INDEXES)
   where
-    abbrev rest : List ℕ
-    rest = cond (nat_eq inode.indirect 0) (replicate INDIRECT_INDEXES 0)
-        (numbers_at INDIRECT_INDEXES 0 (content inode.indirect))
-
-    past_direct : drop (length inode.direct) (numbers_of content inode) ≡ rest
-    unfolding numbers_of
-    past_direct = drop-append_seam inode.direct rest
-
     no_more : nat_eq inode.indirect 0 ≡ true
         → list_any is_some (drop (length inode.direct) (numbers_of content inode)) ≡ false
-    no_more none = ap (list_any is_some) past_direct
-        ∙ ap (λ b. list_any is_some
-        (cond b (replicate INDIRECT_INDEXES 0) (numbers_at INDIRECT_INDEXES 0 (content inode.indirect)))) none
-        ∙ none_of INDIRECT_INDEXES
+    no_more none = ap (list_any is_some) (past_direct content inode) ∙ none_some content inode.indirect none
 
     -- a regular file holds the blocks of its indexes, and the indirect block
     pub regular_held : IsMapped g content inode

@@ -26,12 +26,15 @@ use Rattle.layout.specs.SlotForm.{read_slot}
 abbrev pub pointer_blocks : Inode → List ℕ
 pointer_blocks inode = inode.indirect ∷ []
 
--- the numbers of the blocks of all indexes, 0 where no block is mapped: the direct ones, then those of the
+-- the numbers in a block that holds numbers, zeros where there is none
+unfoldable pub numbers_in : Image → ℕ → List ℕ
+numbers_in blocks number =
+    cond (nat_eq number 0) (replicate INDIRECT_INDEXES 0) (numbers_at INDIRECT_INDEXES 0 (blocks number))
+
+-- the numbers of the blocks of all indexes, 0 where no block is mapped: the direct ones, then those in the
 -- indirect block
 unfoldable pub numbers_of : Image → Inode → List ℕ
-numbers_of blocks inode =
-    inode.direct ++ cond (nat_eq inode.indirect 0) (replicate INDIRECT_INDEXES 0)
-    (numbers_at INDIRECT_INDEXES 0 (blocks inode.indirect))
+numbers_of blocks inode = inode.direct ++ numbers_in blocks inode.indirect
 
 -- the bytes of an index: zeros where no block is mapped
 abbrev pub content_of : Image → ℕ → List ℕ

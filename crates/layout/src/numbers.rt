@@ -103,14 +103,6 @@ impl Numbers {
         Ok(bytes)
     }
 
-    /// How many blocks it maps.
-    pub fn mapped(&self) -> u32
-        ensures few { result ≤ INDIRECT_INDEXES }
-        ensures count { result ≡ count_of self.now }
-    {
-        count_mapped(&self.numbers)
-    }
-
     /// The numbers.
     pub fn as_slice(&self) -> &[u32]
         ensures { result.now ≡ self.now }

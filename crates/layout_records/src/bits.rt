@@ -1,7 +1,7 @@
 //! The bits of the bitmaps, and the pieces in which they are read and written.
 ghost use Rattle.std.specs.Prelude.{◌≡◌, ◌+◌, ◌*◌, ◌/◌, ◌%◌, ◌<◌, length};
 ghost use Rattle.layout.specs.declared.grid.TheConstants.{PIECE_BYTES, PIECES_PER_BLOCK};
-ghost use Rattle.layout_records.specs.Bits.{HasBit, bit_in};
+ghost use Rattle.layout_records.specs.Bits.{HasBit};
 
 use disk::BlockNo;
 use layout::{PIECE_BYTES, PIECES_PER_BLOCK};
@@ -19,14 +19,6 @@ pub fn piece_addr(first: u32, piece: u32) -> Addr
         offset: PIECE_BYTES * (piece % PIECES_PER_BLOCK) as usize,
         len: PIECE_BYTES,
     }
-}
-
-/// Whether a bit of bytes is set: the least bit of a byte comes first.
-pub fn is_set(bytes: &[u8], bit: usize) -> bool
-    requires { bit < 8 * length bytes.now }
-    ensures { result ≡ bit_in bytes.now bit }
-{
-    bytes[bit / 8] >> (bit % 8) & 1 == 1
 }
 
 /// Gives one bit of bytes a value: the least bit of a byte comes first.

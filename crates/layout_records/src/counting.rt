@@ -1,5 +1,6 @@
 //! How many bits are clear.
 ghost use Rattle.std.specs.Prelude.{◌≡◌, ◌+◌, ◌*◌, ◌≤◌, drop, length, take};
+ghost use Rattle.limits.specs.declared.TheConstants.{BLOCK_BYTES};
 ghost use Rattle.layout_records.specs.Bits.{clear_in, clear_in_byte};
 
 // How many bits of a byte are clear.
@@ -30,7 +31,7 @@ fn set_at(bytes: &[u8], offset: usize) -> u32
 
 /// How many bits of so few bytes are clear: they are counted eight bytes at a time.
 pub fn clear_in(bytes: &[u8]) -> u32
-    requires { length bytes.now ≤ 4096 }
+    requires { length bytes.now ≤ BLOCK_BYTES }
     ensures is { result ≡ clear_in bytes.now }
     ensures few { result ≤ 8 * length bytes.now }
 {

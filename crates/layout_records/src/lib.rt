@@ -7,7 +7,7 @@ mod counting;
 mod grid;
 mod within;
 
-pub use bits::{is_set, piece_addr, put_bit};
+pub use bits::{piece_addr, put_bit};
 pub use counting::clear_in;
 pub use grid::{inode_number, is_on_grid};
 pub use within::{first_slot, with_number, with_piece, with_slot};

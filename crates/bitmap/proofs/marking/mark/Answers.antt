@@ -1,4 +1,5 @@
 use Rattle.std.proofs.Common.{rules, ◌≡◌, ℕ, List, length, drop, sym, ap, ◌∙◌, subst, ◌%◌, arith}
+use Rattle.layout.specs.declared.grid.TheConstants.{PIECE_BITS}
 use Rattle.layout.specs.Parts.{with_bytes}
 use Rattle.layout.specs.Objects.{IsObject}
 use Rattle.layout.proofs.OnGrid.{at_home}
@@ -47,7 +48,7 @@ returns-clause-puts c = λ blocks shows.
     c.piece_addr-addr.ensures.offset c.piece_addr-addr.ensures.len)).1)
     (c.in-Ok.ensures.there (image_of blocks c.args.draft.now)
     (subst (Saw (image_of blocks c.args.draft.now)) (sym c.there.ensures.there) shows.saw))
-    (subst (λ l. HasBit (c.args.bit % 4096) c.args.is l c.put_bit.new.bytes)
+    (subst (λ l. HasBit (c.args.bit % PIECE_BITS) c.args.is l c.put_bit.new.bytes)
     (c.deref_mut.ensures.value ∙ c.in_ok-bytes.ensures.items) c.put_bit.ensures)
     (c.in_ok-put.ensures.image blocks
     ∙ ap (with_bytes (image_of blocks c.args.draft.now) c.piece_addr-addr.result.block.0

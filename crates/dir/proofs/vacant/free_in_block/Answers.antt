@@ -1,5 +1,6 @@
 use Rattle.std.proofs.Common.{rules, ◌≡◌, ◌+◌, ◌<◌, ◌≤◌, inl, inr, sym, ap, ◌∙◌, true, false, arith}
 use Rattle.std.proofs.lemmas.Bool.{cases_lt}
+use Rattle.limits.specs.declared.TheConstants.{SLOTS_PER_BLOCK}
 use Rattle.layout.specs.SlotForm.{read_slot}
 use Rattle.dir.specs.Slots.{block_slot}
 use Rattle.dir.specs.Vacant.{is_free}
@@ -9,7 +10,7 @@ use Rattle.dir.proofs.vacant.free_in_block.Goals as goal
 pub returns-then-is_free : goal.returns-then-is_free
 returns-then-is_free c = λ inodes.
     let low : c.args.first ≤ c.slots.slot = search rules in
-    let less : c.slots.slot < c.args.first + 32 = search rules in
+    let less : c.slots.slot < c.args.first + SLOTS_PER_BLOCK = search rules in
     let zeros : c.is_free.result ≡ true = (let h = c.if-is_free.true in search rules) in (
       low,
       less,

@@ -4,11 +4,11 @@ use Rattle.layout.specs.Decode.{span_of}
 use Rattle.dir.proofs.SlotBlocks.{small, some_there}
 use Rattle.dir_writes.proofs.slotting.slotted_block.Goals as goal
 
-pub returns-then-index-ge-FILE_INDEXES-clause-pause :
-    goal.returns-then-index-ge-FILE_INDEXES-clause-pause
-returns-then-index-ge-FILE_INDEXES-clause-pause c = λ blocks tree file is less.
+pub returns-then-index-ge-MOST_SPAN-clause-pause :
+    goal.returns-then-index-ge-MOST_SPAN-clause-pause
+returns-then-index-ge-MOST_SPAN-clause-pause c = λ blocks tree file is less.
     let few = small c.args.snap.now blocks tree file c.args.inode.now is in
-    absurd (omega (arith, c.if-index-ge-FILE_INDEXES.true, less, few))
+    absurd (omega (arith, c.if-index-ge-MOST_SPAN.true, less, few))
 
 pub returns-then-number-eq0-clause-pause : goal.returns-then-number-eq0-clause-pause
 returns-then-number-eq0-clause-pause c = λ blocks tree file is less.

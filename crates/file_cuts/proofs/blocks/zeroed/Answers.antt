@@ -1,5 +1,6 @@
 use Rattle.std.proofs.Common.{◌∙◌, ◌-◌, ◌++◌, take, replicate, arith}
 use Rattle.std.proofs.lemmas.List.{take_all, length-take-le}
+use Rattle.limits.specs.declared.TheConstants.{BLOCK_BYTES}
 use Rattle.file_cuts.proofs.blocks.zeroed.Goals as goal
 
 pub returns-clause-is : goal.returns-clause-is
@@ -9,6 +10,6 @@ returns-clause-is c =
     let few = c.requires.from in
     let count = length-take-le c.args.from block (omega (arith, whole, few)) in
     c.in_ok-resize.ensures.items
-    ∙ (λ i. take 4096 (c.in_ok-bytes.ensures.items i) ++ replicate (4096 - c.in_ok-bytes.ensures.len i) 0)
-    ∙ (λ i. take_all 4096 (take c.args.from block) (omega (arith, count, few)) i
-    ++ replicate (4096 - count i) 0)
+    ∙ (λ i. take BLOCK_BYTES (c.in_ok-bytes.ensures.items i) ++ replicate (BLOCK_BYTES - c.in_ok-bytes.ensures.len i) 0)
+    ∙ (λ i. take_all BLOCK_BYTES (take c.args.from block) (omega (arith, count, few)) i
+    ++ replicate (BLOCK_BYTES - count i) 0)

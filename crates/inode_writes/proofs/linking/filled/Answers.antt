@@ -6,7 +6,7 @@ use Rattle.inode_writes.proofs.linking.filled.Goals as goal
 pub returns-clause-is : goal.returns-clause-is
 returns-clause-is c =
     c.in_ok-resize.ensures.items
-    ∙ (λ i. take 4096 (c.in_ok-block.ensures.items i)
-    ++ replicate (4096 - c.in_ok-block.ensures.len i) 0)
+    ∙ (λ i. take BLOCK_BYTES (c.in_ok-block.ensures.items i)
+    ++ replicate (BLOCK_BYTES - c.in_ok-block.ensures.len i) 0)
     ∙ ap (λ l. l ++ replicate (BLOCK_BYTES - length c.args.bytes.now) 0)
     (take_all BLOCK_BYTES c.args.bytes.now c.requires)

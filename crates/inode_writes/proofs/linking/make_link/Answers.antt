@@ -1,4 +1,5 @@
 use Rattle.std.proofs.Common.{◌<◌, ◌≤◌, sym, ◌∙◌, subst, refl, [], ◌∷◌, length, arith}
+use Rattle.limits.specs.declared.TheConstants.{BLOCK_BYTES}
 use Rattle.model.specs.Node.{Link}
 use Rattle.model.specs.Tree.{with_node}
 use Rattle.layout.specs.declared.geometry.Geometry.{Geometry}
@@ -17,7 +18,7 @@ returns-in-Ok-Some-clause-ok c =
     let n = c.args.number in
     let inode = c.args.inode.now in
     let target = c.args.target.now in
-    let short : length target ≤ 4096 = omega (arith, c.if-target-gt-BLOCK_BYTES.false) in
+    let short : length target ≤ BLOCK_BYTES = omega (arith, c.if-target-gt-BLOCK_BYTES.false) in
     both_ok c.lay.result (λ shows lays blocks tree draft unused kind good sound room.
     let base = image_of blocks c.args.draft.now in
     let middle = image_of blocks c.take_block.new.draft in

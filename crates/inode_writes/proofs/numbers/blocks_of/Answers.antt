@@ -1,13 +1,14 @@
 use Rattle.std.proofs.Common.{◌≡◌, ap, ◌∙◌, ◌∷◌, filter, take, arith}
+use Rattle.std.proofs.lemmas.Bool.{eq-eqb}
 use Rattle.std.proofs.lemmas.List.{take_all}
 use Rattle.limits.specs.declared.TheConstants.{DIRECT_INDEXES}
 use Rattle.layout.specs.Decode.{numbers_of}
 use Rattle.layout.specs.Parts.{content_in}
 use Rattle.layout.proofs.AllNumbers.{all-length}
+use Rattle.layout.proofs.NumbersIn.{none_owned}
 use Rattle.inode.proofs.Pieces.{direct}
 use Rattle.inode_writes.specs.Frees.{is_some}
 use Rattle.inode_writes.proofs.MoreBlocks.{more_blocks}
-use Rattle.inode_writes.proofs.NoFar.{no_far}
 use Rattle.inode_writes.proofs.numbers.blocks_of.Goals.{then-inode-eq0, else-inode-eq0}
 use Rattle.inode_writes.proofs.numbers.blocks_of.Goals as goal
 
@@ -36,7 +37,7 @@ returns-clause-ok c = λ blocks tree file has.
           let count = w.count-is in
           let end : c.indexes.index ≡ DIRECT_INDEXES = omega (arith, past, most, count) in
           ap (λ n. filter is_some (inode.indirect ∷ take n (numbers_of content inode))) end
-          ∙ no_far content inode few w.if-inode-eq0.true
+          ∙ none_owned content inode few (eq-eqb inode.indirect 0 w.if-inode-eq0.true)
       | else-inode-eq0 w ↦
           let count = w.count-is in
           ap (λ l. filter is_some (inode.indirect ∷ l))

@@ -1,4 +1,4 @@
-use Rattle.std.proofs.Common.{◌≡◌, ◌∙◌, sym, refl, arith}
+use Rattle.std.proofs.Common.{◌∙◌, sym, refl, arith}
 use Rattle.limits.specs.declared.TheConstants.{INDIRECT_INDEXES}
 use Rattle.layout.specs.InodeForm.{is_data_block_or_none}
 use Rattle.layout.proofs.CountedAt.{none_more, none_yet, refused_at, some_more}
