@@ -158,7 +158,7 @@ io_by_none asked snap (plan.Done done) none = λ blocks saw refused. elim refuse
   | inl first ↦ absurd (none.0 blocks saw first)
   | inr read ↦ absurd (none.1 blocks saw read)
 ]
-io_by_none asked snap (plan.Need addr) none = tt
+io_by_none asked snap (plan.Need addr mode) none = tt
 io_by_none asked snap (plan.Claim block) none = tt
 io_by_none asked snap plan.NoMemory none = tt
 
@@ -168,6 +168,6 @@ io_by_reply asked snap (plan.Done done) outcome is reply written = λ blocks saw
   ap (λ (o : Outcome). o.reply) is ∙ reply,
   ap (λ (o : Outcome). o.written) is ∙ written,
 )
-io_by_reply asked snap (plan.Need addr) outcome is reply written = tt
+io_by_reply asked snap (plan.Need addr mode) outcome is reply written = tt
 io_by_reply asked snap (plan.Claim block) outcome is reply written = tt
 io_by_reply asked snap plan.NoMemory outcome is reply written = tt

@@ -1,12 +1,12 @@
 //! What a plan says.
 use crate::done::Done;
 use disk::BlockNo;
-use objects::Addr;
+use objects::{Addr, Mode};
 
-/// What a call needs next: an object to be read, a block to be claimed; or what comes of it; or memory.
+/// What a call needs next: an object to be read, in a mode, a block to be claimed; or what comes of it; or memory.
 #[derive(Drop)]
 pub enum Plan {
-    Need(Addr),
+    Need(Addr, Mode),
     Claim(BlockNo),
     Done(Done),
     NoMemory,

@@ -18,6 +18,7 @@ use crate::telling::{tell_call, told};
 use inode::{Snap, Stop};
 use inspection::{is_refused, what_is_refused_is_in_no_tree};
 use nfs_types::{Call, Ctx, Status};
+use objects::Mode;
 use std::alloc::Global;
 
 // What comes of a call that is served, or what stands in its way, by the one body of its procedure.
@@ -111,10 +112,10 @@ fn finish(ctx: &Ctx, call: &Call, snap: &Snap, draft: Draft) -> Plan
     Plan::Done(Done::new(draft))
 }
 
-/// What a call needs next, or what comes of it, by what was read so far. It asks for one object at a time,
-/// and begins anew each time. Any object that was read and that the layout refuses makes it IO, with nothing
-/// told and nothing written. Where blocks stand for a tree what comes of the call is a step of the sequential server, so that
-/// it is never IO there.
+/// What a call needs next, or what comes of it, by what was read so far. It asks for one object at a time, each for
+/// its call alone, and begins anew each time. Any object that was read and that the layout refuses makes it IO, with
+/// nothing told and nothing written. Where blocks stand for a tree what comes of the call is a step of the sequential
+/// server, so that it is never IO there.
 pub fn plan(alloc: Global, ctx: &Ctx, call: &Call, snap: &Snap) -> Plan
     requires { begins_transaction call.now ≡ true }
     ensures plan { IsPlanFor snap.now result }
@@ -123,7 +124,7 @@ pub fn plan(alloc: Global, ctx: &Ctx, call: &Call, snap: &Snap) -> Plan
 {
     match work(alloc, ctx, call, snap) {
         Ok(done) => finish(ctx, call, snap, done),
-        Err(Stop::Need(addr)) => Plan::Need(addr),
+        Err(Stop::Need(addr)) => Plan::Need(addr, Mode::Exclusive),
         Err(Stop::Claim(block)) => Plan::Claim(block),
         Err(Stop::NoMemory) => Plan::NoMemory,
         Err(Stop::Io) => match told(alloc, snap, refused_reply(call, Status::Io)) {

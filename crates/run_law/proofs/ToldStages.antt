@@ -10,7 +10,7 @@ use Rattle.store_promise.specs.declared.events.Wish.{Wish}
 use Rattle.store_promise.specs.declared.events.Wish.TheVariants as wish
 use Rattle.store_promise.specs.Progress.{Again, At, Begun, Called, Idle, Job, Planning, Progress, Read, Reading}
 use Rattle.store_promise.specs.Progress.{Refused, Stage, Taken, Waiting, after_claimed, after_commit}
-use Rattle.store_promise.specs.Aims.{is_above}
+use Rattle.store_promise.specs.Aims.{is_barred}
 use Rattle.store_promise.specs.Progress.{after_planning, aim_of, claimed_by, kept_off, told_by, with_taken}
 use Rattle.store_promise.specs.Progress.{after_waiting, after_wanted, going_on, progressed, stage_after}
 use Rattle.store_promise.specs.declared.aims.Aim.{Aim}
@@ -30,7 +30,7 @@ next_place (Some stage) = stage_place stage
 
 -- one that is kept off waits, or begins again
 off_number : (begun : Begun) (wished : Aim) → stage_number (kept_off begun wished) ≡ Some begun.number
-off_number begun wished = by (is_above wished begun.taken)
+off_number begun wished = by (is_barred wished begun.taken)
   where
     by : (above : Bool) → stage_number (if above then Again begun (Some wished) else Planning begun)
         ≡ Some begun.number
@@ -38,7 +38,7 @@ off_number begun wished = by (is_above wished begun.taken)
     by false = refl
 
 off_place : (begun : Begun) (wished : Aim) → stage_place (kept_off begun wished) ≡ None
-off_place begun wished = by (is_above wished begun.taken)
+off_place begun wished = by (is_barred wished begun.taken)
   where
     by : (above : Bool) → stage_place (if above then Again begun (Some wished) else Planning begun) ≡ None
     by true = refl

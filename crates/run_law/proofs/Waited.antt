@@ -18,7 +18,7 @@ use Rattle.store_promise.specs.declared.transcript.Committed.{Committed}
 use Rattle.store_promise.specs.History.{IsHistory, WasCommitted}
 use Rattle.store_promise.specs.Progress.{Again, At, Begun, Called, Idle, Job, Planning, Progress, Read, Reading}
 use Rattle.store_promise.specs.Progress.{Refused, Stage, Taken, Waiting, after_claimed, after_commit}
-use Rattle.store_promise.specs.Aims.{is_above}
+use Rattle.store_promise.specs.Aims.{is_barred}
 use Rattle.store_promise.specs.Progress.{after_planning, aim_of, kept_off}
 use Rattle.store_promise.specs.declared.aims.Aim.{Aim}
 use Rattle.store_promise.specs.declared.aims.Aim.TheVariants as aim
@@ -42,7 +42,7 @@ module _ (place : ℕ) where
   there = Some (Waiting place)
 
   off : (begun : Begun) (wished : Aim) → Some (kept_off begun wished) ≡ there → ⊥
-  off begun wished is = by (is_above wished begun.taken) is
+  off begun wished is = by (is_barred wished begun.taken) is
     where
       by : (above : Bool) → Some (if above then Again begun (Some wished) else Planning begun) ≡ there → ⊥
       by true is = cc

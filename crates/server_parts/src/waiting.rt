@@ -39,6 +39,7 @@ impl Waiting {
         ensures settled { IfOk result (λ waiting. waiting.settled ≡ settled) }
         ensures parked { IfOk result (λ waiting. waiting.parked.items ≡ []) }
         ensures ended { IfOk result (λ waiting. waiting.ended ≡ false) }
+        ensures room { IfOk result (λ waiting. seats ≤ vec_capacity waiting.parked) }
     {
         Ok(Waiting {
             settled,
@@ -64,6 +65,7 @@ impl Waiting {
         ensures kept { OnErr result (self.new.parked.items ≡ self.old.parked.items) }
         ensures full { OnErr result (vec_capacity self.old.parked ≤ length self.old.parked.items) }
         ensures ended { self.new.ended ≡ self.old.ended }
+        ensures room { vec_capacity self.old.parked ≤ vec_capacity self.new.parked }
     {
         if seat.place <= self.settled {
             return Ok(false);
@@ -90,13 +92,15 @@ impl Waiting {
     pub fn take(&mut self) -> Option<usize>
         ensures settled { self.new.settled ≡ self.old.settled }
         ensures ended { self.new.ended ≡ self.old.ended }
+        ensures room { vec_capacity self.old.parked ≤ vec_capacity self.new.parked }
         ensures taken { IfSome result (λ seat. IsFirstSettled self.old.settled self.old.parked.items seat self.new.parked.items) }
         ensures none { IfNone result (AllWait self.old.settled self.old.parked.items) }
         ensures kept { IfNone result (self.new.parked ≡ self.old.parked) }
     {
         for at in 0..self.parked.len() {
             if self.parked[at].place <= self.settled {
-                return Some(self.parked.remove(at).seat);
+                let taken = self.parked.remove(at);
+                return Some(taken.seat);
             }
         }
         None
@@ -112,6 +116,7 @@ impl Waiting {
             × AllWait self.old.settled self.old.parked.items × (self.new.parked ≡ self.old.parked) }
         ensures settled { self.new.settled ≡ self.old.settled }
         ensures ended { self.new.ended ≡ self.old.ended }
+        ensures room { vec_capacity self.old.parked ≤ vec_capacity self.new.parked }
     {
         match self.take() {
             Some(seat) => Next::Answer(seat),

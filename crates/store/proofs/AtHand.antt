@@ -9,7 +9,7 @@ use Rattle.std.proofs.lemmas.Bool.Decides.{nat_tests}
 use Rattle.disk.specs.Device.{Content}
 use Rattle.disk.specs.declared.block.BlockNo.{BlockNo}
 use Rattle.objects.specs.declared.addr.Addr.{Addr}
-use Rattle.objects.specs.declared.mode.Mode.TheVariants as modes
+use Rattle.objects.specs.declared.mode.Mode.{Mode}
 use Rattle.txn.specs.Core.{CoreState}
 use Rattle.txn.specs.Fetch.{Fetch}
 use Rattle.txn_law.specs.Holds.{for_fetching, hold_of, is_hold_of, is_taken, joined}
@@ -122,12 +122,12 @@ taken_at (x ∷ holds) block taken = by (nat_eq x.addr.block.0 block.0) refl tak
 
 -- ---- a fetch, given back
 
-module _ (old mid new : CoreState) (tx : ℕ) (addr : Addr) (asked io : Fetch)
-    (fetched : IsFetched old tx addr modes.Exclusive asked mid) (same : io.block ≡ asked.block)
+module _ (old mid new : CoreState) (tx : ℕ) (addr : Addr) (mode : Mode) (asked io : Fetch)
+    (fetched : IsFetched old tx addr mode asked mid) (same : io.block ≡ asked.block)
     (leaves : Leaves new (taken_by mid) (without_fetch io.block (is_fetching mid))
     (there_given true io mid)) where
   abbrev hold : Hold
-  hold = for_fetching tx addr modes.Exclusive
+  hold = for_fetching tx addr mode
 
   taken_now : (t : ℕ) (a : Addr)
       → taken_by new t a ≡ (if is_hold_of t a hold then Some (joined (taken_by old t a) hold)

@@ -20,7 +20,7 @@ use Rattle.store_promise.specs.Progress.{Refused, Again, Waiting, Taken, Wished,
 use Rattle.store_promise.specs.Progress.{after_commit, after_planning, after_waiting, after_wanted, going_on}
 use Rattle.store_promise.specs.Progress.{aim_of, is_idle, kept_off, with_taken}
 use Rattle.store_promise.specs.Progress as how
-use Rattle.store_promise.specs.Aims.{is_above}
+use Rattle.store_promise.specs.Aims.{is_barred}
 use Rattle.store_promise.specs.declared.aims.Aim.{Aim}
 use Rattle.store_promise.specs.declared.aims.Aim.TheVariants as aim
 use Rattle.store_promise.specs.Progress.{stage_after}
@@ -294,7 +294,7 @@ module _ (o : Outset) (now new : Opened) (s : Setting) (t : Told) (from : IsStep
 
     -- who is kept off waits, or begins again
     off_ok : (begun : Begun) (wished : Aim) → NoneIn begun → StandsWith o entry new (kept_off begun wished)
-    off_ok begun wished none = by (is_above wished begun.taken)
+    off_ok begun wished none = by (is_barred wished begun.taken)
       where
         by : (above : Bool) → StandsWith o entry new (if above then Again begun (Some wished) else Planning begun)
         by true = none

@@ -9,6 +9,7 @@ use Rattle.disk.specs.Crash.{Image}
 use Rattle.disk.specs.Device.{Content, Device}
 use Rattle.disk.specs.declared.block.BlockNo.{BlockNo}
 use Rattle.objects.specs.declared.addr.Addr.{Addr}
+use Rattle.objects.specs.declared.mode.Mode.{Mode}
 use Rattle.model.specs.Entry.{Entry}
 use Rattle.model.specs.Calls.{begins_transaction, is_answered_stable}
 use Rattle.procedures.specs.Step as procedures
@@ -45,7 +46,7 @@ use Rattle.store_images.specs.Opening.{Opened}
 use Rattle.store_workers.specs.Asked.{Asking}
 use Rattle.store_workers.specs.Knowing.{Knowing}
 use Rattle.store_promise.specs.declared.aims.Aim.{Aim}
-use Rattle.store_workers.specs.Stages.{IsWorkerAt, alone, at_fetch, at_stage, begun_of}
+use Rattle.store_workers.specs.Stages.{IsWorkerAt, taken_as, at_fetch, at_stage, begun_of}
 use Rattle.store_workers.specs.Stages.{progress_in, progress_of}
 use Rattle.store_workers.specs.Seen.{seen_in}
 use Rattle.store_workers.specs.Telling.{told}
@@ -213,12 +214,12 @@ called_stage : (found : Option WorkJob) (stage : Stage) (j : Job) (known : List 
 called_stage None stage j known is = cc
 called_stage (Some job) stage j known is = cc
 
-read_stage : (found : Option WorkJob) (stage : Taken → Stage) (begun : Begun) (wish : Option Addr) (j : Job)
-    (known : List Aim) → ((taken : Taken) → stage taken ≡ Called known → ⊥) → (Planning begun ≡ Called known → ⊥)
-    → at_stage found (at_fetch stage begun wish) ≡ At j (Called known) → ⊥
-read_stage found stage begun None j known none other is = other (called_stage found (Planning begun) j known is)
-read_stage found stage begun (Some addr) j known none other is =
-    none (alone addr) (called_stage found (stage (alone addr)) j known is)
+read_stage : (found : Option WorkJob) (stage : Taken → Stage) (begun : Begun) (mode : Mode) (wish : Option Addr)
+    (j : Job) (known : List Aim) → ((taken : Taken) → stage taken ≡ Called known → ⊥) → (Planning begun ≡ Called known → ⊥)
+    → at_stage found (at_fetch stage begun mode wish) ≡ At j (Called known) → ⊥
+read_stage found stage begun mode None j known none other is = other (called_stage found (Planning begun) j known is)
+read_stage found stage begun mode (Some addr) j known none other is =
+    none (taken_as mode addr) (called_stage found (stage (taken_as mode addr)) j known is)
 
 planning_not : (begun : Begun) (known : List Aim) → Planning begun ≡ Called known → ⊥
 planning_not begun known is = cc
@@ -231,13 +232,13 @@ phase_called Phase.Called found begun asked knowing j known is = refl
 phase_called Phase.Planning found begun asked knowing j known is =
     absurd (planning_not begun known (called_stage found (Planning begun) j known is))
 phase_called Phase.Reading found begun asked knowing j known is =
-    absurd (read_stage found (λ taken. how.Reading begun taken) begun asked.wish j known (λ taken. none taken)
+    absurd (read_stage found (λ taken. how.Reading begun taken) begun asked.mode asked.wish j known (λ taken. none taken)
     (planning_not begun known) is)
   where
     none : (taken : Taken) → how.Reading begun taken ≡ Called known → ⊥
     none taken is = cc
 phase_called (Phase.Read ok) found begun asked knowing j known is =
-    absurd (read_stage found (λ taken. how.Read begun taken ok) begun asked.wish j known (λ taken. none taken)
+    absurd (read_stage found (λ taken. how.Read begun taken ok) begun asked.mode asked.wish j known (λ taken. none taken)
     (planning_not begun known) is)
   where
     none : (taken : Taken) → how.Read begun taken ok ≡ Called known → ⊥

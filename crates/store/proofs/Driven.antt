@@ -14,7 +14,7 @@ use Rattle.disk.specs.declared.block.BlockNo.{BlockNo}
 use Rattle.disk.specs.declared.device.Failed.{Failed}
 use Rattle.limits.specs.declared.TheConstants.{CHANGED_BLOCKS}
 use Rattle.objects.specs.declared.addr.Addr.{Addr}
-use Rattle.objects.specs.declared.mode.Mode.TheVariants as modes
+use Rattle.objects.specs.declared.mode.Mode.{Mode}
 use Rattle.model.specs.Calls.{is_answered_stable}
 use Rattle.nfs_types.specs.declared.call.Call.{Call}
 use Rattle.nfs_types.specs.declared.ctx.Ctx.{Ctx}
@@ -134,9 +134,10 @@ pub record IsToRead (old new : Side) : Type 0 where
   pub phase : new.worker.phase ≡ Reading
   pub tx : ℕ
   pub addr : Addr
+  pub mode : Mode
   pub io : Fetch
   pub io_is : new.worker.begun.io ≡ Some io
-  pub fetched : IsFetched old.core tx addr modes.Exclusive io new.core
+  pub fetched : IsFetched old.core tx addr mode io new.core
   pub within : addr.block.0 < old.core.log.blocks
   pub job : new.worker.work.job ≡ old.worker.work.job
   pub seen : seen_in new.worker.work.snap ≡ seen_in old.worker.work.snap
@@ -261,11 +262,11 @@ called old new made (replied made_is is) =
 
 -- ---- a wish
 
-module _ (old new : Side) (addr : Addr) (job : Job) (tx : ℕ) (snap : Snap)
+module _ (old new : Side) (addr : Addr) (mode : Mode) (job : Job) (tx : ℕ) (snap : Snap)
     (job_is : old.worker.work.job ≡ Some job)
     (snap_is : seen_in old.worker.work.snap ≡ seen_in (Some snap))
     (has : HasOfCall tx old.core (seen_of snap))
-    (is_plan : IsPlanFor snap (plan.Need addr))
+    (is_plan : IsPlanFor snap (plan.Need addr mode))
     (same_job : new.worker.work.job ≡ old.worker.work.job) where
   abbrev left : ℕ
   left = left_in Planning old.worker.work old.core
@@ -298,8 +299,8 @@ module _ (old new : Side) (addr : Addr) (job : Job) (tx : ℕ) (snap : Snap)
       less = less_taken old new snap now_seen snap_is (seen ∙ ap (with_object addr bytes) snap_is) log more within
 
   wanted : (made : Step) → is_kept_off (Some made) ≡ false → (answer : Want)
-      → made ≡ step.Wanted addr modes.Exclusive (wish_of answer)
-      → IsWanted old.core tx addr modes.Exclusive answer new.core → new.worker.phase ≡ phase_wanted addr answer old.worker.known
+      → made ≡ step.Wanted addr mode (wish_of answer)
+      → IsWanted old.core tx addr mode answer new.core → new.worker.phase ≡ phase_wanted addr mode answer old.worker.known
       → new.worker.begun ≡ begun_wanted answer
       → seen_in new.worker.work.snap ≡ seen_wanted [] addr answer (seen_in old.worker.work.snap)
       → new.worker.work.entry ≡ old.worker.work.entry → new.worker.work.answer ≡ old.worker.work.answer
@@ -312,6 +313,7 @@ module _ (old new : Side) (addr : Addr) (job : Job) (tx : ℕ) (snap : Snap)
         phase = phase;
         tx = tx;
         addr = addr;
+        mode = mode;
         io = io;
         io_is = ap (λ (b : Begun). b.io) got;
         fetched = core.2;
@@ -463,8 +465,8 @@ goes old new tx made next tx_is none is taken free goes_so = of_next next is.pla
   where
     of_next : (next : Plan) → IsPlanFor is.snap next → GoesByNext next tx old made new
         → Came Planning old (Some made) new
-    of_next (plan.Need addr) planned wish =
-        wanted old new addr is.job tx is.snap is.job_is is.snap_is
+    of_next (plan.Need addr mode) planned wish =
+        wanted old new addr mode is.job tx is.snap is.job_is is.snap_is
         (has_of old.worker old.core is.job tx (seen_of is.snap) is.job_is tx_is is.snap_is taken) planned
         (ap (λ (s : State). s.work.job) wish.worker) made free wish.answer wish.made_is wish.core
         (ap (λ (s : State). s.phase) wish.worker) (ap (λ (s : State). s.begun) wish.worker)
@@ -613,7 +615,7 @@ given old mid new is read back made same work true has =
 
     less : left_in Planning new.worker.work new.core < left
     less =
-        let fewer = fewer_away old.core mid.core new.core is.tx is.addr is.io back is.fetched same
+        let fewer = fewer_away old.core mid.core new.core is.tx is.addr is.mode is.io back is.fetched same
         has.leaves blocks is.within in
         subst (λ n. n < left) (sym now) (grind (arith))
 

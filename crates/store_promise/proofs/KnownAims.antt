@@ -2,14 +2,21 @@
 use Rattle.std.proofs.Common.{◌≡◌, ◌∙◌, refl, sym, ap, subst, ℕ, ◌⊎◌, inl, inr, Bool, true, false}
 use Rattle.std.proofs.lemmas.Bool.Decides.{nat_tests}
 use Rattle.std.proofs.Common.{◌||◌, if◌then◌else◌, nat_eq, List, [], ◌∷◌, ◌++◌, All, Option, Some, None, Ok, arith}
-use Rattle.std.specs.Prelude.{Contains, IfSome, drop}
+use Rattle.std.specs.Prelude.{Contains, IfSome, drop, map, ◌&&◌}
 use Rattle.std.proofs.lemmas.List.{append_assoc, append-nil}
-use Rattle.std.proofs.lemmas.List.Elements.{All-head, All-nil, All-push, All-tail}
+use Rattle.std.proofs.lemmas.List.Elements.{All-cons, All-head, All-nil, All-push, All-tail}
 use Rattle.std.proofs.lemmas.List.Elements.{All-weaker}
 use Rattle.disk.specs.declared.block.BlockNo.{BlockNo}
+use Rattle.inode.proofs.AllTests.{all_three, same_number}
+use Rattle.inode.specs.Snap.{same_addr}
 use Rattle.layout.specs.declared.geometry.Geometry.{Geometry}
+use Rattle.objects.specs.Mode.{raised}
+use Rattle.objects.specs.declared.addr.Addr.{Addr}
+use Rattle.objects.specs.declared.mode.Mode.{Mode}
+use Rattle.objects.specs.declared.mode.Mode.TheVariants as modes
+use Rattle.txn_law.proofs.Again as again
 use Rattle.model.specs.Calls.{is_answered_stable}
-use Rattle.store_promise.specs.Aims.{Rises, inserted, is_above}
+use Rattle.store_promise.specs.Aims.{AreOfOne, IsCovered, Rises, inserted, is_barred, raised_by}
 use Rattle.store_promise.specs.declared.aims.Aim.{Aim}
 use Rattle.store_promise.specs.declared.aims.Aim.TheVariants as aim
 use Rattle.store_promise.specs.declared.events.Committing.{Committing}
@@ -22,16 +29,23 @@ use Rattle.store_promise.specs.declared.events.Wish.{Wish}
 use Rattle.store_promise.specs.declared.events.Wish.TheVariants as wish
 use Rattle.store_promise.specs.Progress.{Again, At, Begun, Called, Idle, Job, Planning, Progress, Read, Reading}
 use Rattle.store_promise.specs.Progress.{Refused, Stage, Taken, Waiting, after_called, after_claimed, after_commit}
-use Rattle.store_promise.specs.Progress.{after_planning, after_waiting, after_wanted, aim_of}
+use Rattle.store_promise.specs.Progress.{after_planning, after_waiting, after_wanted, aim_of, is_told, raised_told}
 use Rattle.store_promise.specs.Progress.{claimed_by, fresh, going_on, kept_off, known_then, progressed, told_by}
-use Rattle.store_promise.specs.Progress.{with_claimed, with_held, with_taken}
+use Rattle.store_promise.specs.Progress.{with_claimed, with_held, with_taken, with_told}
 use Rattle.store_promise.specs.Schedule.{AreTaken, IsRetaking, IsStepBeside, IsStepByPlan, IsStepOfRead}
 use Rattle.store_promise.specs.Schedule.{IsStepOfWork, IsStepWithin, IsTaken, Schedule, Setting, Told}
 use Rattle.store_promise.specs.Schedule.{progress_before, told_after}
 use Rattle.store_promise.specs.Waiting.{AreAims, AreTakenAt, AreTakenBy, HasTakenWell, IsAim}
 use Rattle.store_promise.proofs.AlongEvents.{along}
-use Rattle.store_promise.proofs.RisingAims.{all_more, comes_last, kept, still_rises, there}
+use Rattle.store_promise.proofs.RisingAims.{all_more, claim_there, comes_last, kept, kept_claim, still_rises, there}
 use Rattle.store_promise.proofs.Told.{may_be}
+
+-- two addresses that are one
+one_addr : (a b : Addr) → same_addr a b ≡ true → a ≡ b
+one_addr a b is =
+    let all = all_three (nat_eq a.block.0 b.block.0) (nat_eq a.offset b.offset) (nat_eq a.len b.len) is in
+    again.same_addr a b (same_number a.block.0 b.block.0 all.0) (same_number a.offset b.offset all.1)
+    (same_number a.len b.len all.2)
 
 module _ (g : Geometry) where
   -- ---- one more is taken
@@ -41,11 +55,17 @@ module _ (g : Geometry) where
   IsNext one [] = Unit {0}
   IsNext one (next ∷ later) = next ≡ one
 
+  -- an object that is raised is of the image still
+  raise : (one first : Aim) → AreOfOne first one → IsAim g first → IsAim g (raised_by one first)
+  raise (aim.Object asked wished) (aim.Object addr mode) same is = is
+  raise (aim.Object asked wished) (aim.Claim block) same is = is
+  raise (aim.Claim block) first same is = is
+
   with_one : (taken left : List Aim) (one : Aim) → IsNext one left → IsAim g one → AreAims g (taken ++ left)
       → AreAims g (inserted one taken ++ drop 1 left)
   with_one taken [] one next is are = record {
     of_image = subst (All (IsAim g)) (sym (append-nil (inserted one taken)))
-        (all_more one (IsAim g) taken is (subst (All (IsAim g)) (append-nil taken) are.of_image));
+        (all_more one (IsAim g) taken is (raise one) (subst (All (IsAim g)) (append-nil taken) are.of_image));
     rise = subst Rises (sym (append-nil (inserted one taken)))
         (still_rises one taken (subst Rises (append-nil taken) are.rise));
   }
@@ -57,7 +77,7 @@ module _ (g : Geometry) where
   -- what was taken is taken still
   module _ (begun : Begun) (one : Aim) (next : IsNext one begun.left) (is : IsAim g one)
       (are : AreTakenBy g begun) where
-    still : (other : Aim) → Contains begun.taken other → Contains (inserted one begun.taken) other
+    still : (other : Aim) → IsCovered begun.taken other → IsCovered (inserted one begun.taken) other
     still other has = kept one begun.taken other has
 
     none_left : (left : List Aim) → (left ≡ []) ⊎ ((begun.held ≡ []) × (begun.claimed ≡ []))
@@ -69,14 +89,46 @@ module _ (g : Geometry) where
     pub taken_too : AreTakenBy g (with_taken begun one)
     taken_too = record {
       aims = with_one begun.taken begun.left one next is are.aims;
-      held = All-weaker (λ (t : Taken). Contains begun.taken (aim_of t))
-          (λ (t : Taken). Contains (inserted one begun.taken) (aim_of t)) (λ t has. still (aim_of t) has) begun.held
+      held = All-weaker (λ (t : Taken). IsCovered begun.taken (aim_of t))
+          (λ (t : Taken). IsCovered (inserted one begun.taken) (aim_of t)) (λ t has. still (aim_of t) has) begun.held
           are.held;
       claimed = All-weaker (λ (b : BlockNo). Contains begun.taken (aim.Claim b))
           (λ (b : BlockNo). Contains (inserted one begun.taken) (aim.Claim b))
-          (λ b has. still (aim.Claim b) has) begun.claimed are.claimed;
+          (λ b has. kept_claim one begun.taken b has) begun.claimed are.claimed;
       first = none_left begun.left are.first;
     }
+
+  -- what was told is taken, also where it is raised
+  module _ (aims : List Aim) (taken : Taken) (new : IsCovered aims (aim_of taken)) where
+    abbrev Is : Taken → Type 0
+    Is one = IsCovered aims (aim_of one)
+
+    higher : (wished had : Mode) (addr : Addr) → IsCovered aims (aim.Object addr wished)
+        → IsCovered aims (aim.Object addr had) → IsCovered aims (aim.Object addr (raised had wished))
+    higher modes.Shared had addr new was = was
+    higher modes.Exclusive had addr new was = new
+
+    raised_is : (one : Taken) → Is one → Is (raised_told taken one)
+    raised_is one is = by (same_addr taken.addr one.addr) refl
+      where
+        by : (same : Bool) → same_addr taken.addr one.addr ≡ same
+            → Is (if same then record one { mode = raised one.mode taken.mode } else one)
+        by true same = higher taken.mode one.mode one.addr
+            (subst (λ (a : Addr). IsCovered aims (aim.Object a taken.mode)) (one_addr taken.addr one.addr same) new) is
+        by false other = is
+
+    all_raised : (held : List Taken) → All Is held → All Is (map (raised_told taken) held)
+    all_raised [] all = All-nil Is
+    all_raised (first ∷ later) all =
+        All-cons Is (raised_told taken first) (map (raised_told taken) later)
+        (raised_is first (All-head Is first later all)) (all_raised later (All-tail Is first later all))
+
+    pub all_told : (held : List Taken) → All Is held → All Is (with_told taken held)
+    all_told held all = by (is_told taken.addr held)
+      where
+        by : (told : Bool) → All Is (if told then map (raised_told taken) held else held ++ taken ∷ [])
+        by true = all_raised held all
+        by false = All-push Is held taken all new
 
   held_too : (begun : Begun) (taken : Taken) → IsNext (aim_of taken) begun.left → IsAim g (aim_of taken)
       → AreTakenBy g begun → AreTakenBy g (with_held begun taken)
@@ -89,8 +141,8 @@ module _ (g : Geometry) where
           → AreTakenBy g (told_by left (with_taken begun (aim_of taken)) taken)
       by [] none = record {
         aims = then'.aims;
-        held = All-push (λ (t : Taken). Contains (inserted (aim_of taken) begun.taken) (aim_of t)) begun.held taken
-            then'.held (there (aim_of taken) begun.taken);
+        held = all_told (inserted (aim_of taken) begun.taken) taken (there (aim_of taken) begun.taken) begun.held
+            then'.held;
         claimed = then'.claimed;
         first = inl (ap (λ (xs : List Aim). drop 1 xs) none);
       }
@@ -109,7 +161,7 @@ module _ (g : Geometry) where
         aims = then'.aims;
         held = then'.held;
         claimed = All-push (λ (b : BlockNo). Contains (inserted (aim.Claim block) begun.taken) (aim.Claim b))
-            begun.claimed block then'.claimed (there (aim.Claim block) begun.taken);
+            begun.claimed block then'.claimed (claim_there block begun.taken);
         first = inl (ap (λ (xs : List Aim). drop 1 xs) none);
       }
       by (x ∷ xs) some = then'
@@ -120,21 +172,21 @@ module _ (g : Geometry) where
       → AreAims g (known_then begun wished)
   known_too begun None is are = are.aims
   known_too begun (Some one) is are = record {
-    of_image = all_more one (IsAim g) (begun.taken ++ begun.left) is are.aims.of_image;
+    of_image = all_more one (IsAim g) (begun.taken ++ begun.left) is (raise one) are.aims.of_image;
     rise = still_rises one (begun.taken ++ begun.left) are.aims.rise;
   }
 
   begun_with : (number : ℕ) (known : List Aim) → AreAims g known → AreTakenBy g (fresh number known)
   begun_with number known are = record {
     aims = are;
-    held = All-nil (λ (t : Taken). Contains [] (aim_of t));
+    held = All-nil (λ (t : Taken). IsCovered [] (aim_of t));
     claimed = All-nil (λ (b : BlockNo). Contains [] (aim.Claim b));
     first = inr (refl, refl);
   }
 
   off : (begun : Begun) (wished : Aim) → IsAim g wished → AreTakenBy g begun
       → AreTakenAt g (kept_off begun wished)
-  off begun wished is are = by (is_above wished begun.taken)
+  off begun wished is are = by (is_barred wished begun.taken)
     where
       by : (above : Bool) → AreTakenAt g (if above then Again begun (Some wished) else Planning begun)
       by true = (are, is)
@@ -187,7 +239,7 @@ module _ (o : Setting) (told : Told) (worker : ℕ) where
       → AreTakenBy g begun → Then (after_planning stable begun made)
   by_plan stable begun (step.Wanted addr mode answer) none is are =
       by_wanted g begun (record { addr = addr; mode = mode }) answer
-      (subst (IsNext g (aim.Object addr mode)) (sym none) tt) (is.0.asks, is.0.alone) are
+      (subst (IsNext g (aim.Object addr mode)) (sym none) tt) is.0.asks are
   by_plan stable begun (step.Claimed block answer) none is are =
       by_claimed g begun block answer (subst (IsNext g (aim.Claim block)) (sym none) tt) is.0.claims are
   by_plan stable begun (step.Commit blocks answer) none is are = by_commit g stable begun answer are

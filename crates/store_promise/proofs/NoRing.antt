@@ -17,12 +17,12 @@ use Rattle.objects.specs.declared.addr.Addr.{Addr}
 use Rattle.objects.specs.declared.mode.Mode.{Mode}
 use Rattle.objects.specs.declared.mode.Mode.TheVariants as modes
 use Rattle.txn_law.proofs.Swept.{in_cons, in_first, in_more}
-use Rattle.store_promise.specs.Aims.{is_above, place_of}
+use Rattle.store_promise.specs.Aims.{is_bar, is_barred, is_raise, place_of}
 use Rattle.store_promise.specs.declared.aims.Aim.{Aim}
 use Rattle.store_promise.specs.declared.aims.Aim.TheVariants as aim
 use Rattle.store_promise.specs.Progress.{At, Begun, Job, Planning, Progress, aim_keeps_off, has_taken, takes}
 use Rattle.store_promise.specs.Schedule.{Setting, Told}
-use Rattle.store_promise.specs.Waiting.{AllWait, AreTakenBy, HasTakenWell, IsAim, WaitsFor, Waiter, wished_of}
+use Rattle.store_promise.specs.Waiting.{AllWait, AreTakenBy, HasTakenWell, IsAim, WaitsFor, Waiter, wished_alone, wished_of}
 
 -- ---- aims of an image that share a byte begin at one place
 
@@ -42,7 +42,7 @@ addr_of (aim.Claim block) = whole_addr block
 
 module _ (g : Geometry) where
   object_of : (one : Aim) → IsAim g one → IsObject g (addr_of one)
-  object_of (aim.Object addr mode) is = is.0
+  object_of (aim.Object addr mode) is = is
   object_of (aim.Claim block) is = whole is refl refl
 
   begins : (one : Aim) → place_of one ≡ (addr_of one).block.0 * BLOCK_BYTES + (addr_of one).offset
@@ -90,34 +90,34 @@ module _ (g : Geometry) where
       (overlaps wished one off) in
       begins one ∙ ap (λ (a : Addr). a.block.0 * BLOCK_BYTES + a.offset) same ∙ sym (begins wished)
 
-  -- and one that begins where a wish does keeps it off
-  exclusive : (a b : Mode) → b ≡ modes.Exclusive → (is_exclusive a || is_exclusive b) ≡ true
-  exclusive modes.Shared b is = ap is_exclusive is
-  exclusive modes.Exclusive b is = refl
-
+  -- and one that begins where a wish does keeps it off, where that is for one alone
   both : (a b : Bool) → a ≡ true → b ≡ true → (a && b) ≡ true
   both true true is also = refl
   both true false is also = also
   both false b is also = is
 
-  -- an object that has a byte of what is wished alone
-  shared : (block : BlockNo) (offset len : ℕ) (other : Addr) (by mode : Mode) → other.block.0 ≡ block.0
-      → other.offset < offset + len → offset < other.offset + other.len → mode ≡ modes.Exclusive
+  exclusive : (a : Mode) → (is_exclusive a || is_exclusive modes.Exclusive) ≡ true
+  exclusive modes.Shared = refl
+  exclusive modes.Exclusive = refl
+
+  -- an object that has a byte of what is wished
+  shared : (block : BlockNo) (offset len : ℕ) (other : Addr) (by : Mode) → other.block.0 ≡ block.0
+      → other.offset < offset + len → offset < other.offset + other.len
       → ((nat_eq other.block.0 block.0 && nat_lt other.offset (offset + len)
-      && nat_lt offset (other.offset + other.len)) && (is_exclusive by || is_exclusive mode)) ≡ true
-  shared block offset len other by mode same low high is =
+      && nat_lt offset (other.offset + other.len)) && (is_exclusive by || is_exclusive modes.Exclusive)) ≡ true
+  shared block offset len other by same low high =
       let one : nat_eq other.block.0 block.0 ≡ true = grind (arith, nat_tests) in
       let two : nat_lt other.offset (offset + len) ≡ true = grind (arith, nat_tests) in
       let three : nat_lt offset (other.offset + other.len) ≡ true = grind (arith, nat_tests) in
-      both _ _ (both _ _ (both _ _ one two) three) (exclusive by mode is)
+      both _ _ (both _ _ (both _ _ one two) three) (exclusive by)
 
   keeps_off_there : (wished one : Aim) → IsAim g wished → place_of one ≡ place_of wished
-      → aim_keeps_off (wished_of wished) one ≡ true
+      → aim_keeps_off (wished_alone wished) one ≡ true
   keeps_off_there (aim.Object addr mode) (aim.Object other by) is places =
       let (block, offset) = parts addr other places in
       let some = addr.some in let more = other.some in
-      shared addr.block addr.offset addr.len other by mode block (omega (arith, offset, some))
-      (omega (arith, offset, more)) is.1
+      shared addr.block addr.offset addr.len other by block (omega (arith, offset, some))
+      (omega (arith, offset, more))
     where
       parts : (addr other : Addr) → other.block.0 * BLOCK_BYTES + other.offset ≡ addr.block.0 * BLOCK_BYTES + addr.offset
           → (other.block.0 ≡ addr.block.0) × (other.offset ≡ addr.offset)
@@ -132,7 +132,7 @@ module _ (g : Geometry) where
       let inside = other.within in let some = other.some in
       let blocks : other.block.0 ≡ block.0 = omega (arith, places, inside, some) in
       let offset : other.offset ≡ 0 = omega (arith, places, blocks) in
-      shared block 0 BLOCK_BYTES other by modes.Exclusive blocks (omega (arith, offset)) (omega (arith, some)) refl
+      shared block 0 BLOCK_BYTES other by blocks (omega (arith, offset)) (omega (arith, some))
   keeps_off_there (aim.Claim block) (aim.Claim other) is places =
       let blocks : other.0 ≡ block.0 = omega (arith, places) in grind (arith, nat_tests)
 
@@ -160,13 +160,17 @@ is_any test (y ∷ ys) x has is = by (test y) refl (is_any test ys x) (in_cons y
     by false far rest (inl same) = absurd (true≢false (sym is ∙ ap test (sym same) ∙ far))
     by false far rest (inr more) = rest more is
 
-none_above : (wished one : Aim) (aims : List Aim) → is_above wished aims ≡ false → Contains aims one
+none_above : (wished one : Aim) (aims : List Aim) → is_barred wished aims ≡ false → Contains aims one
     → place_of one ≤ place_of wished
 none_above wished one aims none has = by (nat_lt (place_of wished) (place_of one)) refl
   where
+    or_true : (a b : Bool) → a ≡ true → (a || b) ≡ true
+    or_true true b is = refl
+    or_true false b is = absurd (true≢false (sym is))
+
     by : (t : Bool) → nat_lt (place_of wished) (place_of one) ≡ t → place_of one ≤ place_of wished
-    by true above = absurd (true≢false (sym (is_any (λ (a : Aim). nat_lt (place_of wished) (place_of a)) aims one has
-        above) ∙ none))
+    by true above = absurd (true≢false (sym (is_any (is_bar wished) aims one has
+        (or_true (nat_lt (place_of wished) (place_of one)) (is_raise wished one) above)) ∙ none))
     by false is = grind (arith, nat_tests)
 
 -- ---- who waits has taken what those wish that wait for it, below what it wishes
@@ -182,8 +186,8 @@ module _ (o : Setting) (told : Told)
     pub begun : Begun
     pub planning : told.workers one.worker ≡ At job (Planning begun)
     pub asks : IsAim g one.wished
-    pub below : is_above one.wished begun.taken ≡ false
-    pub not_own : takes (wished_of one.wished) begun ≡ false
+    pub free : is_barred one.wished begun.taken ≡ false
+    pub not_own : takes (wished_alone one.wished) begun ≡ false
 
   waits : (one other : Waiter) → WaitsFor g told one other → Waits one
   waits one other is = record {
@@ -191,7 +195,7 @@ module _ (o : Setting) (told : Told)
     begun = is.begun;
     planning = is.planning;
     asks = is.asks;
-    below = is.below;
+    free = is.free;
     not_own = is.not_own;
   }
 
@@ -205,9 +209,9 @@ module _ (o : Setting) (told : Told)
       let of_image = All-contains (IsAim g) (own.begun.taken ++ own.begun.left) has mine.aims.of_image
       (Contains-append_left own.begun.taken own.begun.left has there) in
       let place = one_place g one.wished has is.asks of_image off in
-      let low = none_above next.wished has own.begun.taken own.below there in
+      let low = none_above next.wished has own.begun.taken own.free there in
       less (place_of one.wished) (place_of next.wished) (place_of has) place low
-      (λ same. true≢false (sym (is_any (aim_keeps_off (wished_of next.wished)) own.begun.taken has there
+      (λ same. true≢false (sym (is_any (aim_keeps_off (wished_alone next.wished)) own.begun.taken has there
       (keeps_off_there g next.wished has own.asks same)) ∙ own.not_own))
     where
       less : (a b p : ℕ) → p ≡ a → p ≤ b → (p ≡ b → ⊥) → a < b

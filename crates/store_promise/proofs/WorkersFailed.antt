@@ -22,7 +22,7 @@ use Rattle.store_promise.specs.Progress.{Reading, Refused}
 use Rattle.store_promise.specs.Progress.{Stage, Waiting, after_called, after_commit, after_planning}
 use Rattle.store_promise.specs.Progress.{after_waiting}
 use Rattle.store_promise.specs.Progress.{going_on, is_idle, kept_off, progressed}
-use Rattle.store_promise.specs.Aims.{is_above}
+use Rattle.store_promise.specs.Aims.{is_barred}
 use Rattle.store_promise.specs.declared.aims.Aim.{Aim}
 use Rattle.store_promise.specs.declared.aims.Aim.TheVariants as aim
 use Rattle.store_promise.specs.Schedule.{IsBeginning, IsClaimWish, IsCommitting, IsRetaking, IsStepBeside}
@@ -129,7 +129,7 @@ module _ (o : Setting) (told : Told) (worker : ℕ) (job : Job) where
 
   module _ (begun : Begun) where
     off : (wished : Aim) → shows (At job (kept_off begun wished)) ≡ true → ⊥
-    off wished so = by (is_above wished begun.taken) so
+    off wished so = by (is_barred wished begun.taken) so
       where
         by : (above : Bool) → shows (At job (if above then Again begun (Some wished) else Planning begun)) ≡ true
             → ⊥

@@ -9,14 +9,14 @@ use Rattle.store_promise.specs.Progress.{At, Begun, Job, Planning, takes}
 use Rattle.store_promise.specs.Schedule.{Schedule, progress_before, wish_of}
 use Rattle.store_promise.specs.Transcript.{Transcript}
 
--- Of an image of so many blocks, what shares no byte with what the transaction has taken has the bytes that
--- it had.
+-- Of an image of so many blocks, what shares no byte with what the transaction has taken alone has the bytes that
+-- it had: what it shares with others, too.
 abbrev pub KeepsOthers : ℕ → Begun → Image → Image → Type 0
 KeepsOthers size begun old new = (addr : Addr) → addr.block.0 < size
-    → takes (wish_of addr modes.Exclusive) begun ≡ false
+    → takes (wish_of addr modes.Shared) begun ≡ false
     → object_at new addr ≡ object_at old addr
 
--- The procedure of a place changed the blocks before it only in what its transaction had taken when it was
+-- The procedure of a place changed the blocks before it only in what its transaction had taken alone when it was
 -- committed.
 pub record ChangesItsOwn (size : ℕ) (events : Schedule) (t : Transcript) (blocks : ℕ → Image) (index : ℕ)
     (c : Committed) : Type 0 where

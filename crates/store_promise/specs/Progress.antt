@@ -4,14 +4,15 @@ use Rattle.std.specs.Prelude.{ℕ, ◌+◌, Bool, true, false, ◌||◌, ◌&&�
 use Rattle.std.specs.Prelude.{◌∷◌, ◌++◌, drop, map, Ok, Option, Some, None}
 use Rattle.std.specs.List.{list_any}
 use Rattle.disk.specs.declared.block.BlockNo.{BlockNo}
-use Rattle.objects.specs.Mode.{is_exclusive}
+use Rattle.inode.specs.Snap.{same_addr}
+use Rattle.objects.specs.Mode.{is_exclusive, raised}
 use Rattle.objects.specs.declared.addr.Addr.{Addr}
 use Rattle.objects.specs.declared.mode.Mode.{Mode}
 use Rattle.nfs_types.specs.declared.call.Call.{Call}
 use Rattle.nfs_types.specs.declared.ctx.Credential.{Credential}
 use Rattle.nfs_types.specs.declared.ctx.Moment.{Moment}
 use Rattle.model.specs.Calls.{is_answered_stable}
-use Rattle.store_promise.specs.Aims.{inserted, is_above}
+use Rattle.store_promise.specs.Aims.{inserted, is_barred}
 use Rattle.store_promise.specs.declared.aims.Aim.{Aim}
 use Rattle.store_promise.specs.declared.aims.Aim.TheVariants as aim
 use Rattle.store_promise.specs.declared.events.Cause.{Cause}
@@ -29,7 +30,7 @@ pub record Job : Type 0 where
   pub moment : Moment
   pub call : Call
 
--- an object that a transaction has taken, and in which mode
+-- an object that a transaction has, and in which mode
 pub record Taken : Type 0 where
   pub addr : Addr
   pub mode : Mode
@@ -38,9 +39,9 @@ pub record Taken : Type 0 where
 abbrev pub addrs_of : List Taken → List Addr
 addrs_of taken = map (λ (one : Taken). one.addr) taken
 
--- A transaction that is out: its number, the objects that its plan was told and the blocks that it has claimed,
--- each in the order of the steps; all that the transaction has taken; and what its call knew when it began, and
--- isn't taken again yet. The last two rise.
+-- A transaction that is out: its number, the objects that its plan was told, each in the mode that the plan asked
+-- for last, and the blocks that it has claimed, both in the order in which they came; all that the transaction has
+-- taken; and what its call knew when it began, and isn't taken again yet. The last two rise.
 pub record Begun : Type 0 where
   pub number : ℕ
   pub held : List Taken
@@ -61,7 +62,7 @@ pub data Stage : Type 0 where
   -- its transaction is to be ended, and then the call is answered
   Refused : Begun → Cause → Stage
   -- its transaction is to be ended, and then the call begins again: it was kept off from this, which lies below
-  -- what it has taken; or, where there is none, its change was foreign
+  -- what it has taken or raises it; or, where there is none, its change was foreign
   Again : Begun → Option Aim → Stage
   -- its procedure was committed at this place, and isn't answered yet
   Waiting : ℕ → Stage
@@ -84,9 +85,22 @@ aim_of taken = aim.Object taken.addr taken.mode
 abbrev pub with_taken : Begun → Aim → Begun
 with_taken begun one = record begun { taken = inserted one begun.taken; left = drop 1 begun.left }
 
+-- an object that was told, in the mode of another one, where that is the same object
+abbrev pub raised_told : Taken → Taken → Taken
+raised_told one other =
+    if same_addr one.addr other.addr then record other { mode = raised other.mode one.mode } else other
+
+-- it was told, in whatever mode
+abbrev pub is_told : Addr → List Taken → Bool
+is_told addr held = list_any (λ (other : Taken). same_addr addr other.addr) held
+
+-- the objects that were told, with one more, or with this one of them raised
+abbrev pub with_told : Taken → List Taken → List Taken
+with_told one held = if is_told one.addr held then map (raised_told one) held else held ++ one ∷ []
+
 -- its plan is told an object, or has claimed a block, once nothing is left to be taken again
 abbrev pub told_by : List Aim → Begun → Taken → Begun
-told_by [] begun taken = record begun { held = begun.held ++ taken ∷ [] }
+told_by [] begun taken = record begun { held = with_told taken begun.held }
 told_by (next ∷ later) begun taken = begun
 
 abbrev pub claimed_by : List Aim → Begun → BlockNo → Begun
@@ -99,10 +113,11 @@ with_held begun taken = told_by begun.left (with_taken begun (aim_of taken)) tak
 abbrev pub with_claimed : Begun → BlockNo → Begun
 with_claimed begun block = claimed_by begun.left (with_taken begun (aim.Claim block)) block
 
--- Who is kept off waits, and asks again, where it has taken nothing above what it wishes. Else it gives all back,
--- and takes it again from the lowest on: so no two wait for each other.
+-- Who is kept off waits, and asks again, where it has taken nothing above what it wishes, nor that itself in a lower
+-- mode. Else it gives all back, and takes it again from the lowest on, each object once and in the highest mode that it
+-- was asked for: so no two wait for each other, and no two that raise one object keep each other off again.
 abbrev pub kept_off : Begun → Aim → Stage
-kept_off begun wished = if is_above wished begun.taken then Again begun (Some wished) else Planning begun
+kept_off begun wished = if is_barred wished begun.taken then Again begun (Some wished) else Planning begun
 
 -- what the call knows then
 abbrev pub with_wished : Option Aim → List Aim → List Aim

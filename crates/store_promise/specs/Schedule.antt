@@ -1,10 +1,11 @@
 -- Which events apply, and what step each may make, told from the events and steps before it alone.
-use Rattle.std.specs.Prelude.{◌≡◌, ◌≢◌, ℕ, ◌+◌, ◌^◌, ◌<◌, ◌≤◌, Bool, true, false, if◌then◌else◌, nat_eq}
+use Rattle.std.specs.Prelude.{◌≡◌, ◌≢◌, ℕ, ◌+◌, ◌^◌, ◌<◌, ◌≤◌, Bool, true, false, ◌&&◌, if◌then◌else◌, nat_eq}
 use Rattle.std.specs.Prelude.{nat_le, List, [], ◌∷◌, take, Option, Some, None, Ok, Err, length, slice_get}
 use Rattle.std.specs.List.{zip, list_any}
 use Rattle.limits.specs.declared.TheConstants.{BLOCK_BYTES, CHANGED_BLOCKS, LOG_SLOTS}
 use Rattle.disk.specs.Crash.{Image}
 use Rattle.disk.specs.declared.block.BlockNo.{BlockNo}
+use Rattle.objects.specs.Mode.{covers}
 use Rattle.objects.specs.declared.addr.Addr.{Addr}
 use Rattle.objects.specs.declared.mode.Mode.{Mode}
 use Rattle.objects.specs.declared.mode.Mode.TheVariants as modes
@@ -124,16 +125,14 @@ pub record Setting : Type 0 where
   pub position : ℕ
   pub blocks : ℕ → Image
 
--- an object is among these
-abbrev pub is_held : Addr → List Taken → Bool
-is_held addr held = list_any (λ (other : Taken). same_addr addr other.addr) held
+-- an object is among these, in this mode or in a higher one
+abbrev pub is_held : Addr → Mode → List Taken → Bool
+is_held addr mode held = list_any (λ (other : Taken). same_addr addr other.addr && covers other.mode mode) held
 
--- the object is one that plans may ask for, and the transaction hasn't got it
+-- the object is one that plans may ask for, and the plan wasn't told it in this mode
 pub record IsAskedFor (o : Setting) (begun : Begun) (addr : Addr) (mode : Mode) : Type 0 where
-  pub unheld : is_held addr begun.held ≡ false
+  pub unheld : is_held addr mode begun.held ≡ false
   pub asks : Asks o.geometry addr
-  -- a plan wants each object for its call alone
-  pub alone : mode ≡ modes.Exclusive
 
 -- the block is one that plans may ask to claim, and the transaction hasn't got it
 pub record IsClaimAskedFor (o : Setting) (begun : Begun) (block : BlockNo) : Type 0 where

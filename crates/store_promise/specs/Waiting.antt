@@ -4,7 +4,7 @@ use Rattle.disk.specs.declared.block.BlockNo.{BlockNo}
 use Rattle.layout.specs.declared.geometry.Geometry.{Geometry}
 use Rattle.objects.specs.declared.mode.Mode.TheVariants as modes
 use Rattle.procs.specs.Asks.{Asks, Claims}
-use Rattle.store_promise.specs.Aims.{Rises, is_above}
+use Rattle.store_promise.specs.Aims.{IsCovered, Rises, is_barred}
 use Rattle.store_promise.specs.declared.aims.Aim.{Aim}
 use Rattle.store_promise.specs.declared.aims.Aim.TheVariants as aim
 use Rattle.store_promise.specs.Progress.{Begun, Job, Progress, Stage, Taken, Wished, Idle, At, Called, Planning}
@@ -13,9 +13,9 @@ use Rattle.store_promise.specs.Schedule.{Told, whole_wish, wish_of}
 
 -- ---- what is taken
 
--- an object that plans may ask for, for their calls alone, or a block that they may ask to claim
+-- an object that plans may ask for, in whatever mode, or a block that they may ask to claim
 abbrev pub IsAim : Geometry → Aim → Type 0
-IsAim g (aim.Object addr mode) = Asks g addr × (mode ≡ modes.Exclusive)
+IsAim g (aim.Object addr mode) = Asks g addr
 IsAim g (aim.Claim block) = Claims g block
 
 -- aims of an image that rise
@@ -24,10 +24,11 @@ pub record AreAims (g : Geometry) (aims : List Aim) : Type 0 where
   pub rise : Rises aims
 
 -- What a transaction has taken, and behind it what is left to be taken again, are aims of the image that rise.
--- What its plan was told or has claimed is taken, and nothing of it while something is left.
+-- What its plan was told is taken, in its mode or in a higher one, and what it has claimed is; and it was told and has
+-- claimed nothing while something is left.
 pub record AreTakenBy (g : Geometry) (begun : Begun) : Type 0 where
   pub aims : AreAims g (begun.taken ++ begun.left)
-  pub held : All (λ (one : Taken). Contains begun.taken (aim_of one)) begun.held
+  pub held : All (λ (one : Taken). IsCovered begun.taken (aim_of one)) begun.held
   pub claimed : All (λ (block : BlockNo). Contains begun.taken (aim.Claim block)) begun.claimed
   pub first : (begun.left ≡ []) ⊎ ((begun.held ≡ []) × (begun.claimed ≡ []))
 
@@ -56,15 +57,20 @@ abbrev pub wished_of : Aim → Wished
 wished_of (aim.Object addr mode) = wish_of addr mode
 wished_of (aim.Claim block) = whole_wish block
 
--- A worker waits for another, whose transaction has taken what it wishes: with its own it has taken nothing above
--- that, and not that itself. One that has doesn't wait (`kept_off`); and who fetches a block waits for nobody.
+-- what is wished alone: who has taken a byte of it, in whatever mode, keeps that off
+abbrev pub wished_alone : Aim → Wished
+wished_alone one = record (wished_of one) { mode = modes.Exclusive }
+
+-- A worker waits for another, whose transaction has taken what it wishes: with its own it has taken nothing that bars
+-- the wait, and no byte of what it wishes. One that has doesn't wait (`kept_off`); and who fetches a block waits for
+-- nobody.
 pub record WaitsFor (g : Geometry) (told : Told) (one other : Waiter) : Type 0 where
   pub job : Job
   pub begun : Begun
   pub planning : told.workers one.worker ≡ At job (Planning begun)
   pub asks : IsAim g one.wished
-  pub below : is_above one.wished begun.taken ≡ false
-  pub not_own : takes (wished_of one.wished) begun ≡ false
+  pub free : is_barred one.wished begun.taken ≡ false
+  pub not_own : takes (wished_alone one.wished) begun ≡ false
   pub theirs : has_taken (wished_of one.wished) (told.workers other.worker) ≡ true
 
 -- each of these waits for the next, and the last of them for another

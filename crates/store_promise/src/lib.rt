@@ -68,4 +68,7 @@ pub use told_log::{
     the_loggers_next_call_is_told, the_room_is_told, what_is_settled_is_told,
 };
 pub use transcript::{Answer, Committed, Run};
-pub use waiting::{aims_rise_with_one_more, waits_make_no_ring, what_is_taken_rises};
+pub use waiting::{
+    aims_rise_with_one_more, waits_make_no_ring, what_is_taken_again_is_not_raised,
+    what_is_taken_rises,
+};

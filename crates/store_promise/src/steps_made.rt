@@ -31,7 +31,7 @@ ghost use Rattle.store_promise.specs.declared.transcript.Committed.{Committed};
 ghost use Rattle.store_promise.specs.Headline.{KeepsPromise};
 ghost use Rattle.store_promise.specs.LogTold.{idle, may_install_told, may_log_told, out};
 ghost use Rattle.store_promise.specs.NextCall.{next_log_call, taken_home};
-ghost use Rattle.store_promise.specs.Aims.{is_above};
+ghost use Rattle.store_promise.specs.Aims.{is_barred};
 ghost use Rattle.store_promise.specs.Progress.{Again, Begun, Called, Job, At, Planning, Reading, Stage};
 ghost use Rattle.store_promise.specs.Progress.{Taken, has_taken, is_fetching, known_then, takes};
 ghost use Rattle.store_promise.specs.Schedule.{IsTaken, Schedule, Setting, Told, is_held};
@@ -127,14 +127,14 @@ pub fn what_was_made_stays()
         → IsTaken (record o { blocks = later }) workers told event made }
 {}
 
-/// A worker that asks for an object which it holds breaks the promise.
+/// A worker that asks for an object which its plan was told in this mode, or in a higher one, breaks the promise.
 pub fn nothing_is_asked_for_twice()
     ensures { (before later : Device) (tree : Tree) (first workers index worker : ℕ) (events : Schedule)
         (t : Transcript) (job : Job) (begun : Begun) (addr : Addr) (mode : Mode) (answer : Wish)
         → slice_get events index ≡ Some (event.Work worker) → worker < workers
         → slice_get t.steps index ≡ Some (Some (step.Wanted addr mode answer))
         → progress_before events t.steps worker index ≡ At job (Planning begun)
-        → is_held addr begun.held ≡ true
+        → is_held addr mode begun.held ≡ true
         → KeepsPromise before later tree first workers events t → ⊥ }
 {}
 
@@ -207,14 +207,14 @@ pub fn a_call_changes_no_more_than_it_may()
         → KeepsPromise before later tree first workers events t → ⊥ }
 {}
 
-/// What shares no byte with what the transaction of a procedure had taken has the bytes after it that it had
-/// before it.
+/// What shares no byte with what the transaction of a procedure had taken alone has the bytes after it that it had
+/// before it: so has what it had taken beside others.
 pub fn a_procedure_changes_only_what_it_took()
     ensures { (before later : Device) (tree : Tree) (first workers index : ℕ) (events : Schedule)
         (t : Transcript) (c : Committed) (job : Job) (begun : Begun) (addr : Addr)
         → slice_get t.history index ≡ Some c
         → progress_before events t.steps c.worker c.event ≡ At job (Planning begun)
-        → addr.block.0 < later.size → takes (wish_of addr modes.Exclusive) begun ≡ false
+        → addr.block.0 < later.size → takes (wish_of addr modes.Shared) begun ≡ false
         → (kept : KeepsPromise before later tree first workers events t)
         → object_at (kept.setting.blocks (index + 1)) addr ≡ object_at (kept.setting.blocks index) addr }
 {}
@@ -248,8 +248,9 @@ pub fn what_was_known_is_taken_again_first()
         → KeepsPromise before later tree first workers events t → ⊥ }
 {}
 
-/// A worker that is told Busy or Loading, and has taken something above what it wishes, doesn't wait: its next
-/// step ends its transaction, and its call begins again with what it knows then. Else the promise is broken.
+/// A worker that is told Busy or Loading, and has taken something above what it wishes, or that itself in a lower mode,
+/// doesn't wait: its next step ends its transaction, and its call begins again with what it knows then. Else the
+/// promise is broken.
 pub fn who_has_taken_more_above_does_not_wait()
     ensures off { (events : Schedule) (steps : List (Option Step)) (index worker : ℕ) (job : Job)
         (begun : Begun) (addr : Addr) (mode : Mode) (answer : Wish)
@@ -257,7 +258,7 @@ pub fn who_has_taken_more_above_does_not_wait()
         → slice_get steps index ≡ Some (Some (step.Wanted addr mode answer))
         → (answer ≡ wish.Busy) ⊎ (answer ≡ wish.Loading)
         → progress_before events steps worker index ≡ At job (Planning begun)
-        → is_above (aim.Object addr mode) begun.taken ≡ true
+        → is_barred (aim.Object addr mode) begun.taken ≡ true
         → progress_before events steps worker (index + 1)
         ≡ At job (Again begun (Some (aim.Object addr mode))) }
     ensures ends { (before later : Device) (tree : Tree) (first workers index worker : ℕ) (events : Schedule)

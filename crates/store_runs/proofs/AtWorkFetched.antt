@@ -6,7 +6,7 @@ use Rattle.std.proofs.lemmas.List.Elements.{All-push, All-weaker}
 use Rattle.disk.specs.Device.{Content}
 use Rattle.disk.specs.declared.block.BlockNo.{BlockNo}
 use Rattle.objects.specs.declared.addr.Addr.{Addr}
-use Rattle.objects.specs.declared.mode.Mode.TheVariants as modes
+use Rattle.objects.specs.declared.mode.Mode.{Mode}
 use Rattle.txn_law.specs.Core.{CoreState}
 use Rattle.txn_law.specs.Fetch.{Fetch}
 use Rattle.txn_law.specs.Holds.{for_fetching, for_reading, for_writing, is_hold_of, is_taken, joined}
@@ -65,12 +65,12 @@ memory_with block content before there at is = by (nat_eq at.0 block.0)
     by false = (before, is)
 
 module _ (old new : CoreState) (tx : ℕ) (fetched : List Addr) (addr : Addr) where
-  module _ (bytes : List ℕ) (held : IsHeld old tx addr modes.Exclusive bytes new) where
+  module _ (mode : Mode) (bytes : List ℕ) (held : IsHeld old tx addr mode bytes new) where
     pub one_held : (a : Addr) → IsLoadedFor old tx a → IsLoadedFor new tx a
     one_held a loaded =
         let some : has_taken new tx a ≡ true = ap (λ (o : Option Hold). is_some o) (held.leaves.holds tx a)
-        ∙ taken_more (for_reading tx addr modes.Exclusive) (taken_by old tx a)
-        (is_hold_of tx a (for_reading tx addr modes.Exclusive)) loaded.taken in
+        ∙ taken_more (for_reading tx addr mode) (taken_by old tx a)
+        (is_hold_of tx a (for_reading tx addr mode)) loaded.taken in
         let now = memory_with addr.block held.content loaded.content (in_memory old) a.block loaded.there in
         record {
           taken = some;
@@ -82,9 +82,9 @@ module _ (old new : CoreState) (tx : ℕ) (fetched : List Addr) (addr : Addr) wh
     pub now_held : IsLoadedFor new tx addr
     now_held =
         let some : has_taken new tx addr ≡ true = ap (λ (o : Option Hold). is_some o) (held.leaves.holds tx addr)
-        ∙ taken_so (for_reading tx addr modes.Exclusive) (taken_by old tx addr)
-        (is_hold_of tx addr (for_reading tx addr modes.Exclusive))
-        (is_hold_by tx addr (for_reading tx addr modes.Exclusive) refl refl refl refl) in
+        ∙ taken_so (for_reading tx addr mode) (taken_by old tx addr)
+        (is_hold_of tx addr (for_reading tx addr mode))
+        (is_hold_by tx addr (for_reading tx addr mode) refl refl refl refl) in
         record {
           taken = some;
           content = held.content;
@@ -112,9 +112,9 @@ module _ (old new : CoreState) (tx : ℕ) (fetched : List Addr) (addr : Addr) wh
     pub after_claimed : AreLoadedFor old tx fetched → AreLoadedFor new tx fetched
     after_claimed = All-weaker (IsLoadedFor old tx) (IsLoadedFor new tx) one_claimed fetched
 
-  module _ (io : Fetch) (asked : IsFetched old tx addr modes.Exclusive io new) where
+  module _ (mode : Mode) (io : Fetch) (asked : IsFetched old tx addr mode io new) where
     abbrev hold : Hold
-    hold = for_fetching tx addr modes.Exclusive
+    hold = for_fetching tx addr mode
 
     pub one_wanted : (a : Addr) → IsLoadedFor old tx a → IsLoadedFor new tx a
     one_wanted a loaded =

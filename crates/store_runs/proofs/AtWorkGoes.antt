@@ -40,7 +40,7 @@ use Rattle.store_runs.specs.AtWork.{HasTakenPlace, IsSeenIn, entry_by, fetches_i
 use Rattle.store_workers.specs.Seen.{Seen}
 use Rattle.store_workers.specs.Stages.{IsJobIn, IsWorkerAt, StandsAt}
 use Rattle.store_workers.specs.WorkerAnswers.{after_commit, begun_claimed, begun_wanted, committing_of}
-use Rattle.store_workers.specs.WorkerAnswers.{object, phase_claimed, phase_off, phase_wanted, told_of, with_answer}
+use Rattle.store_workers.specs.WorkerAnswers.{phase_claimed, phase_off, phase_wanted, told_of, with_answer}
 use Rattle.store_workers.specs.WorkerAnswers.{with_entry}
 use Rattle.store_workers.specs.WorkerSteps.{GoesOn, HasGivenBack, IsFromHome, IsNext, IsTold}
 use Rattle.store_workers.specs.WorkerSteps.{KeepsHomeOf, Side}
@@ -48,8 +48,9 @@ use Rattle.store_workers.specs.WorkerSteps.{given_step, planned_of}
 use Rattle.store_workers.specs.declared.workers.parts.Job.{Job}
 use Rattle.store_workers.specs.declared.workers.parts.Phase.{Phase}
 use Rattle.objects.specs.declared.addr.Addr.{Addr}
+use Rattle.objects.specs.declared.mode.Mode.{Mode}
 use Rattle.disk.specs.declared.block.BlockNo.{BlockNo}
-use Rattle.store_promise.specs.Aims.{is_above}
+use Rattle.store_promise.specs.Aims.{is_barred}
 use Rattle.store_promise.specs.declared.aims.Aim.{Aim}
 use Rattle.store_promise.specs.declared.aims.Aim.TheVariants as aim
 use Rattle.store_workers.specs.declared.workers.parts.Phase.TheVariants.{Idle, Called, Planning}
@@ -73,20 +74,20 @@ module _ (old new : Side) where
 
   -- who is kept off fetches nothing
   off_none : (wished : Aim) → fetches_in (phase_off wished old.worker.known) None ≡ []
-  off_none wished = by (is_above wished old.worker.known.taken)
+  off_none wished = by (is_barred wished old.worker.known.taken)
     where
       by : (above : Bool) → fetches_in (if above then Again else Planning) None ≡ []
       by true = refl
       by false = refl
 
-  wanted_none : (addr : Addr) (answer : Want)
-      → fetches_in (phase_wanted addr answer old.worker.known) (begun_wanted answer).io ≡ []
-  wanted_none addr (want.Held back bytes) = refl
-  wanted_none addr (want.Fetch back io) = refl
-  wanted_none addr (want.Busy back) = off_none (object addr)
-  wanted_none addr (want.Loading back) = off_none (object addr)
-  wanted_none addr (want.Outside back) = refl
-  wanted_none addr (want.NoMemory back) = refl
+  wanted_none : (addr : Addr) (mode : Mode) (answer : Want)
+      → fetches_in (phase_wanted addr mode answer old.worker.known) (begun_wanted answer).io ≡ []
+  wanted_none addr mode (want.Held back bytes) = refl
+  wanted_none addr mode (want.Fetch back io) = refl
+  wanted_none addr mode (want.Busy back) = off_none (aim.Object addr mode)
+  wanted_none addr mode (want.Loading back) = off_none (aim.Object addr mode)
+  wanted_none addr mode (want.Outside back) = refl
+  wanted_none addr mode (want.NoMemory back) = refl
 
   claimed_none : (block : BlockNo) (answer : Claim)
       → fetches_in (phase_claimed block answer old.worker.known) (begun_claimed answer).io ≡ []
@@ -142,7 +143,7 @@ module _ (old new : Side) where
     begun = λ job one job_is served has phase_is. at _ has.worker refl;
     not_begun = λ job why job_is served none core is phase_is. at _ is refl;
     replied = λ job job_is served core is phase_is. at _ is refl;
-    wanted = λ tx addr made tx_is next has phase_is. at _ has.worker (wanted_none addr has.answer);
+    wanted = λ tx addr mode made tx_is next has phase_is. at _ has.worker (wanted_none addr mode has.answer);
     claimed = λ tx block made tx_is next has phase_is. at _ has.worker (claimed_none block has.answer);
     committed = λ job tx done made tx_is next none job_is has phase_is.
         at _ has.worker (committed_none job done.reply _ has.answer);
@@ -228,7 +229,7 @@ module _ (old new : Side) (boot number : ℕ) (entries : List Committed) where
     begun = λ job one job_is served was stands has. absurd (true≢false (sym has));
     not_begun = λ job why job_is served none core is stands has. absurd (true≢false (sym has));
     replied = λ job job_is served core is stands has. absurd (true≢false (sym has));
-    wanted = λ tx addr made tx_is next was stands has. absurd (true≢false (sym has));
+    wanted = λ tx addr mode made tx_is next was stands has. absurd (true≢false (sym has));
     claimed = λ tx block made tx_is next was stands has. absurd (true≢false (sym has));
     committed = λ job tx done made tx_is next none job_is was.
         place_taken job tx done _ was.answer (added_blocks old.core.log (blocks_of done.written)) next

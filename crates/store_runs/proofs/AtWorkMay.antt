@@ -1,6 +1,6 @@
 -- Each step of a worker is one that may be made.
 use Rattle.std.proofs.Common.{◌≡◌, ◌≢◌, ◌∙◌, ◌↔◌, refl, sym, ap, subst, true≢false, ℕ, ◌+◌, ◌^◌, ◌≤◌, arith, Bool}
-use Rattle.std.proofs.Common.{true, false, ◌||◌, nat_eq, nat_le, IsTrue, Option, Some, None, List, [], ◌∷◌}
+use Rattle.std.proofs.Common.{true, false, ◌&&◌, ◌||◌, nat_eq, nat_le, IsTrue, Option, Some, None, List, [], ◌∷◌}
 use Rattle.std.proofs.Common.{◌<◌, ◌⊎◌, inl, inr, length, map, All, IfSome}
 use Rattle.std.proofs.Common.{Ok, Err}
 use Rattle.std.specs.Prelude.{IsSomeAnd}
@@ -18,7 +18,7 @@ use Rattle.model.specs.Entry.{Entry}
 use Rattle.model.specs.Calls.{begins_transaction}
 use Rattle.model.specs.Tree.{Tree}
 use Rattle.objects.specs.declared.addr.Addr.{Addr}
-use Rattle.objects.specs.declared.mode.Mode.TheVariants as modes
+use Rattle.objects.specs.declared.mode.Mode.{Mode}
 use Rattle.procs.proofs.FewClaimed.{claimed_object}
 use Rattle.procs.specs.Asks.{Asks, Claims}
 use Rattle.procs.specs.Outcome.{Outcome}
@@ -76,7 +76,7 @@ use Rattle.store_workers.specs.Seen.{Seen, seen_in}
 use Rattle.store_workers.specs.Stages.{IsFetchOf, IsJobIn, IsWorkerAt, RunsIn, StandsAt, alone, at_fetch}
 use Rattle.store_workers.specs.Stages.{at_stage, begun_of}
 use Rattle.store_workers.specs.Stages.{progress_in, progress_of}
-use Rattle.store_workers.specs.WorkerAnswers.{claim_wish, committing_of, object, wish_of}
+use Rattle.store_workers.specs.WorkerAnswers.{claim_wish, committing_of, wish_of}
 use Rattle.store_workers.specs.WorkerSteps.{GoesOn, HasClaimed, HasCommitted, HasLacked, HasWanted, IsNext}
 use Rattle.store_workers.specs.WorkerSteps.{IsNoBeginning, Side}
 use Rattle.store_workers.specs.WorkerSteps.{given_step, planned_of, side}
@@ -87,11 +87,16 @@ use Rattle.store_workers.specs.declared.workers.parts.State.{State}
 
 -- ---- what was read
 
--- an address is told just where it was seen
-held_as_seen : (addr : Addr) (objects : List ObjectBytes)
-    → is_held addr (map (λ (object : ObjectBytes). alone object.addr) objects) ≡ is_seen addr objects
-held_as_seen addr [] = refl
-held_as_seen addr (x ∷ xs) = ap (λ (b : Bool). same_addr addr x.addr || b) (held_as_seen addr xs)
+-- an address is told just where it was seen, and then in each mode
+held_as_seen : (addr : Addr) (mode : Mode) (objects : List ObjectBytes)
+    → is_held addr mode (map (λ (object : ObjectBytes). alone object.addr) objects) ≡ is_seen addr objects
+held_as_seen addr mode [] = refl
+held_as_seen addr mode (x ∷ xs) = ap (λ (b : Bool). b || is_held addr mode (map (λ (o : ObjectBytes). alone o.addr) xs))
+    (and_true (same_addr addr x.addr)) ∙ ap (λ (b : Bool). same_addr addr x.addr || b) (held_as_seen addr mode xs)
+  where
+    and_true : (b : Bool) → (b && true) ≡ b
+    and_true true = refl
+    and_true false = refl
 
 -- a block that is in memory isn't one that isn't
 differs : (core : CoreState) (one other : BlockNo) (content : Content) → in_memory core one ≡ Some content
@@ -118,17 +123,17 @@ module _ (told : Told) (worker : ℕ) (core : CoreState) (tx : ℕ) (knowing : K
       apart (aim.Object a mode) is = differs core a.block block is.content is.there absent
       apart (aim.Claim claimed) is = refl
 
-  pub want_may : (addr : Addr) → IsHomeOn core.log.blocks addr.block → (found : Option ℕ) (seen : Option Seen)
-      → (new : CoreState) (answer : Want) → IsWanted core tx addr modes.Exclusive answer new
-      → IsCaused told worker (Some (step.Wanted addr modes.Exclusive (wish_of answer)))
-      → IsWish told worker (begun_of found seen knowing) (schedule.wish_of addr modes.Exclusive) (wish_of answer)
-  want_may addr home found seen new (want.Held back bytes) is caused = caused
-  want_may addr home found seen new (want.NoMemory back) is caused = caused
-  want_may addr home found seen new (want.Busy back) is caused = caused
-  want_may addr home found seen new (want.Loading back) is caused = caused
-  want_may addr home found seen new (want.Outside back) is caused =
+  pub want_may : (addr : Addr) (mode : Mode) → IsHomeOn core.log.blocks addr.block → (found : Option ℕ) (seen : Option Seen)
+      → (new : CoreState) (answer : Want) → IsWanted core tx addr mode answer new
+      → IsCaused told worker (Some (step.Wanted addr mode (wish_of answer)))
+      → IsWish told worker (begun_of found seen knowing) (schedule.wish_of addr mode) (wish_of answer)
+  want_may addr mode home found seen new (want.Held back bytes) is caused = caused
+  want_may addr mode home found seen new (want.NoMemory back) is caused = caused
+  want_may addr mode home found seen new (want.Busy back) is caused = caused
+  want_may addr mode home found seen new (want.Loading back) is caused = caused
+  want_may addr mode home found seen new (want.Outside back) is caused =
       absurd (is.1 (record { out = is_out; home = home }))
-  want_may addr home found seen new (want.Fetch back io) is caused = (caused, not_loaded addr.block is.2.absent)
+  want_may addr mode home found seen new (want.Fetch back io) is caused = (caused, not_loaded addr.block is.2.absent)
 
   pub claim_may : (block : BlockNo) (addr : Addr) → IsHomeOn core.log.blocks addr.block → (begun : Begun)
       → (new : CoreState) (answer : Claim) → IsClaimed core tx addr answer new
@@ -157,25 +162,24 @@ module _ (o : Setting) (told : Told) (worker : ℕ) (base : Image) (store : Stor
   geometry_is : seen.geometry ≡ o.geometry
   geometry_is = one_geometry seen.geometry o.geometry (has.blocks ∙ sym run.blocks) (has.inodes ∙ sym inodes)
 
-  module _ (addr : Addr) (asks : Asks seen.geometry addr)
+  module _ (addr : Addr) (mode : Mode) (asks : Asks seen.geometry addr)
       (new_to_it : is_seen addr seen.objects ≡ false) where
-    asked_for : IsAskedFor o begun addr modes.Exclusive
+    asked_for : IsAskedFor o begun addr mode
     asked_for = record {
-      unheld = held_as_seen addr seen.objects ∙ new_to_it;
+      unheld = held_as_seen addr mode seen.objects ∙ new_to_it;
       asks = subst (λ (g : Geometry). Asks g addr) geometry_is asks;
-      alone = refl;
     }
 
-    wish_may : (new : CoreState) (answer : Want) → IsWanted store.core tx addr modes.Exclusive answer new
-        → IsCaused told worker (Some (step.Wanted addr modes.Exclusive (wish_of answer)))
-        → IsWish told worker begun (schedule.wish_of addr modes.Exclusive) (wish_of answer)
-    wish_may new answer is caused = want_may told worker store.core tx knowing is_out loaded addr
+    wish_may : (new : CoreState) (answer : Want) → IsWanted store.core tx addr mode answer new
+        → IsCaused told worker (Some (step.Wanted addr mode (wish_of answer)))
+        → IsWish told worker begun (schedule.wish_of addr mode) (wish_of answer)
+    wish_may new answer is caused = want_may told worker store.core tx knowing is_out loaded addr mode
         (subst (λ (n : ℕ). IsHomeOn n addr.block) has.blocks (at_home seen.geometry addr asks)) (Some tx) (Some seen)
         new answer is caused
 
-    pub wanted_may : (new : CoreState) (answer : Want) → IsWanted store.core tx addr modes.Exclusive answer new
-        → IsCaused told worker (Some (step.Wanted addr modes.Exclusive (wish_of answer)))
-        → IsStepByPlan o told worker begun (step.Wanted addr modes.Exclusive (wish_of answer))
+    pub wanted_may : (new : CoreState) (answer : Want) → IsWanted store.core tx addr mode answer new
+        → IsCaused told worker (Some (step.Wanted addr mode (wish_of answer)))
+        → IsStepByPlan o told worker begun (step.Wanted addr mode (wish_of answer))
     wanted_may new answer is caused = (asked_for, wish_may new answer is caused)
 
   module _ (block : BlockNo) (claims : Claims seen.geometry block)
@@ -338,33 +342,33 @@ module _ (o : Setting) (told : Told) (number : ℕ) (base : Image) (store : Stor
       subst (λ (found : Option Job). MayFrom (at_stage found (how.Planning all_begun)) (Some made)) (sym job_is)
       (subst (λ (left : List Aim). IsStepBeside left o told number all_begun made) (sym some) may)
 
-  wanted_so : (tx : ℕ) (addr : Addr) (made : Step) → worker.begun.tx ≡ Some tx
-      → IsWished worker (object addr) (plan.Need addr) → (has : HasWanted tx addr old made new)
-      → May Planning (Some (step.Wanted addr modes.Exclusive (wish_of has.answer)))
-  wanted_so tx addr made tx_is wished has at plans loads stands caused = by wished.why
+  wanted_so : (tx : ℕ) (addr : Addr) (mode : Mode) (made : Step) → worker.begun.tx ≡ Some tx
+      → IsWished worker (aim.Object addr mode) (plan.Need addr mode) → (has : HasWanted tx addr mode old made new)
+      → May Planning (Some (step.Wanted addr mode (wish_of has.answer)))
+  wanted_so tx addr mode made tx_is wished has at plans loads stands caused = by wished.why
     where
       loaded : All (IsAimLoaded store.core tx) worker.known.taken
       loaded = some_of (λ n. All (IsAimLoaded store.core n) worker.known.taken) worker.begun.tx tx tx_is loads
 
-      by : ((worker.known.left ≡ []) × IsNext worker (plan.Need addr))
-          ⊎ ((later : List Aim) × (worker.known.left ≡ object addr ∷ later))
+      by : ((worker.known.left ≡ []) × IsNext worker (plan.Need addr mode))
+          ⊎ ((later : List Aim) × (worker.known.left ≡ aim.Object addr mode ∷ later))
           → MayFrom (at_stage worker.work.job (how.Planning all_begun))
-          (Some (step.Wanted addr modes.Exclusive (wish_of has.answer)))
+          (Some (step.Wanted addr mode (wish_of has.answer)))
       by (inl (none, is)) =
           from_plan is.job tx (seen_of is.snap) _ is.job_is tx_is is.snap_is none
           (wanted_may o told number base store fetches boot first last entries run is_told inodes tx
           (seen_of is.snap) worker.known (out_in tx tx_is)
           (has_of worker store.core is.job tx (seen_of is.snap) is.job_is tx_is is.snap_is plans)
-          loaded one_geometry addr is.plan.1 is.plan.0 new.core has.answer has.core caused)
+          loaded one_geometry addr mode is.plan.1 is.plan.0 new.core has.answer has.core caused)
       by (inr (later, some)) =
-          let it = wish_by worker (object addr) (plan.Need addr) (λ seen. Unit {0})
-          (λ snap planned. ((planned.1, refl), tt)) (left_of at) wished in
+          let it = wish_by worker (aim.Object addr mode) (plan.Need addr mode) (λ seen. Unit {0})
+          (λ snap planned. (planned.1, tt)) (left_of at) wished in
           let of_call = has_of worker store.core it.job tx (seen_of it.snap) it.job_is tx_is it.snap_is plans in
-          from_left it.job (object addr) later _ it.job_is some (
+          from_left it.job (aim.Object addr mode) later _ it.job_is some (
             refl,
-            want_may told number store.core tx worker.known (out_in tx tx_is) loaded addr
+            want_may told number store.core tx worker.known (out_in tx tx_is) loaded addr mode
                 (subst (λ (n : ℕ). IsHomeOn n addr.block) of_call.blocks
-                (at_home it.snap.geometry addr it.is_aim.0))
+                (at_home it.snap.geometry addr it.is_aim))
                 worker.begun.tx (seen_in worker.work.snap) new.core has.answer has.core caused,
           )
 
@@ -429,7 +433,7 @@ module _ (o : Setting) (told : Told) (number : ℕ) (base : Image) (store : Stor
     where
       by : (job : Option Job) (wish : Option Addr) → IsSomeAnd job (λ j. IsJobIn boot worker.begun.tx j)
           → IsSomeAnd wish (λ addr. IsSomeAnd worker.begun.io (λ (io : Fetch). io.block ≡ addr.block))
-          → MayFrom (at_stage job (at_fetch (λ taken. how.Reading all_begun taken) all_begun wish)) None
+          → MayFrom (at_stage job (at_fetch (λ taken. how.Reading all_begun taken) all_begun worker.asked.mode wish)) None
       by None wish job_in at = absurd job_in
       by (Some job) None job_in at = absurd at
       by (Some job) (Some addr) job_in at = refl
@@ -443,7 +447,7 @@ module _ (o : Setting) (told : Told) (number : ℕ) (base : Image) (store : Stor
       by : (job : Option Job) (wish : Option Addr) (ok : Bool)
           → IsSomeAnd job (λ j. IsJobIn boot worker.begun.tx j)
           → IsSomeAnd wish (λ addr. io.block ≡ addr.block)
-          → MayFrom (at_stage job (at_fetch (λ taken. how.Read all_begun taken ok) all_begun wish))
+          → MayFrom (at_stage job (at_fetch (λ taken. how.Read all_begun taken ok) all_begun worker.asked.mode wish))
           (Some (given_step ok io))
       by None wish ok job_in at = absurd job_in
       by (Some job) None ok job_in at = absurd at

@@ -11,7 +11,8 @@ use Rattle.model.specs.Entry.{Entry}
 use Rattle.model.specs.Calls.{is_answered_stable}
 use Rattle.nfs_types.specs.declared.reply.Reply.{Reply}
 use Rattle.objects.specs.declared.addr.Addr.{Addr}
-use Rattle.objects.specs.declared.mode.Mode.TheVariants as modes
+use Rattle.objects.specs.Mode.{raised}
+use Rattle.objects.specs.declared.mode.Mode.{Mode}
 use Rattle.procs.specs.Outcome.{Outcome}
 use Rattle.wal_law.specs.Log.{added_blocks}
 use Rattle.wal_law.specs.declared.outcomes.Seq.{Seq}
@@ -30,7 +31,7 @@ use Rattle.txn_law.specs.Tidy.{AreTidy}
 use Rattle.store_promise.specs.declared.answers.Verdict.TheVariants as verdict
 use Rattle.store_promise.specs.declared.events.Step.{Step}
 use Rattle.store_promise.specs.declared.events.Step.TheVariants as step
-use Rattle.store_promise.specs.Aims.{inserted, is_above}
+use Rattle.store_promise.specs.Aims.{inserted, is_barred, raised_by}
 use Rattle.store_promise.specs.declared.aims.Aim.{Aim}
 use Rattle.store_promise.specs.declared.aims.Aim.TheVariants as aim
 use Rattle.store_promise.proofs.RisingAims.{all_more}
@@ -52,7 +53,7 @@ use Rattle.store_workers.specs.Stages.{IsFetchOf, IsWorkerAt, StandsAt}
 use Rattle.store_workers.specs.Telling.{told}
 use Rattle.store_workers.specs.Worker.{GoesWith}
 use Rattle.store_workers.specs.WorkerAnswers.{after_commit, asked_wanted, begun_claimed, begun_wanted}
-use Rattle.store_workers.specs.WorkerAnswers.{committing_of, known_claimed, known_off, known_wanted, object}
+use Rattle.store_workers.specs.WorkerAnswers.{committing_of, known_claimed, known_off, known_wanted}
 use Rattle.store_workers.specs.WorkerAnswers.{phase_claimed, phase_off, phase_wanted}
 use Rattle.store_workers.specs.WorkerAnswers.{told_of, with_answer, with_entry}
 use Rattle.store_workers.specs.WorkerSteps.{GoesOn, HasGivenBack, IsTold, KeepsReadsOf, Side}
@@ -94,7 +95,7 @@ module _ (old new : Side) where
       → AreLoaded old.core tx
       → LoadsFor (phase_off wished old.worker.known) (Some back) asked
       (known_off wished (record old.worker.known { room = room })) new.core
-  off_loads wished back tx room asked is same loaded = by (is_above wished taken)
+  off_loads wished back tx room asked is same loaded = by (is_barred wished taken)
     where
       by : (above : Bool) → LoadsFor (if above then Again else Planning) (Some back) asked
           (if above then with_off wished (record old.worker.known { room = room })
@@ -114,32 +115,43 @@ module _ (old new : Side) where
   more_but tx wish still (aim.Object addr mode) is = inl (still addr is)
   more_but tx wish still (aim.Claim block) is = tt
 
+  -- what is so of an object, whatever its mode, is so once that is raised
+  raised_loaded : (one first : Aim) (P : Aim → Type 0)
+      → ((addr : Addr) (mode other : Mode) → P (aim.Object addr mode) → P (aim.Object addr other)) → P first
+      → P (raised_by one first)
+  raised_loaded (aim.Object asked wished) (aim.Object addr mode) P so is = so addr mode (raised mode wished) is
+  raised_loaded (aim.Object asked wished) (aim.Claim block) P so is = is
+  raised_loaded (aim.Claim block) first P so is = is
+
   -- a wish to read
-  wanted_loads : (tx : ℕ) (addr : Addr) (room : Bool) (answer : Want)
-      → IsWanted old.core tx addr modes.Exclusive answer new.core → AreLoaded old.core tx
-      → LoadsFor (phase_wanted addr answer old.worker.known) (begun_wanted answer).tx
-      (asked_wanted addr answer old.worker.asked)
-      (known_wanted addr answer (record old.worker.known { room = room })) new.core
-  wanted_loads tx addr room (want.Held back bytes) is loaded =
-      subst (λ (n : ℕ). All (IsAimLoaded new.core n) (inserted (object addr) taken)) (sym is.0)
-      (all_more (object addr) (IsAimLoaded new.core tx) taken
-      (now_held old.core new.core tx [] addr bytes is.2)
+  wanted_loads : (tx : ℕ) (addr : Addr) (mode : Mode) (room : Bool) (answer : Want)
+      → IsWanted old.core tx addr mode answer new.core → AreLoaded old.core tx
+      → LoadsFor (phase_wanted addr mode answer old.worker.known) (begun_wanted answer).tx
+      (asked_wanted addr mode answer old.worker.asked)
+      (known_wanted addr mode answer (record old.worker.known { room = room })) new.core
+  wanted_loads tx addr mode room (want.Held back bytes) is loaded =
+      subst (λ (n : ℕ). All (IsAimLoaded new.core n) (inserted (aim.Object addr mode) taken)) (sym is.0)
+      (all_more (aim.Object addr mode) (IsAimLoaded new.core tx) taken
+      (now_held old.core new.core tx [] addr mode bytes is.2)
+      (λ first same. raised_loaded (aim.Object addr mode) first (IsAimLoaded new.core tx) (λ a one other is. is))
       (All-weaker (IsAimLoaded old.core tx) (IsAimLoaded new.core tx)
-      (more_loaded tx (one_held old.core new.core tx [] addr bytes is.2)) taken loaded))
-  wanted_loads tx addr room (want.Fetch back io) is loaded =
-      subst (λ (n : ℕ). All (IsLoadedBut (Some addr) new.core n) (inserted (object addr) taken)
+      (more_loaded tx (one_held old.core new.core tx [] addr mode bytes is.2)) taken loaded))
+  wanted_loads tx addr mode room (want.Fetch back io) is loaded =
+      subst (λ (n : ℕ). All (IsLoadedBut (Some addr) new.core n) (inserted (aim.Object addr mode) taken)
       × (has_taken new.core n addr ≡ true)) (sym is.0) (
-        all_more (object addr) (IsLoadedBut (Some addr) new.core tx) taken (inr refl)
+        all_more (aim.Object addr mode) (IsLoadedBut (Some addr) new.core tx) taken (inr refl)
+            (λ first same. raised_loaded (aim.Object addr mode) first (IsLoadedBut (Some addr) new.core tx)
+            (λ a one other is. is))
             (All-weaker (IsAimLoaded old.core tx) (IsLoadedBut (Some addr) new.core tx)
-            (more_but tx (Some addr) (one_wanted old.core new.core tx [] addr io is.2)) taken loaded),
-        wanted_taken old.core new.core tx [] addr io is.2,
+            (more_but tx (Some addr) (one_wanted old.core new.core tx [] addr mode io is.2)) taken loaded),
+        wanted_taken old.core new.core tx [] addr mode io is.2,
       )
-  wanted_loads tx addr room (want.Busy back) is loaded =
-      off_loads (object addr) back tx room old.worker.asked is.0 is.2 loaded
-  wanted_loads tx addr room (want.Loading back) is loaded =
-      off_loads (object addr) back tx room old.worker.asked is.0 is.2 loaded
-  wanted_loads tx addr room (want.Outside back) is loaded = tt
-  wanted_loads tx addr room (want.NoMemory back) is loaded = tt
+  wanted_loads tx addr mode room (want.Busy back) is loaded =
+      off_loads (aim.Object addr mode) back tx room old.worker.asked is.0 is.2 loaded
+  wanted_loads tx addr mode room (want.Loading back) is loaded =
+      off_loads (aim.Object addr mode) back tx room old.worker.asked is.0 is.2 loaded
+  wanted_loads tx addr mode room (want.Outside back) is loaded = tt
+  wanted_loads tx addr mode room (want.NoMemory back) is loaded = tt
 
   -- a wish to claim
   claimed_loads : (tx : ℕ) (block : BlockNo) (addr : Addr) (room : Bool) (answer : Claim)
@@ -149,6 +161,7 @@ module _ (old new : Side) where
   claimed_loads tx block addr room (claim.Held back) is loaded =
       subst (λ (n : ℕ). All (IsAimLoaded new.core n) (inserted (aim.Claim block) taken)) (sym is.0)
       (all_more (aim.Claim block) (IsAimLoaded new.core tx) taken tt
+      (λ first same. raised_loaded (aim.Claim block) first (IsAimLoaded new.core tx) (λ a one other is. is))
       (All-weaker (IsAimLoaded old.core tx) (IsAimLoaded new.core tx)
       (more_loaded tx (one_claimed old.core new.core tx [] addr is.2)) taken loaded))
   claimed_loads tx block addr room (claim.Busy back) is loaded =
@@ -254,8 +267,8 @@ module _ (old new : Side) where
           loads_by _ has.worker (All-nil (IsAimLoaded new.core number));
       not_begun = λ job why job_is served none core is phase_is loads at. loads_by _ is tt;
       replied = λ job job_is served core is phase_is loads at. loads_by _ is tt;
-      wanted = λ tx addr made tx_is next has phase_is loads at.
-          loads_by _ has.worker (wanted_loads tx addr new.worker.known.room has.answer has.core
+      wanted = λ tx addr mode made tx_is next has phase_is loads at.
+          loads_by _ has.worker (wanted_loads tx addr mode new.worker.known.room has.answer has.core
           (some_of (λ n. AreLoaded old.core n) old.worker.begun.tx tx tx_is loads));
       claimed = λ tx block made tx_is next has phase_is loads at.
           loads_by _ has.worker (claimed_loads tx block has.core.0 new.worker.known.room has.answer has.core.2
@@ -322,7 +335,7 @@ module _ (old new : Side) where
     begun = λ job number job_is served has room plans. absurd (true≢false (sym room));
     not_begun = λ job why job_is served none core is room plans. absurd (true≢false (sym room));
     replied = λ job job_is served core is room plans. absurd (true≢false (sym room));
-    wanted = λ tx addr made tx_is next has room plans. absurd (true≢false (sym room));
+    wanted = λ tx addr mode made tx_is next has room plans. absurd (true≢false (sym room));
     claimed = λ tx block made tx_is next has room plans. absurd (true≢false (sym room));
     committed = λ job tx done made tx_is next none job_is has.
         full_so tx job done _ has.answer (added_blocks old.core.log (blocks_of done.written)) tx_is

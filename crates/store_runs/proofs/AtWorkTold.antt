@@ -3,7 +3,7 @@ use Rattle.std.proofs.Common.{◌≡◌, ◌∙◌, refl, sym, ap, true≢false,
 use Rattle.std.proofs.Common.{Some, None}
 use Rattle.std.proofs.Common.{Ok, Err, length}
 use Rattle.objects.specs.declared.addr.Addr.{Addr}
-use Rattle.objects.specs.declared.mode.Mode.TheVariants as modes
+use Rattle.objects.specs.declared.mode.Mode.{Mode}
 use Rattle.procs.specs.Outcome.{Outcome}
 use Rattle.txn.specs.Outcomes.{IsClaimed, IsCommit, IsWanted, TakesPlace}
 use Rattle.txn.specs.declared.outcomes.Claim.{Claim}
@@ -73,14 +73,14 @@ given_back ok io old made new has = beside_of old.core new.core (ap (λ (c : Cor
     (ap (λ (c : CoreState). c.inodes) has.only) (ap (λ (c : CoreState). c.records) has.only)
     (ap (λ (c : CoreState). c.begun) has.only)
 
-wanted : (old new : CoreState) (tx : ℕ) (addr : Addr) (answer : Want)
-    → IsWanted old tx addr modes.Exclusive answer new → IsBeside old new
-wanted old new tx addr (want.Held back bytes) is = taken_only old new is.2.only
-wanted old new tx addr (want.Fetch back io) is = taken_only old new is.2.only
-wanted old new tx addr (want.Busy back) is = same_core old new is.2
-wanted old new tx addr (want.Loading back) is = same_core old new is.2
-wanted old new tx addr (want.Outside back) is = same_core old new is.2
-wanted old new tx addr (want.NoMemory back) is = same_core old new is.2
+wanted : (old new : CoreState) (tx : ℕ) (addr : Addr) (mode : Mode) (answer : Want)
+    → IsWanted old tx addr mode answer new → IsBeside old new
+wanted old new tx addr mode (want.Held back bytes) is = taken_only old new is.2.only
+wanted old new tx addr mode (want.Fetch back io) is = taken_only old new is.2.only
+wanted old new tx addr mode (want.Busy back) is = same_core old new is.2
+wanted old new tx addr mode (want.Loading back) is = same_core old new is.2
+wanted old new tx addr mode (want.Outside back) is = same_core old new is.2
+wanted old new tx addr mode (want.NoMemory back) is = same_core old new is.2
 
 claimed : (old new : CoreState) (tx : ℕ) (addr : Addr) (answer : Claim) → IsClaimed old tx addr answer new
     → IsBeside old new
@@ -170,9 +170,9 @@ module _ (o : Setting) (told : Told) (number : ℕ) (store : StoreSide) (is_told
           (same_core store.core new.core core);
       replied = λ job job_is served core is. kept (Some step.Replied) refl refl
           (same_core store.core new.core core);
-      wanted = λ tx addr made tx_is next has.
-          kept (Some (step.Wanted addr modes.Exclusive (wish_of has.answer))) refl refl
-          (wanted store.core new.core tx addr has.answer has.core);
+      wanted = λ tx addr mode made tx_is next has.
+          kept (Some (step.Wanted addr mode (wish_of has.answer))) refl refl
+          (wanted store.core new.core tx addr mode has.answer has.core);
       claimed = λ tx block made tx_is next has.
           kept (Some (step.Claimed block (claim_wish has.answer))) refl refl
           (claimed store.core new.core tx has.core.0 has.answer has.core.2);
@@ -221,7 +221,8 @@ module _ (old new : Side) where
     };
     not_begun = λ job why job_is served why_is core is none. (same_core old.core new.core core).beside;
     replied = λ job job_is served core is none. (same_core old.core new.core core).beside;
-    wanted = λ tx addr made tx_is next has none. (wanted old.core new.core tx addr has.answer has.core).beside;
+    wanted = λ tx addr mode made tx_is next has none.
+        (wanted old.core new.core tx addr mode has.answer has.core).beside;
     claimed = λ tx block made tx_is next has none.
         (claimed old.core new.core tx has.core.0 has.answer has.core.2).beside;
     committed = λ job tx done made tx_is next none_left job_is has. uncommitted tx done has.answer

@@ -10,10 +10,11 @@ use Rattle.model.specs.Entry.{Entry}
 use Rattle.procedures.specs.After.{after as leads_to}
 use Rattle.model.specs.Tree.{Tree}
 use Rattle.objects.specs.declared.addr.Addr.{Addr}
-use Rattle.txn.specs.Claimed.{IsClaimedBy}
+use Rattle.txn.specs.Claimed.{IsClaimedBy, IsTakenAlone}
 use Rattle.txn_law.specs.Commit.{IsReadBy}
 use Rattle.txn_law.specs.Core.{CoreState}
 use Rattle.txn_law.specs.Fetch.{Fetch}
+use Rattle.txn_law.specs.Object.{ObjectBytes}
 use Rattle.txn_law.specs.Holds.{is_written}
 use Rattle.txn_law.specs.declared.hold.Hold.{Hold}
 use Rattle.store_promise.specs.declared.events.Event.{Event}
@@ -133,7 +134,9 @@ module _ (old new : CoreState) (kept : KeepsTransactions old new)
         seen.claims has.claimed;
     were = has.were;
     read = All-weaker (IsReadBy old tx) (IsReadBy new tx) (kept.reads tx) seen.objects has.read;
-    exclusive = λ addr hold is. has.exclusive addr hold (sym (kept.taken tx addr) ∙ is);
+    alone = All-weaker (λ (object : ObjectBytes). IsTakenAlone old tx object.addr)
+        (λ (object : ObjectBytes). IsTakenAlone new tx object.addr)
+        (λ object is hold at. is hold (sym (kept.taken tx object.addr) ∙ at)) seen.objects has.alone;
     asked = λ addr hold is. has.asked addr hold (sym (kept.taken tx addr) ∙ is);
   }
 

@@ -13,7 +13,7 @@ use Rattle.layout.specs.declared.geometry.Geometry.{Geometry}
 use Rattle.layout.proofs.OnGrid.{one_or_apart}
 use Rattle.model.specs.Entry.{Entry}
 use Rattle.objects.specs.Addr.{Overlap}
-use Rattle.objects.specs.Mode.{Excludes, is_exclusive}
+use Rattle.objects.specs.Mode.{Excludes, covers, is_exclusive}
 use Rattle.objects.specs.declared.addr.Addr.{Addr}
 use Rattle.objects.specs.declared.mode.Mode.{Mode}
 use Rattle.objects.specs.declared.mode.Mode.TheVariants as modes
@@ -23,7 +23,7 @@ use Rattle.procs.specs.Finished.{EndsFrom}
 use Rattle.procs.specs.Outcome.{Outcome}
 use Rattle.procs.specs.declared.next.Plan.TheVariants as plan
 use Rattle.inode.specs.declared.snap.Snap.{Snap}
-use Rattle.txn.specs.Claimed.{IsAmongRead, IsClaimedObject}
+use Rattle.txn.specs.Claimed.{IsAmongRead, IsClaimedObject, IsOwnObject}
 use Rattle.txn.specs.Outcomes.{IsClaimed, IsCommit, IsWanted}
 use Rattle.txn.specs.Wishes.{IsWhole}
 use Rattle.txn.specs.declared.outcomes.Claim.{Claim}
@@ -57,6 +57,7 @@ use Rattle.store_promise.specs.Progress.{Begun, Progress, Stage, Wished, aim_kee
 use Rattle.store_promise.specs.Progress.{shares, stage_takes, takes}
 use Rattle.store_promise.specs.Schedule.{IsLeftFree, IsSoOfAnother, Told, whole_wish, wish_of}
 use Rattle.store_promise.specs.Waiting.{HasTakenWell, IsAim}
+use Rattle.store_promise.specs.Aims.{IsAsMuch}
 use Rattle.store_promise.specs.declared.aims.Aim.{Aim}
 use Rattle.store_promise.specs.declared.aims.Aim.TheVariants as aim
 use Rattle.store_promise.specs.declared.events.Committing.TheVariants as committing
@@ -74,8 +75,8 @@ use Rattle.store_workers.specs.Beside.{IsFetchAt, IsLeftOf, IsNoted, IsOneOf, No
 use Rattle.store_workers.specs.Phases.{has_fetch, has_transaction}
 use Rattle.store_workers.specs.Seen.{Seen, seen_in}
 use Rattle.store_workers.specs.Stages.{IsFetchOf, IsJobIn, IsWorkerAt, RunsIn, StandsAt, at_fetch, at_stage, begun_of}
-use Rattle.store_workers.specs.Stages.{alone, handed, progress_in, progress_of}
-use Rattle.store_workers.specs.WorkerAnswers.{claim_wish, committing_of, object, wish_of as answer_of}
+use Rattle.store_workers.specs.Stages.{handed, taken_as, progress_in, progress_of}
+use Rattle.store_workers.specs.WorkerAnswers.{claim_wish, committing_of, wish_of as answer_of}
 use Rattle.store_workers.specs.WorkerSteps.{GoesOn, HasClaimed, HasCommitted, HasWanted, IsNext, Side, given_step}
 use Rattle.store_workers.specs.WorkerSteps.{planned_of}
 use Rattle.store_workers.specs.declared.workers.parts.Job.{Job}
@@ -133,9 +134,20 @@ noted_keeps : (aims : List Aim) (hold : Hold) (addr : Addr) (mode : Mode) → Is
     → Overlap hold.addr addr → Excludes hold.mode mode
     → list_any (aim_keeps_off (wish_of addr mode)) aims ≡ true
 noted_keeps aims hold addr mode (inl object) over excludes =
-    any_of (aim_keeps_off (wish_of addr mode)) aims (aim.Object hold.addr hold.mode) object
-    (and_from (shares (wish_of addr mode) hold.addr) (is_exclusive hold.mode || is_exclusive mode)
-    (shared addr hold.addr mode over) (exclusive hold.mode mode excludes))
+    any_of (aim_keeps_off (wish_of addr mode)) aims object.0 object.1 (by object.0 object.2)
+  where
+    by_mode : (m n : Mode) → covers m n ≡ true → (is_exclusive n || is_exclusive mode) ≡ true
+        → (is_exclusive m || is_exclusive mode) ≡ true
+    by_mode modes.Exclusive n much off = refl
+    by_mode modes.Shared modes.Shared much off = off
+    by_mode modes.Shared modes.Exclusive much off = absurd (true≢false (sym much))
+
+    by : (found : Aim) → IsAsMuch found (aim.Object hold.addr hold.mode)
+        → aim_keeps_off (wish_of addr mode) found ≡ true
+    by (aim.Object a m) much = and_from (shares (wish_of addr mode) a) (is_exclusive m || is_exclusive mode)
+        (ap (shares (wish_of addr mode)) much.0 ∙ shared addr hold.addr mode over)
+        (by_mode m hold.mode much.1 (exclusive hold.mode mode excludes))
+    by (aim.Claim block) much = absurd much
 noted_keeps aims hold addr mode (inr claim) over excludes =
     any_of (aim_keeps_off (wish_of addr mode)) aims (aim.Claim hold.addr.block) claim
     (eq-eqb hold.addr.block.0 addr.block.0 (ap (λ (b : BlockNo). b.0) over.0))
@@ -183,14 +195,14 @@ module _ (boot : ℕ) (entries : List Entry) (w : State) where
     where
       by : (found : Option Addr)
           → IsSomeAnd found (λ addr. IsSomeAnd w.begun.io (λ (io : Fetch). io.block ≡ addr.block))
-          → has_taken wished (at_stage w.work.job (at_fetch (λ taken. how.Reading begun taken) begun found)) ≡ true
+          → has_taken wished (at_stage w.work.job (at_fetch (λ taken. how.Reading begun taken) begun w.asked.mode found)) ≡ true
       by None at = absurd at
       by (Some addr) at = at_job wished _ is w.work.job stands.0
   takes_at wished is (Read ok) out stands = by w.asked.wish stands.1
     where
       by : (found : Option Addr)
           → IsSomeAnd found (λ addr. IsSomeAnd w.begun.io (λ (io : Fetch). io.block ≡ addr.block))
-          → has_taken wished (at_stage w.work.job (at_fetch (λ taken. how.Read begun taken ok) begun found)) ≡ true
+          → has_taken wished (at_stage w.work.job (at_fetch (λ taken. how.Read begun taken ok) begun w.asked.mode found)) ≡ true
       by None at = absurd at
       by (Some addr) at = at_job wished _ is w.work.job stands.0
   takes_at wished is (Refused why) out stands = at_job wished (how.Refused begun why) is w.work.job stands
@@ -208,15 +220,15 @@ module _ (boot : ℕ) (entries : List Entry) (w : State) where
     fetch_stage : (stage : how.Taken → Stage)
         → ((job : how.Job) (taken : how.Taken) → fetches block (how.At job (stage taken))
         ≡ nat_eq taken.addr.block.0 block.0) → RunsIn boot w × IsFetchOf w
-        → fetches block (at_stage w.work.job (at_fetch stage begun w.asked.wish)) ≡ true
+        → fetches block (at_stage w.work.job (at_fetch stage begun w.asked.mode w.asked.wish)) ≡ true
     fetch_stage stage tells stands = by w.work.job w.asked.wish stands.0 stands.1
       where
         by : (job : Option Job) (found : Option Addr) → IsSomeAnd job (IsJobIn boot w.begun.tx)
             → IsSomeAnd found (λ addr. IsSomeAnd w.begun.io (λ (io : Fetch). io.block ≡ addr.block))
-            → fetches block (at_stage job (at_fetch stage begun found)) ≡ true
+            → fetches block (at_stage job (at_fetch stage begun w.asked.mode found)) ≡ true
         by None found job_in has = absurd job_in
         by (Some job) None job_in has = absurd has
-        by (Some job) (Some addr) job_in has = tells (handed job) (alone addr) ∙ same_number addr w.begun.io at has
+        by (Some job) (Some addr) job_in has = tells (handed job) (taken_as w.asked.mode addr) ∙ same_number addr w.begun.io at has
 
     fetches_at : (phase : Phase) → has_fetch phase ≡ true → StandsAt boot entries phase w
         → fetches block (progress_in phase w.work.job begun w.asked w.known) ≡ true
@@ -250,15 +262,14 @@ module _ (boot : ℕ) (entries : List Entry) (told : Told) (core : CoreState) (w
       let one : Some w ≡ Some worker = sym w_is ∙ ap (λ (n : ℕ). slice_get workers n) same ∙ is in cc
 
   -- the others leave free what is
-  free_so : (addr : Addr) → IsOpen core tx addr modes.Exclusive
-      → IsLeftFree told number (wish_of addr modes.Exclusive)
-  free_so addr left =
-      left_free boot entries told core workers number worker tidy share is each beyond tx tx_is addr left
+  free_so : (addr : Addr) (mode : Mode) → IsOpen core tx addr mode → IsLeftFree told number (wish_of addr mode)
+  free_so addr mode left =
+      left_free boot entries told core workers number worker tidy share is each beyond tx tx_is addr mode left
 
   -- another's transaction has taken what keeps it off
-  busy_so : (addr : Addr) → IsKeptOff core tx addr modes.Exclusive
-      → IsSoOfAnother told number (has_taken (wish_of addr modes.Exclusive))
-  busy_so addr off =
+  busy_so : (addr : Addr) (mode : Mode) → IsKeptOff core tx addr mode
+      → IsSoOfAnother told number (has_taken (wish_of addr mode))
+  busy_so addr mode off =
       let (other, w, w_is, w_tx) = share.out off.hold.transaction off.out in
       let (told_is, stands, at) = each other w w_is in
       let notes : NotesTaken core off.hold.transaction w.known.taken =
@@ -267,9 +278,9 @@ module _ (boot : ℕ) (entries : List Entry) (told : Told) (core : CoreState) (w
         other = other;
         differs = λ same. off.differs (let one : Some off.hold.transaction ≡ Some tx =
             sym w_tx ∙ ap (λ (s : State). s.begun.tx) (same_worker other w w_is same) ∙ tx_is in cc);
-        so = ap (has_taken (wish_of addr modes.Exclusive)) told_is
-            ∙ takes_at boot entries w (wish_of addr modes.Exclusive)
-            (noted_keeps w.known.taken off.hold addr modes.Exclusive
+        so = ap (has_taken (wish_of addr mode)) told_is
+            ∙ takes_at boot entries w (wish_of addr mode)
+            (noted_keeps w.known.taken off.hold addr mode
             (notes.noted off.hold.addr off.hold (taken_is core off.hold tidy off.there)) off.overlap off.excludes)
             w.phase (sym at.with.sound.transaction ∙ some_is w.begun.tx off.hold.transaction w_tx) stands.stands;
       }
@@ -291,20 +302,20 @@ module _ (boot : ℕ) (entries : List Entry) (told : Told) (core : CoreState) (w
       none_at at = subst (IsFetchAt block) no_io at
 
   module _ (seen : Seen) (has : HasOfCall tx core seen) where
-    kept_off : (addr : Addr) → Asks seen.geometry addr → IsBusy core tx addr modes.Exclusive
-        → IsKeptOff core tx addr modes.Exclusive
-    kept_off addr asks busy = kept_off_by core tx addr modes.Exclusive tidy (λ other hold taken over.
+    kept_off : (addr : Addr) (mode : Mode) → Asks seen.geometry addr → IsBusy core tx addr mode
+        → IsKeptOff core tx addr mode
+    kept_off addr mode asks busy = kept_off_by core tx addr mode tidy (λ other hold taken over.
         one_or_apart seen.geometry other addr (has.asked other hold taken) asks over) busy
 
-    wanted_caused : (new : CoreState) (addr : Addr) → Asks seen.geometry addr → (answer : Want)
-        → IsWanted core tx addr modes.Exclusive answer new
-        → IsCaused told number (Some (step.Wanted addr modes.Exclusive (answer_of answer)))
-    wanted_caused new addr asks (want.Held back bytes) is = free_so addr is.1
-    wanted_caused new addr asks (want.Fetch back io) is = free_so addr is.1
-    wanted_caused new addr asks (want.Outside back) is = tt
-    wanted_caused new addr asks (want.NoMemory back) is = free_so addr is.1
-    wanted_caused new addr asks (want.Busy back) is = busy_so addr (kept_off addr asks is.1)
-    wanted_caused new addr asks (want.Loading back) is = loading_so addr.block is.1.2
+    wanted_caused : (new : CoreState) (addr : Addr) (mode : Mode) → Asks seen.geometry addr → (answer : Want)
+        → IsWanted core tx addr mode answer new
+        → IsCaused told number (Some (step.Wanted addr mode (answer_of answer)))
+    wanted_caused new addr mode asks (want.Held back bytes) is = free_so addr mode is.1
+    wanted_caused new addr mode asks (want.Fetch back io) is = free_so addr mode is.1
+    wanted_caused new addr mode asks (want.Outside back) is = tt
+    wanted_caused new addr mode asks (want.NoMemory back) is = free_so addr mode is.1
+    wanted_caused new addr mode asks (want.Busy back) is = busy_so addr mode (kept_off addr mode asks is.1)
+    wanted_caused new addr mode asks (want.Loading back) is = loading_so addr.block is.1.2
 
     same_wish : (block : BlockNo) (addr : Addr) → IsWhole block addr
         → wish_of addr modes.Exclusive ≡ whole_wish block
@@ -319,13 +330,13 @@ module _ (boot : ℕ) (entries : List Entry) (told : Told) (core : CoreState) (w
         → IsWhole block addr → (answer : Claim) → IsClaimed core tx addr answer new
         → IsCaused told number (Some (step.Claimed block (claim_wish answer)))
     claimed_caused new block addr claims whole (claim.Held back) is =
-        subst (IsLeftFree told number) (same_wish block addr whole) (free_so addr is.1)
+        subst (IsLeftFree told number) (same_wish block addr whole) (free_so addr modes.Exclusive is.1)
     claimed_caused new block addr claims whole (claim.Outside back) is = tt
     claimed_caused new block addr claims whole (claim.NoMemory back) is =
-        subst (IsLeftFree told number) (same_wish block addr whole) (free_so addr is.1)
+        subst (IsLeftFree told number) (same_wish block addr whole) (free_so addr modes.Exclusive is.1)
     claimed_caused new block addr claims whole (claim.Busy back) is =
         subst (λ (w : Wished). IsSoOfAnother told number (has_taken w)) (same_wish block addr whole)
-        (busy_so addr (kept_off addr (claimed_object seen.geometry block addr claims whole) is.1))
+        (busy_so addr modes.Exclusive (kept_off addr modes.Exclusive (claimed_object seen.geometry block addr claims whole) is.1))
     claimed_caused new block addr claims whole (claim.Loading back) is =
         subst (λ (b : BlockNo). IsSoOfAnother told number (fetches b)) whole.0 (loading_so addr.block is.1.2)
 
@@ -440,9 +451,10 @@ module _ (boot : ℕ) (entries : List Entry) (told : Told) (core : CoreState) (w
 
   module _ (snap : Snap) (has : HasOfCall tx core (seen_of snap)) (is_out : IsOut core tx) (done : Outcome)
       (ends : EndsFrom snap done) where
-    settled : (object : ObjectBytes) → IsAmongRead done.read object ⊎ IsClaimedObject core tx object
+    settled : (object : ObjectBytes) → IsOwnObject core tx done.read object
         → is_fetching core object.addr.block ≡ false
-    settled object (inl before) =
+    settled object (inl both) =
+        let before = both.0 in
         subst (λ (a : Addr). is_fetching core a.block ≡ false) before.2 (read_settled before.0
         (All-contains (IsReadBy core tx) done.read before.0 (was_read core tx snap tidy is_out has done ends)
         before.1))
@@ -478,15 +490,15 @@ module _ (boot : ℕ) (entries : List Entry) (told : Told) (workers : List State
   out_in : (tx : ℕ) → old.worker.begun.tx ≡ Some tx → IsOut old.core tx
   out_in tx tx_is = subst (λ (o : Option ℕ). IfSome o (IsOut old.core)) tx_is own_out
 
-  wanted_so : (tx : ℕ) (addr : Addr) (made : Step) → old.worker.begun.tx ≡ Some tx
-      → IsWished old.worker (object addr) (plan.Need addr) → (has : HasWanted tx addr old made new)
-      → Caused Planning (Some (step.Wanted addr modes.Exclusive (answer_of has.answer)))
-  wanted_so tx addr made tx_is wished has at no_io plans =
-      let it = wish_by old.worker (object addr) (plan.Need addr) (λ seen. Unit {0})
-      (λ snap planned. ((planned.1, refl), tt)) (left_of at) wished in
+  wanted_so : (tx : ℕ) (addr : Addr) (mode : Mode) (made : Step) → old.worker.begun.tx ≡ Some tx
+      → IsWished old.worker (aim.Object addr mode) (plan.Need addr mode) → (has : HasWanted tx addr mode old made new)
+      → Caused Planning (Some (step.Wanted addr mode (answer_of has.answer)))
+  wanted_so tx addr mode made tx_is wished has at no_io plans =
+      let it = wish_by old.worker (aim.Object addr mode) (plan.Need addr mode) (λ seen. Unit {0})
+      (λ snap planned. (planned.1, tt)) (left_of at) wished in
       wanted_caused boot entries told old.core workers number old.worker tidy share is each beyond tx tx_is (no_io refl)
       (seen_of it.snap) (has_of old.worker old.core it.job tx (seen_of it.snap) it.job_is tx_is it.snap_is plans)
-      new.core addr it.is_aim.0 has.answer has.core
+      new.core addr mode it.is_aim has.answer has.core
 
   claimed_so : (tx : ℕ) (block : BlockNo) (made : Step) → old.worker.begun.tx ≡ Some tx
       → IsWished old.worker (aim.Claim block) (plan.Claim block) → (has : HasClaimed tx block old made new)

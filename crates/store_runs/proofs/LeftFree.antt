@@ -1,5 +1,5 @@
 -- What nothing that is taken keeps off, and no fetch, is left free by the other workers, as they are told.
-use Rattle.std.proofs.Common.{◌≡◌, ◌≢◌, ◌∙◌, sym, ap, subst, refl, true≢false, ℕ, ◌+◌, inr, arith, Bool, true, false}
+use Rattle.std.proofs.Common.{◌≡◌, ◌≢◌, ◌∙◌, sym, ap, subst, refl, true≢false, ℕ, ◌+◌, inl, inr, arith, Bool, true, false}
 use Rattle.std.proofs.Common.{◌&&◌, ◌||◌, nat_eq, nat_lt, Option, Some, None, List, [], ◌∷◌, All, is_some, slice_get}
 use Rattle.std.specs.Prelude.{IfSome, IsSomeAnd}
 use Rattle.std.specs.List.{list_any}
@@ -8,8 +8,9 @@ use Rattle.std.proofs.lemmas.List.Elements.{All-contains, All-head, All-tail}
 use Rattle.disk.specs.declared.block.BlockNo.{BlockNo}
 use Rattle.model.specs.Entry.{Entry}
 use Rattle.objects.specs.Addr.{Overlap}
-use Rattle.objects.specs.Mode.{is_exclusive}
+use Rattle.objects.specs.Mode.{Excludes, covers, is_exclusive}
 use Rattle.objects.specs.declared.addr.Addr.{Addr}
+use Rattle.objects.specs.declared.mode.Mode.{Mode}
 use Rattle.objects.specs.declared.mode.Mode.TheVariants as modes
 use Rattle.txn.proofs.OwnChange.{taken_at}
 use Rattle.txn_law.specs.Core.{CoreState}
@@ -27,11 +28,11 @@ use Rattle.store_promise.specs.Schedule.{IsLeftFree, Told, wish_of}
 use Rattle.store_promise.specs.declared.aims.Aim.{Aim}
 use Rattle.store_promise.specs.declared.aims.Aim.TheVariants as aim
 use Rattle.store_runs.specs.AtWork.{IsAtWork}
-use Rattle.store_workers.specs.Beside.{IsFetchAt, IsOneOf, IsTakenIn, NotesTaken, ShareCore}
+use Rattle.store_workers.specs.Beside.{IsFetchAt, IsOneOf, IsTakenAs, IsTakenIn, NotesTaken, ShareCore}
 use Rattle.store_workers.specs.Knowing.{known_in}
 use Rattle.store_workers.specs.Phases.{has_transaction}
 use Rattle.store_workers.specs.Seen.{seen_in}
-use Rattle.store_workers.specs.Stages.{IsFetchOf, IsWorkerAt, StandsAt, alone, at_fetch, at_stage, begun_of, handed}
+use Rattle.store_workers.specs.Stages.{IsFetchOf, IsWorkerAt, StandsAt, taken_as, at_fetch, at_stage, begun_of, handed}
 use Rattle.store_workers.specs.Stages.{progress_in, progress_of}
 use Rattle.store_workers.specs.declared.workers.parts.Job.{Job}
 use Rattle.store_workers.specs.declared.workers.parts.Phase.{Phase}
@@ -68,8 +69,8 @@ one_block : (one other : BlockNo) → one.0 ≡ other.0 → one ≡ other
 one_block one other same = let block_of : ℕ → BlockNo = λ number. record { 0 = number } in ap block_of same
 
 -- what shares a byte
-shared_by : (addr other : Addr) → shares (wish_of addr modes.Exclusive) other ≡ true → Overlap other addr
-shared_by addr other so =
+shared_by : (addr other : Addr) (mode : Mode) → shares (wish_of addr mode) other ≡ true → Overlap other addr
+shared_by addr other mode so =
     let (front, last) = and_parts
     (nat_eq other.block.0 addr.block.0 && nat_lt other.offset (addr.offset + addr.len))
     (nat_lt addr.offset (other.offset + other.len)) so in
@@ -104,10 +105,10 @@ module _ (w : State) where
     of_stage (Some job) stage so = so
 
     of_fetch : (stage : how.Taken → Stage)
-        → ((taken : how.Taken) → stage_takes wished (stage taken) ≡ takes wished mine) → (wish : Option Addr)
-        → stage_takes wished (at_fetch stage mine wish) ≡ true → takes wished mine ≡ true
-    of_fetch stage same None so = so
-    of_fetch stage same (Some addr) so = sym (same (alone addr)) ∙ so
+        → ((taken : how.Taken) → stage_takes wished (stage taken) ≡ takes wished mine) → (mode : Mode) (wish : Option Addr)
+        → stage_takes wished (at_fetch stage mine mode wish) ≡ true → takes wished mine ≡ true
+    of_fetch stage same mode None so = so
+    of_fetch stage same mode (Some addr) so = sym (same (taken_as mode addr)) ∙ so
 
     noted_in : (phase : Phase) → has_taken wished (progress_in phase w.work.job mine w.asked w.known) ≡ true
         → (has_transaction phase ≡ true) × (takes wished mine ≡ true)
@@ -116,13 +117,13 @@ module _ (w : State) where
     noted_in Planning so = (refl, of_stage w.work.job (how.Planning mine) so)
     noted_in Reading so = (
       refl,
-      of_fetch (λ taken. how.Reading mine taken) (λ taken. refl) w.asked.wish
-          (of_stage w.work.job (at_fetch (λ taken. how.Reading mine taken) mine w.asked.wish) so),
+      of_fetch (λ taken. how.Reading mine taken) (λ taken. refl) w.asked.mode w.asked.wish
+          (of_stage w.work.job (at_fetch (λ taken. how.Reading mine taken) mine w.asked.mode w.asked.wish) so),
     )
     noted_in (Read ok) so = (
       refl,
-      of_fetch (λ taken. how.Read mine taken ok) (λ taken. refl) w.asked.wish
-          (of_stage w.work.job (at_fetch (λ taken. how.Read mine taken ok) mine w.asked.wish) so),
+      of_fetch (λ taken. how.Read mine taken ok) (λ taken. refl) w.asked.mode w.asked.wish
+          (of_stage w.work.job (at_fetch (λ taken. how.Read mine taken ok) mine w.asked.mode w.asked.wish) so),
     )
     noted_in (Refused why) so = (refl, of_stage w.work.job (how.Refused mine why) so)
     noted_in Again so = (refl, of_stage w.work.job (how.Again mine w.known.off) so)
@@ -139,7 +140,7 @@ module _ (w : State) where
     fetch_at : (stage : how.Taken → Stage)
         → ((j : how.Job) (taken : how.Taken) → fetches block (how.At j (stage taken))
         ≡ nat_eq taken.addr.block.0 block.0) → IsFetchOf w
-        → fetches block (at_stage w.work.job (at_fetch stage mine w.asked.wish)) ≡ true
+        → fetches block (at_stage w.work.job (at_fetch stage mine w.asked.mode w.asked.wish)) ≡ true
         → IsFetchAt block w.begun.io
     fetch_at stage tells has = by w.work.job w.asked.wish has
       where
@@ -150,12 +151,12 @@ module _ (w : State) where
 
         by : (job : Option Job) (wish : Option Addr)
             → IsSomeAnd wish (λ addr. IsSomeAnd w.begun.io (λ (io : Fetch). io.block ≡ addr.block))
-            → fetches block (at_stage job (at_fetch stage mine wish)) ≡ true → IsFetchAt block w.begun.io
+            → fetches block (at_stage job (at_fetch stage mine w.asked.mode wish)) ≡ true → IsFetchAt block w.begun.io
         by None wish at so = absurd (true≢false (sym so))
         by (Some job) None at so = absurd at
         by (Some job) (Some addr) at so =
             same_at addr w.begun.io at (one_block addr.block block (eqb-true addr.block.0 block.0
-            (sym (tells (handed job) (alone addr)) ∙ so)))
+            (sym (tells (handed job) (taken_as w.asked.mode addr)) ∙ so)))
 
     fetch_in : (boot : ℕ) (entries : List Entry) (phase : Phase) → StandsAt boot entries phase w
         → fetches block (progress_in phase w.work.job mine w.asked w.known) ≡ true → IsFetchAt block w.begun.io
@@ -176,44 +177,55 @@ module _ (w : State) where
 
 -- ---- what the others leave free
 
+-- what is taken in a mode that covers one which keeps a wish off keeps it off
+excluded : (held had mode : Mode) → covers held had ≡ true → (is_exclusive had || is_exclusive mode) ≡ true
+    → Excludes held mode
+excluded modes.Exclusive had mode much off = inl refl
+excluded modes.Shared modes.Exclusive mode much off = absurd (true≢false (sym much))
+excluded modes.Shared modes.Shared modes.Exclusive much off = inr refl
+excluded modes.Shared modes.Shared modes.Shared much off = absurd (true≢false (sym off))
+
 module _ (boot : ℕ) (entries : List Entry) (told : Told) (core : CoreState) (workers : List State) (number : ℕ)
     (worker : State) (tidy : AreTidy core) (share : ShareCore core workers) (is : IsOneOf workers number worker)
     (each : (other : ℕ) (w : State) → IsOneOf workers other w
     → (told.workers other ≡ progress_of w) × IsWorkerAt boot entries w × IsAtWork w core)
     (beyond : (other : ℕ) → slice_get workers other ≡ None → told.workers other ≡ how.Idle)
-    (tx : ℕ) (tx_is : worker.begun.tx ≡ Some tx) (addr : Addr) where
+    (tx : ℕ) (tx_is : worker.begun.tx ≡ Some tx) (addr : Addr) (mode : Mode) where
   abbrev wished : Wished
-  wished = wish_of addr modes.Exclusive
+  wished = wish_of addr mode
 
   -- nothing of what another has taken has a byte of what is free
-  module _ (free : IsFree core.holds tx addr modes.Exclusive) (other : ℕ) (differs : other ≢ number) (w : State)
+  module _ (free : IsFree core.holds tx addr mode) (other : ℕ) (differs : other ≢ number) (w : State)
       (w_is : IsOneOf workers other w) (t : ℕ) (t_is : w.begun.tx ≡ Some t) where
-    clash : (a : Addr) → Overlap a addr → is_some (taken_by core t a) ≡ true → ⊥
-    clash a over taken = by (taken_by core t a) refl taken
+    clash : (a : Addr) (had : Mode) → Overlap a addr → IsTakenAs core t a had
+        → (is_exclusive had || is_exclusive mode) ≡ true → ⊥
+    clash a had over taken off = by (taken_by core t a) refl taken
       where
-        by : (found : Option Hold) → taken_by core t a ≡ found → is_some found ≡ true → ⊥
-        by None none taken = true≢false (sym taken)
-        by (Some hold) hold_is taken =
+        by : (found : Option Hold) → taken_by core t a ≡ found
+            → IsSomeAnd found (λ (hold : Hold). covers hold.mode had ≡ true) → ⊥
+        by None none taken = absurd taken
+        by (Some hold) hold_is much =
             let (there, at) = taken_at core t tidy a hold hold_is in
             let own : IsHoldOf tx addr hold = All-contains
-            (λ (h : Hold). Overlap h.addr addr → KeepsOff tx modes.Exclusive h → IsHoldOf tx addr h) core.holds
-            hold free.others there (subst (λ (b : Addr). Overlap b addr) (sym at) over) (inr (inr refl)) in
+            (λ (h : Hold). Overlap h.addr addr → KeepsOff tx mode h → IsHoldOf tx addr h) core.holds
+            hold free.others there (subst (λ (b : Addr). Overlap b addr) (sym at) over)
+            (inr (excluded hold.mode had mode much off)) in
             let same : t ≡ tx = sym (owner_at core t a hold hold_is) ∙ own.0 in
             differs (share.alone other number tx w worker w_is is (t_is ∙ ap (λ (n : ℕ). Some n) same) tx_is)
 
     one_clash : (one : Aim) → IsTakenIn core t one → aim_keeps_off wished one ≡ true → ⊥
-    one_clash (aim.Object a mode) taken off =
-        clash a (shared_by addr a (and_parts (shares wished a)
-        (is_exclusive mode || is_exclusive modes.Exclusive) off).0) taken
+    one_clash (aim.Object a by) taken off =
+        let (over, alone_too) = and_parts (shares wished a) (is_exclusive by || is_exclusive mode) off in
+        clash a by (shared_by addr a mode over) taken alone_too
     one_clash (aim.Claim block) taken off =
-        clash taken.0 (whole_shares block addr taken.0 off taken.1) taken.2
+        clash taken.0 modes.Exclusive (whole_shares block addr taken.0 off taken.1) taken.2 refl
 
     never_noted : NotesTaken core t w.known.taken → takes wished (mine w) ≡ true → ⊥
     never_noted notes some =
         let (one, taken, off) = found_any (aim_keeps_off wished) (IsTakenIn core t) w.known.taken notes.taken some in
         one_clash one taken off
 
-  never_taken : IsFree core.holds tx addr modes.Exclusive → (other : ℕ) → other ≢ number
+  never_taken : IsFree core.holds tx addr mode → (other : ℕ) → other ≢ number
       → (found : Option State) → slice_get workers other ≡ found
       → has_taken wished (told.workers other) ≡ true → ⊥
   never_taken free other differs None none so =
@@ -244,7 +256,7 @@ module _ (boot : ℕ) (entries : List Entry) (told : Told) (core : CoreState) (w
       pending_at (Some io) at pending =
           true≢false (sym pending ∙ ap (λ (b : BlockNo). is_fetching core b) at ∙ settled)
 
-  pub left_free : IsOpen core tx addr modes.Exclusive → IsLeftFree told number wished
+  pub left_free : IsOpen core tx addr mode → IsLeftFree told number wished
   left_free left = record {
     free = λ other differs. false_from_ne_true (has_taken wished (told.workers other))
         (never_taken left.free other differs (slice_get workers other) refl);

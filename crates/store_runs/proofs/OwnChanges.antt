@@ -10,7 +10,9 @@ use Rattle.disk.specs.Crash.{Image}
 use Rattle.disk.specs.declared.block.BlockNo.{BlockNo}
 use Rattle.limits.specs.declared.TheConstants.{BLOCK_BYTES}
 use Rattle.objects.specs.Addr.{Overlap}
+use Rattle.objects.specs.Mode.{covers, is_exclusive}
 use Rattle.objects.specs.declared.addr.Addr.{Addr}
+use Rattle.objects.specs.declared.mode.Mode.{Mode}
 use Rattle.objects.specs.declared.mode.Mode.TheVariants as modes
 use Rattle.layout.specs.declared.geometry.Geometry.{Geometry}
 use Rattle.inode.specs.Snap.{is_claimed, is_seen, same_addr}
@@ -18,6 +20,7 @@ use Rattle.txn_law.specs.Object.{ObjectBytes}
 use Rattle.txn_law.specs.Window.{with_objects}
 use Rattle.txn_law.proofs.Beside.{stays_beside}
 use Rattle.txn_law.proofs.Swept.{in_cons}
+use Rattle.store_promise.specs.Aims.{IsAsMuch, IsCovered}
 use Rattle.store_promise.specs.Changes.{KeepsOthers}
 use Rattle.store_promise.specs.Progress.{At, Begun, Planning, Progress, Taken, Wished, aim_keeps_off, aim_of}
 use Rattle.store_promise.specs.Progress.{keeps_off, shares, takes}
@@ -30,7 +33,7 @@ use Rattle.store_workers.specs.Asked.{Asking}
 use Rattle.store_workers.specs.Knowing.{Knowing}
 use Rattle.store_runs.specs.AtWork.{IsSeenIn}
 use Rattle.store_workers.specs.Seen.{Seen, seen_in}
-use Rattle.store_workers.specs.Stages.{alone, at_fetch, at_stage, begun_of, claimed_in, held_in}
+use Rattle.store_workers.specs.Stages.{alone, taken_as, at_fetch, at_stage, begun_of, claimed_in, held_in}
 use Rattle.store_workers.specs.Stages.{progress_in, progress_of}
 use Rattle.store_workers.specs.declared.workers.parts.Job.{Job}
 use Rattle.store_workers.specs.declared.workers.parts.Phase.{Phase}
@@ -39,14 +42,14 @@ use Rattle.store_workers.specs.declared.workers.parts.State.{State}
 
 -- ---- what a planning worker is told to have taken
 
-no_fetch : (job : Option Job) (stage : Taken → told.Stage) (mine : Begun) (wish : Option Addr)
+no_fetch : (job : Option Job) (stage : Taken → told.Stage) (mine : Begun) (mode : Mode) (wish : Option Addr)
     (j : told.Job) (b : Begun)
     → ((taken : Taken) → stage taken ≡ Planning b → ⊥)
-    → at_stage job (at_fetch stage mine wish) ≡ At j (Planning b) → mine ≡ b
-no_fetch None stage mine wish j b never is = cc
-no_fetch (Some job) stage mine None j b never is = let same : Planning mine ≡ Planning b = cc in cc
-no_fetch (Some job) stage mine (Some addr) j b never is =
-    let same : stage (alone addr) ≡ Planning b = cc in absurd (never (alone addr) same)
+    → at_stage job (at_fetch stage mine mode wish) ≡ At j (Planning b) → mine ≡ b
+no_fetch None stage mine mode wish j b never is = cc
+no_fetch (Some job) stage mine mode None j b never is = let same : Planning mine ≡ Planning b = cc in cc
+no_fetch (Some job) stage mine mode (Some addr) j b never is =
+    let same : stage (taken_as mode addr) ≡ Planning b = cc in absurd (never (taken_as mode addr) same)
 
 planned_in : (phase : Phase) (job : Option Job) (mine : Begun) (asked : Asking) (knowing : Knowing) (j : told.Job)
     (b : Begun) → progress_in phase job mine asked knowing ≡ At j (Planning b) → mine ≡ b
@@ -56,9 +59,9 @@ planned_in phases.Called (Some job) mine asked knowing j b is = cc
 planned_in phases.Planning None mine asked knowing j b is = cc
 planned_in phases.Planning (Some job) mine asked knowing j b is = let same : Planning mine ≡ Planning b = cc in cc
 planned_in phases.Reading job mine asked knowing j b is =
-    no_fetch job (λ taken. told.Reading mine taken) mine asked.wish j b (λ taken same. cc) is
+    no_fetch job (λ taken. told.Reading mine taken) mine asked.mode asked.wish j b (λ taken same. cc) is
 planned_in (phases.Read ok) job mine asked knowing j b is =
-    no_fetch job (λ taken. told.Read mine taken ok) mine asked.wish j b (λ taken same. cc) is
+    no_fetch job (λ taken. told.Read mine taken ok) mine asked.mode asked.wish j b (λ taken same. cc) is
 planned_in (phases.Refused why) None mine asked knowing j b is = cc
 planned_in (phases.Refused why) (Some job) mine asked knowing j b is = cc
 planned_in phases.Again None mine asked knowing j b is = cc
@@ -92,7 +95,7 @@ any_of test (y ∷ ys) x has is = by (test y) refl (any_of test ys x) (in_cons y
 
 module _ (addr : Addr) where
   abbrev wished : Wished
-  wished = wish_of addr modes.Exclusive
+  wished = wish_of addr modes.Shared
 
   abbrev IsAside : ObjectBytes → Type 0
   IsAside object = Overlap object.addr addr → ⊥
@@ -148,17 +151,32 @@ module _ (addr : Addr) where
           (rest (sym (ap (λ (t : Bool). t || is_claimed block cs) other) ∙ claimed))
 
   -- what keeps it off among what was told or claimed is taken
-  among_held : (held : List Taken) (taken : List Aim) → All (λ (t : Taken). Contains taken (aim_of t)) held
+  among_held : (held : List Taken) (taken : List Aim) → All (λ (t : Taken). IsCovered taken (aim_of t)) held
       → list_any (keeps_off wished) held ≡ true → list_any (aim_keeps_off wished) taken ≡ true
   among_held [] taken had some = absurd (true≢false (sym some))
   among_held (t ∷ ts) taken had some =
-      let P : Taken → Type 0 = λ t. Contains taken (aim_of t) in
+      let P : Taken → Type 0 = λ t. IsCovered taken (aim_of t) in
       by (keeps_off wished t) refl (All-head P t ts had) (among_held ts taken (All-tail P t ts had)) some
     where
-      by : (off : Bool) → keeps_off wished t ≡ off → Contains taken (aim_of t)
+      -- what covers it keeps off too
+      covering : (found : Aim) → IsAsMuch found (aim_of t) → keeps_off wished t ≡ true
+          → aim_keeps_off wished found ≡ true
+      covering (aim.Object a m) much off =
+          let (same, alone_too) = and_parts (shares wished t.addr) (is_exclusive t.mode || is_exclusive modes.Shared) off
+          in and_from (shares wished a) (is_exclusive m || is_exclusive modes.Shared)
+          (ap (shares wished) much.0 ∙ same) (by_mode m t.mode much.1 alone_too)
+        where
+          by_mode : (m n : Mode) → covers m n ≡ true → (is_exclusive n || is_exclusive modes.Shared) ≡ true
+              → (is_exclusive m || is_exclusive modes.Shared) ≡ true
+          by_mode modes.Exclusive n much off = refl
+          by_mode modes.Shared modes.Shared much off = off
+          by_mode modes.Shared modes.Exclusive much off = absurd (true≢false (sym much))
+      covering (aim.Claim block) much off = absurd much
+
+      by : (off : Bool) → keeps_off wished t ≡ off → IsCovered taken (aim_of t)
           → (list_any (keeps_off wished) ts ≡ true → list_any (aim_keeps_off wished) taken ≡ true)
           → (off || list_any (keeps_off wished) ts) ≡ true → list_any (aim_keeps_off wished) taken ≡ true
-      by true is has rest some = any_of (aim_keeps_off wished) taken (aim_of t) has is
+      by true is has rest some = any_of (aim_keeps_off wished) taken has.0 has.1 (covering has.0 has.2 is)
       by false is has rest some = rest some
 
   among_claims : (claims : List BlockNo) (taken : List Aim)

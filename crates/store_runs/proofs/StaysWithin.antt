@@ -3,7 +3,7 @@ use Rattle.std.proofs.Common.{◌≡◌, ◌∙◌, ◌<◌, refl, sym, ap, subs
 use Rattle.std.specs.Prelude.{IfSome, IsSomeAnd}
 use Rattle.disk.specs.declared.block.BlockNo.{BlockNo}
 use Rattle.objects.specs.declared.addr.Addr.{Addr}
-use Rattle.objects.specs.declared.mode.Mode.TheVariants as modes
+use Rattle.objects.specs.declared.mode.Mode.{Mode}
 use Rattle.model.specs.Calls.{is_answered_stable}
 use Rattle.nfs_types.specs.declared.reply.Reply.{Reply}
 use Rattle.procs.specs.Outcome.{Outcome}
@@ -41,16 +41,16 @@ module _ (old new : Side) where
       → ReadsWithin blocks new.worker
   by_io io is within = subst (λ (found : Option Fetch). IfSome found (λ one. one.block.0 < blocks)) (sym is) within
 
-  wanted_within : (tx : ℕ) (addr : Addr) (answer : Want)
-      → IsWanted old.core tx addr modes.Exclusive answer new.core
+  wanted_within : (tx : ℕ) (addr : Addr) (mode : Mode) (answer : Want)
+      → IsWanted old.core tx addr mode answer new.core
       → IfSome (begun_wanted answer).io (λ one. one.block.0 < blocks)
-  wanted_within tx addr (want.Fetch back io) is =
+  wanted_within tx addr mode (want.Fetch back io) is =
       subst (λ (b : BlockNo). b.0 < blocks) (sym is.2.block) is.1.inside.home.1
-  wanted_within tx addr (want.Held back bytes) is = tt
-  wanted_within tx addr (want.Busy back) is = tt
-  wanted_within tx addr (want.Loading back) is = tt
-  wanted_within tx addr (want.Outside back) is = tt
-  wanted_within tx addr (want.NoMemory back) is = tt
+  wanted_within tx addr mode (want.Held back bytes) is = tt
+  wanted_within tx addr mode (want.Busy back) is = tt
+  wanted_within tx addr mode (want.Loading back) is = tt
+  wanted_within tx addr mode (want.Outside back) is = tt
+  wanted_within tx addr mode (want.NoMemory back) is = tt
 
   claimed_none : (answer : Claim) → (begun_claimed answer).io ≡ None
   claimed_none (claim.Held back) = refl
@@ -98,8 +98,8 @@ module _ (old new : Side) where
     begun = λ job one job_is served has within. by_io _ (ap (λ (s : State). s.begun.io) has.worker) tt;
     not_begun = λ job why job_is served none core is within. by_io _ (ap (λ (s : State). s.begun.io) is) within;
     replied = λ job job_is served core is within. by_io _ (ap (λ (s : State). s.begun.io) is) within;
-    wanted = λ tx addr made tx_is next has within. by_io _ (ap (λ (s : State). s.begun.io) has.worker)
-        (wanted_within tx addr has.answer has.core);
+    wanted = λ tx addr mode made tx_is next has within. by_io _ (ap (λ (s : State). s.begun.io) has.worker)
+        (wanted_within tx addr mode has.answer has.core);
     claimed = λ tx block made tx_is next has within. by_io None
         (ap (λ (s : State). s.begun.io) has.worker ∙ claimed_none has.answer) tt;
     committed = λ job tx done made tx_is next none job_is has within. by_io None

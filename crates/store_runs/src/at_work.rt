@@ -13,7 +13,7 @@ ghost use Rattle.nfs_types.specs.declared.ctx.Credential.{Credential};
 ghost use Rattle.nfs_types.specs.declared.ctx.Ctx.{Ctx};
 ghost use Rattle.nfs_types.specs.declared.ctx.Moment.{Moment};
 ghost use Rattle.objects.specs.declared.addr.Addr.{Addr};
-ghost use Rattle.objects.specs.declared.mode.Mode.TheVariants as modes;
+ghost use Rattle.objects.specs.declared.mode.Mode.{Mode};
 ghost use Rattle.txn.specs.Outcomes.{TakesPlace};
 ghost use Rattle.txn_law.specs.Commit.{Planned};
 ghost use Rattle.txn_law.specs.Core.{CoreState};
@@ -47,11 +47,11 @@ ghost use Rattle.store_workers.specs.declared.workers.parts.State.{State};
 /// What was fetched for a transaction stays, once it holds an object more, or has the block of one fetched,
 /// and so it does once such a block was read, which is there then, too.
 pub fn what_was_fetched_stays()
-    ensures held { (old new : CoreState) (tx : ℕ) (fetched : List Addr) (addr : Addr) (bytes : List ℕ)
-        → IsHeld old tx addr modes.Exclusive bytes new → AreLoadedFor old tx fetched
+    ensures held { (old new : CoreState) (tx : ℕ) (fetched : List Addr) (addr : Addr) (mode : Mode)
+        (bytes : List ℕ) → IsHeld old tx addr mode bytes new → AreLoadedFor old tx fetched
         → AreLoadedFor new tx fetched }
-    ensures wanted { (old new : CoreState) (tx : ℕ) (fetched : List Addr) (addr : Addr) (io : Fetch)
-        → IsFetched old tx addr modes.Exclusive io new → AreLoadedFor old tx fetched
+    ensures wanted { (old new : CoreState) (tx : ℕ) (fetched : List Addr) (addr : Addr) (mode : Mode)
+        (io : Fetch) → IsFetched old tx addr mode io new → AreLoadedFor old tx fetched
         → AreLoadedFor new tx fetched × (has_taken new tx addr ≡ true) }
     ensures given { (old new : CoreState) (tx : ℕ) (fetched : List Addr) (addr : Addr) (io : Fetch)
         → has_taken old tx addr ≡ true → io.block ≡ addr.block → is_fetching old io.block ≡ true

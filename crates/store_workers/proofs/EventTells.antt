@@ -6,6 +6,7 @@ use Rattle.nfs_types.specs.declared.call.Call.{Call}
 use Rattle.nfs_types.specs.declared.ctx.Credential.{Credential}
 use Rattle.nfs_types.specs.declared.ctx.Moment.{Moment}
 use Rattle.objects.specs.declared.addr.Addr.{Addr}
+use Rattle.objects.specs.declared.mode.Mode.{Mode}
 use Rattle.model.specs.Entry.{Entry}
 use Rattle.txn.specs.Fetch.{Fetch}
 use Rattle.procs.specs.SoundCalls.{SoundCall}
@@ -107,12 +108,12 @@ module _ (found : Option Job) where
       by None = refl
       by (Some job) = refl
 
-  at_read : (begun : told.Begun) (ok : Bool) (wish : Option Addr)
-      → IsStepOfRead (at_stage found (at_fetch (λ taken. told.Read begun taken ok) begun wish)) None
-  at_read begun ok wish = by found wish
+  at_read : (begun : told.Begun) (ok : Bool) (mode : Mode) (wish : Option Addr)
+      → IsStepOfRead (at_stage found (at_fetch (λ taken. told.Read begun taken ok) begun mode wish)) None
+  at_read begun ok mode wish = by found wish
     where
       by : (o : Option Job) (wish : Option Addr)
-          → IsStepOfRead (at_stage o (at_fetch (λ taken. told.Read begun taken ok) begun wish)) None
+          → IsStepOfRead (at_stage o (at_fetch (λ taken. told.Read begun taken ok) begun mode wish)) None
       by None wish = refl
       by (Some job) None = refl
       by (Some job) (Some addr) = refl
@@ -146,7 +147,7 @@ none_due Idle found begun asked knowing not = refl
 none_due Called found begun asked knowing not = at_called found (known_in knowing)
 none_due Planning found begun asked knowing not = at_planning found begun
 none_due Reading found begun asked knowing not = absurd (not refl)
-none_due (Read ok) found begun asked knowing not = at_read found begun ok asked.wish
+none_due (Read ok) found begun asked knowing not = at_read found begun ok asked.mode asked.wish
 none_due (Refused why) found begun asked knowing not = at_refused found begun why
 none_due Again found begun asked knowing not = at_again found begun knowing.off
 none_due (Waiting place) found begun asked knowing not = at_waiting asked.waiting place.0
@@ -178,7 +179,7 @@ module _ (boot : ℕ) (entries : List Entry) (old : State) (ok : Bool) (io : Fet
   -- how far the worker was, by parts
   abbrev was : Phase → Option Job → Option Addr → Progress
   was phase job wish =
-      progress_in phase job begun_then (record { wish = wish; waiting = old.asked.waiting }) old.known
+      progress_in phase job begun_then (record { wish = wish; mode = old.asked.mode; waiting = old.asked.waiting }) old.known
 
   was_reading : progress_of old ≡ was Reading (Some job_is.0) (Some wish_is.0)
   was_reading = ap (λ p. was p old.work.job old.asked.wish) phase_is

@@ -1,11 +1,13 @@
 -- How far a worker is after its steps is what these tell.
-use Rattle.std.proofs.Common.{◌≡◌, ◌∙◌, refl, sym, ap, ℕ, Bool, true, false, Option, Some, None, Ok, Err}
-use Rattle.std.proofs.Common.{List, [], ◌∷◌, if◌then◌else◌}
+use Rattle.std.proofs.Common.{◌≡◌, ◌∙◌, refl, sym, ap, subst, ℕ, ◌⊎◌, inl, inr, Bool, true, false}
+use Rattle.std.proofs.Common.{Option, Some, None, Ok, Err, List, [], ◌∷◌, ◌++◌, ◌||◌, if◌then◌else◌}
 use Rattle.std.specs.Prelude.{IsSomeAnd, map}
 use Rattle.std.proofs.lemmas.List.{map-append}
 use Rattle.disk.specs.declared.block.BlockNo.{BlockNo}
 use Rattle.objects.specs.declared.addr.Addr.{Addr}
+use Rattle.objects.specs.declared.mode.Mode.{Mode}
 use Rattle.objects.specs.declared.mode.Mode.TheVariants as modes
+use Rattle.inode.specs.Snap.{is_seen, same_addr}
 use Rattle.model.specs.Entry.{Entry}
 use Rattle.model.specs.Calls.{is_answered_stable}
 use Rattle.nfs_types.specs.declared.reply.Reply.{Reply}
@@ -24,7 +26,7 @@ use Rattle.txn.specs.declared.outcomes.Commit.{Commit}
 use Rattle.txn.specs.declared.outcomes.Commit.TheVariants as commit
 use Rattle.txn.specs.declared.outcomes.Want.{Want}
 use Rattle.txn.specs.declared.outcomes.Want.TheVariants as want
-use Rattle.store_promise.specs.Aims.{is_above}
+use Rattle.store_promise.specs.Aims.{is_barred}
 use Rattle.store_promise.specs.declared.aims.Aim.{Aim}
 use Rattle.store_promise.specs.declared.aims.Aim.TheVariants as aim
 use Rattle.store_promise.specs.Progress.{Progress}
@@ -39,13 +41,13 @@ use Rattle.store_workers.proofs.WorkCases.{Cases, IsWished, by_cases}
 use Rattle.store_workers.specs.Asked.{Asking}
 use Rattle.store_workers.specs.Knowing.{Knowing, known_in, with_aim, with_off, without_off}
 use Rattle.store_workers.specs.Seen.{Seen, seen_in}
-use Rattle.store_workers.specs.Stages.{IsWorkerAt, StandsAt, alone}
+use Rattle.store_workers.specs.Stages.{IsWorkerAt, StandsAt, alone, taken_as}
 use Rattle.store_workers.specs.Stages.{at_fetch, at_stage, begun_of, claimed_in, handed, held_in}
 use Rattle.store_workers.specs.Stages.{progress_in, progress_of}
 use Rattle.store_workers.specs.WorkTells.{progress_after}
 use Rattle.store_workers.specs.WorkerAnswers.{after_commit, asked_wanted, begun_claimed}
 use Rattle.store_workers.specs.WorkerAnswers.{begun_wanted, claim_wish}
-use Rattle.store_workers.specs.WorkerAnswers.{committing_of, known_claimed, known_off, known_wanted, object}
+use Rattle.store_workers.specs.WorkerAnswers.{committing_of, known_claimed, known_off, known_wanted}
 use Rattle.store_workers.specs.WorkerAnswers.{phase_claimed, phase_off, phase_wanted, seen_claimed, seen_held}
 use Rattle.store_workers.specs.WorkerAnswers.{seen_taken, seen_wanted, told_of}
 use Rattle.store_workers.specs.WorkerAnswers.{wish_of, with_answer, with_entry}
@@ -93,6 +95,20 @@ nothing_read core job number known (Some seen) saw =
       left = known;
     }))) saw.claims
 
+-- what wasn't read isn't told
+told_so : (addr : Addr) (objects : List ObjectBytes)
+    → told.is_told addr (map (λ (o : ObjectBytes). alone o.addr) objects) ≡ is_seen addr objects
+told_so addr [] = refl
+told_so addr (o ∷ os) = ap (λ (b : Bool). same_addr addr o.addr || b) (told_so addr os)
+
+-- so that one more is told behind the others
+told_new : (one : told.Taken) (objects : List ObjectBytes) → is_seen one.addr objects ≡ false
+    → told.with_told one (map (λ (o : ObjectBytes). alone o.addr) objects)
+    ≡ map (λ (o : ObjectBytes). alone o.addr) objects ++ one ∷ []
+told_new one objects unseen =
+    ap (λ (b : Bool). if b then map (told.raised_told one) (map (λ (o : ObjectBytes). alone o.addr) objects)
+    else map (λ (o : ObjectBytes). alone o.addr) objects ++ one ∷ []) (told_so one.addr objects ∙ unseen)
+
 module _ (broken : Bool) (job : Job) (tx : ℕ) (seen : Seen) (asked : Asking) (knowing : Knowing) (room : Bool)
   where
     abbrev its : told.Begun
@@ -102,12 +118,20 @@ module _ (broken : Bool) (job : Job) (tx : ℕ) (seen : Seen) (asked : Asking) (
     abbrev knows : Knowing
     knows = record knowing { room = room }
 
-    held_by : (addr : Addr) (bytes : List ℕ) (left : List Aim)
-        → begun_of (Some tx) (seen_held left addr bytes (Some seen)) (with_aim (object addr) knows)
-        ≡ told.told_by left (told.with_taken its (object addr)) (alone addr)
-    held_by addr bytes [] = ap (λ (held : List told.Taken). record (told.with_taken its (object addr)) { held = held })
-        (map-append (λ (o : ObjectBytes). alone o.addr) seen.objects (record { addr = addr; bytes = bytes } ∷ []))
-    held_by addr bytes (next ∷ later) = refl
+    -- an object is new to what was read, and is asked for alone, where nothing is left to be taken again
+    abbrev IsNewTo : Addr → Mode → List Aim → Type 0
+    IsNewTo addr mode left = left ≡ [] → (is_seen addr seen.objects ≡ false) × (mode ≡ modes.Exclusive)
+
+    held_by : (addr : Addr) (mode : Mode) (bytes : List ℕ) (left : List Aim) → IsNewTo addr mode left
+        → begun_of (Some tx) (seen_held left addr bytes (Some seen)) (with_aim (aim.Object addr mode) knows)
+        ≡ told.told_by left (told.with_taken its (aim.Object addr mode)) (taken_as mode addr)
+    held_by addr mode bytes [] new_to_it =
+        let (unseen, exclusive) = new_to_it refl in
+        ap (λ (held : List told.Taken). record (told.with_taken its (aim.Object addr mode)) { held = held })
+        (map-append (λ (o : ObjectBytes). alone o.addr) seen.objects (record { addr = addr; bytes = bytes } ∷ [])
+        ∙ ap (λ (m : Mode). held_in (Some seen) ++ taken_as m addr ∷ []) (sym exclusive)
+        ∙ sym (told_new (taken_as mode addr) seen.objects unseen))
+    held_by addr mode bytes (next ∷ later) new_to_it = refl
 
     claimed_by : (block : BlockNo) (left : List Aim)
         → begun_of (Some tx) (seen_taken left block (Some seen)) (with_aim (aim.Claim block) knows)
@@ -119,7 +143,7 @@ module _ (broken : Bool) (job : Job) (tx : ℕ) (seen : Seen) (asked : Asking) (
     off : (wished : Aim) → progress_as (phase_off wished knowing) (Some job) (Some tx) (Some seen) asked
         (known_off wished knows)
         ≡ told.At (handed job) (told.kept_off its wished)
-    off wished = by (is_above wished knowing.taken)
+    off wished = by (is_barred wished knowing.taken)
       where
         by : (above : Bool) → progress_as (if above then Again else Planning) (Some job) (Some tx) (Some seen) asked
             (if above then with_off wished knows else knows)
@@ -133,28 +157,28 @@ module _ (broken : Bool) (job : Job) (tx : ℕ) (seen : Seen) (asked : Asking) (
     back_is back is phase read wished then' =
         ap (λ b. progress_as phase (Some job) (Some b) read wished then') is
 
-    pub wanted_told : (old new : CoreState) (addr : Addr) (answer : Want)
-        → IsWanted old tx addr modes.Exclusive answer new
-        → progress_as (phase_wanted addr answer knowing) (Some job) (begun_wanted answer).tx
+    pub wanted_told : (old new : CoreState) (addr : Addr) (mode : Mode) (answer : Want)
+        → IsNewTo addr mode knowing.left → IsWanted old tx addr mode answer new
+        → progress_as (phase_wanted addr mode answer knowing) (Some job) (begun_wanted answer).tx
         (seen_wanted knowing.left addr answer (Some seen))
-        (asked_wanted addr answer asked) (known_wanted addr answer knows)
-        ≡ progress_after broken (Some (step.Wanted addr modes.Exclusive (wish_of answer)))
+        (asked_wanted addr mode answer asked) (known_wanted addr mode answer knows)
+        ≡ progress_after broken (Some (step.Wanted addr mode (wish_of answer)))
         (progress_as Planning (Some job) (Some tx) (Some seen) asked knowing)
-    wanted_told old new addr (want.Held back bytes) is =
+    wanted_told old new addr mode (want.Held back bytes) new_to_it is =
         back_is back is.0 Planning (seen_held knowing.left addr bytes (Some seen)) asked
-        (with_aim (object addr) knows)
-        ∙ ap (λ begun. told.At (handed job) (told.Planning begun)) (held_by addr bytes knowing.left)
-    wanted_told old new addr (want.Fetch back io) is =
-        back_is back is.0 Reading (Some seen) (record asked { wish = Some addr }) (with_aim (object addr) knows)
-    wanted_told old new addr (want.Busy back) is =
-        back_is back is.0 (phase_off (object addr) knowing) (Some seen) asked (known_off (object addr) knows)
-        ∙ off (object addr)
-    wanted_told old new addr (want.Loading back) is =
-        back_is back is.0 (phase_off (object addr) knowing) (Some seen) asked (known_off (object addr) knows)
-        ∙ off (object addr)
-    wanted_told old new addr (want.Outside back) is =
+        (with_aim (aim.Object addr mode) knows)
+        ∙ ap (λ begun. told.At (handed job) (told.Planning begun)) (held_by addr mode bytes knowing.left new_to_it)
+    wanted_told old new addr mode (want.Fetch back io) new_to_it is =
+        back_is back is.0 Reading (Some seen) (record asked { wish = Some addr; mode = mode }) (with_aim (aim.Object addr mode) knows)
+    wanted_told old new addr mode (want.Busy back) new_to_it is =
+        back_is back is.0 (phase_off (aim.Object addr mode) knowing) (Some seen) asked (known_off (aim.Object addr mode) knows)
+        ∙ off (aim.Object addr mode)
+    wanted_told old new addr mode (want.Loading back) new_to_it is =
+        back_is back is.0 (phase_off (aim.Object addr mode) knowing) (Some seen) asked (known_off (aim.Object addr mode) knows)
+        ∙ off (aim.Object addr mode)
+    wanted_told old new addr mode (want.Outside back) new_to_it is =
         back_is back is.0 (Refused cause.Io) (Some seen) asked knows
-    wanted_told old new addr (want.NoMemory back) is =
+    wanted_told old new addr mode (want.NoMemory back) new_to_it is =
         back_is back is.0 (Refused cause.NoMemory) (Some seen) asked knows
 
     pub claimed_told : (old new : CoreState) (block : BlockNo) (addr : Addr) (answer : Claim)
@@ -222,7 +246,7 @@ module _ (broken : Bool) (io : Fetch) (job : Job) (tx : Option ℕ) (seen : Opti
     (knowing : Knowing) where
   abbrev after_fetch : Bool → Option Addr → Progress
   after_fetch ok wish = progress_after broken (Some (given_step ok io)) (at_stage (Some job)
-      (at_fetch (λ taken. told.Read (begun_of tx seen knowing) taken ok) (begun_of tx seen knowing) wish))
+      (at_fetch (λ taken. told.Read (begun_of tx seen knowing) taken ok) (begun_of tx seen knowing) asked.mode wish))
 
   given_by : (ok : Bool) (addr : Addr)
       → progress_as (phase_given ok) (Some job) tx seen asked knowing ≡ after_fetch ok (Some addr)
@@ -301,21 +325,38 @@ module _ (boot : ℕ) (entries : List Entry) (old new : Side) where
       ∙ ap (λ s. progress_after old.core.log.broken (Some made)
       (progress_as Planning (Some job) (Some tx) s old.worker.asked old.worker.known)) seen_is
 
-  wants : (tx : ℕ) (addr : Addr) (made : Step) → old.worker.begun.tx ≡ Some tx
-      → IsWished old.worker (object addr) (plan.Need addr) → (has : HasWanted tx addr old made new)
-      → IsToldBy Planning (Some (step.Wanted addr modes.Exclusive (wish_of has.answer)))
-  wants tx addr made tx_is next has phase_is stands =
+  -- what a plan asks for is new to what was read
+  new_to : (addr : Addr) (mode : Mode) (next : IsWished old.worker (aim.Object addr mode) (plan.Need addr mode))
+      → old.worker.known.left ≡ []
+      → (is_seen addr next.snap.objects.items ≡ false) × (mode ≡ modes.Exclusive)
+  new_to addr mode next none = by next.why
+    where
+      by : ((old.worker.known.left ≡ []) × IsNext old.worker (plan.Need addr mode))
+          ⊎ ((later : List Aim) × (old.worker.known.left ≡ aim.Object addr mode ∷ later))
+          → (is_seen addr next.snap.objects.items ≡ false) × (mode ≡ modes.Exclusive)
+      by (inl is) = (
+        subst (λ (found : Option Seen). IsSomeAnd found (λ seen. is_seen addr seen.objects ≡ false))
+            (sym is.1.snap_is ∙ next.snap_is) is.1.plan.0,
+        is.1.plan.2,
+      )
+      by (inr is) = absurd (let never : aim.Object addr mode ∷ is.0 ≡ [] = sym is.1 ∙ none in cc)
+
+  wants : (tx : ℕ) (addr : Addr) (mode : Mode) (made : Step) → old.worker.begun.tx ≡ Some tx
+      → IsWished old.worker (aim.Object addr mode) (plan.Need addr mode)
+      → (has : HasWanted tx addr mode old made new)
+      → IsToldBy Planning (Some (step.Wanted addr mode (wish_of has.answer)))
+  wants tx addr mode made tx_is next has phase_is stands =
       ap progress_of has.worker
-      ∙ ap (λ s. progress_as (phase_wanted addr has.answer old.worker.known) old.worker.work.job
-      (begun_wanted has.answer).tx s (asked_wanted addr has.answer old.worker.asked)
-      (known_wanted addr has.answer knows_then))
+      ∙ ap (λ s. progress_as (phase_wanted addr mode has.answer old.worker.known) old.worker.work.job
+      (begun_wanted has.answer).tx s (asked_wanted addr mode has.answer old.worker.asked)
+      (known_wanted addr mode has.answer knows_then))
       (has.seen ∙ ap (seen_wanted old.worker.known.left addr has.answer) next.snap_is)
-      ∙ ap (λ j. progress_as (phase_wanted addr has.answer old.worker.known) j (begun_wanted has.answer).tx
+      ∙ ap (λ j. progress_as (phase_wanted addr mode has.answer old.worker.known) j (begun_wanted has.answer).tx
       (seen_wanted old.worker.known.left addr has.answer (seen_in (Some next.snap)))
-      (asked_wanted addr has.answer old.worker.asked) (known_wanted addr has.answer knows_then)) next.job_is
+      (asked_wanted addr mode has.answer old.worker.asked) (known_wanted addr mode has.answer knows_then)) next.job_is
       ∙ wanted_told old.core.log.broken next.job tx _ old.worker.asked old.worker.known new.worker.known.room
-      old.core new.core addr has.answer has.core
-      ∙ sym (planned (step.Wanted addr modes.Exclusive (wish_of has.answer)) next.job tx _ next.job_is tx_is
+      old.core new.core addr mode has.answer (new_to addr mode next) has.core
+      ∙ sym (planned (step.Wanted addr mode (wish_of has.answer)) next.job tx _ next.job_is tx_is
       next.snap_is)
 
   claims : (tx : ℕ) (block : BlockNo) (made : Step) → old.worker.begun.tx ≡ Some tx

@@ -3,7 +3,7 @@ use Rattle.std.proofs.Common.{◌≡◌, sym, ap, subst, true≢false, ℕ, Bool
 use Rattle.std.proofs.Common.{List, [], drop}
 use Rattle.disk.specs.declared.block.BlockNo.{BlockNo}
 use Rattle.objects.specs.declared.addr.Addr.{Addr}
-use Rattle.objects.specs.declared.mode.Mode.TheVariants as modes
+use Rattle.objects.specs.declared.mode.Mode.{Mode}
 use Rattle.model.specs.Calls.{is_answered_stable}
 use Rattle.nfs_types.specs.declared.reply.Reply.{Reply}
 use Rattle.std.specs.Prelude.{IsSomeAnd}
@@ -54,15 +54,15 @@ module _ (old new : Side) where
   rests phase is at nothing kept = of_state old.worker (ap (λ (s : Side). s.worker) is)
       (subst (λ (p : Phase). LeavesNothing p knowing) (sym at) nothing)
 
-  wants : (addr : Addr) (answer : Want) (room : Bool) → knowing.left ≡ []
-      → is_kept_off (Some (step.Wanted addr modes.Exclusive (wish_of answer))) ≡ false
-      → LeavesNothing (phase_wanted addr answer knowing) (known_wanted addr answer (record knowing { room = room }))
-  wants addr (want.Held back bytes) room left kept = ap (λ (xs : List Aim). drop 1 xs) left
-  wants addr (want.Fetch back io) room left kept = ap (λ (xs : List Aim). drop 1 xs) left
-  wants addr (want.Busy back) room left kept = absurd (true≢false kept)
-  wants addr (want.Loading back) room left kept = absurd (true≢false kept)
-  wants addr (want.Outside back) room left kept = tt
-  wants addr (want.NoMemory back) room left kept = tt
+  wants : (addr : Addr) (mode : Mode) (answer : Want) (room : Bool) → knowing.left ≡ []
+      → is_kept_off (Some (step.Wanted addr mode (wish_of answer))) ≡ false
+      → LeavesNothing (phase_wanted addr mode answer knowing) (known_wanted addr mode answer (record knowing { room = room }))
+  wants addr mode (want.Held back bytes) room left kept = ap (λ (xs : List Aim). drop 1 xs) left
+  wants addr mode (want.Fetch back io) room left kept = ap (λ (xs : List Aim). drop 1 xs) left
+  wants addr mode (want.Busy back) room left kept = absurd (true≢false kept)
+  wants addr mode (want.Loading back) room left kept = absurd (true≢false kept)
+  wants addr mode (want.Outside back) room left kept = tt
+  wants addr mode (want.NoMemory back) room left kept = tt
 
   claims : (block : BlockNo) (answer : Claim) (room : Bool) → knowing.left ≡ []
       → is_kept_off (Some (step.Claimed block (claim_wish answer))) ≡ false
@@ -118,8 +118,8 @@ module _ (old new : Side) where
         (ap (λ (k : Knowing). (given_back k).left) nothing);
     not_begun = λ job why job_is rules none core worker at nothing kept. of_state _ worker tt;
     replied = λ job job_is rules core worker at nothing kept. of_state _ worker tt;
-    wanted = λ tx addr made tx_is next has at nothing kept. of_state _ has.worker
-        (wants addr has.answer new.worker.known.room nothing kept);
+    wanted = λ tx addr mode made tx_is next has at nothing kept. of_state _ has.worker
+        (wants addr mode has.answer new.worker.known.room nothing kept);
     claimed = λ tx block made tx_is next has at nothing kept. of_state _ has.worker
         (claims block has.answer new.worker.known.room nothing kept);
     committed = λ job tx done made tx_is next none job_is has at nothing kept. of_state _ has.worker

@@ -7,7 +7,7 @@ use Rattle.std.specs.List.{list_any}
 use Rattle.std.proofs.lemmas.Bool.{eq-eqb, eqb-true, or_left, or_right}
 use Rattle.disk.specs.declared.block.BlockNo.{BlockNo}
 use Rattle.objects.specs.declared.addr.Addr.{Addr}
-use Rattle.objects.specs.declared.mode.Mode.TheVariants as modes
+use Rattle.objects.specs.declared.mode.Mode.{Mode}
 use Rattle.model.specs.Calls.{is_answered_stable}
 use Rattle.nfs_types.specs.declared.reply.Reply.{Reply}
 use Rattle.wal_law.specs.declared.outcomes.Seq.{Seq}
@@ -281,18 +281,18 @@ module _ (old new : Side) (keeps : KeepsReadsOf old new)
       (keeps_io (ap (λ (s : State). s.begun.io) has.worker ∙ sym no_io)
       (λ block. ap (λ (c : CoreState). is_fetching c block) has.core))
 
-  wants : (tx : ℕ) (addr : Addr) (answer : Want) → old.worker.begun.tx ≡ Some tx → old.worker.begun.io ≡ None
-      → IsWanted old.core tx addr modes.Exclusive answer new.core → new.worker.begun ≡ begun_wanted answer
+  wants : (tx : ℕ) (addr : Addr) (mode : Mode) (answer : Want) → old.worker.begun.tx ≡ Some tx → old.worker.begun.io ≡ None
+      → IsWanted old.core tx addr mode answer new.core → new.worker.begun ≡ begun_wanted answer
       → LeavesOthers old new
-  wants tx addr answer tx_is no_io is got =
+  wants tx addr mode answer tx_is no_io is got =
       by_parts (λ t differs. by_want old.core new.core tx t (apart tx t tx_is differs) (reads tx t tx_is differs)
-      addr modes.Exclusive answer is) (txs answer is got) (ios answer is got)
+      addr mode answer is) (txs answer is got) (ios answer is got)
     where
       still : (back : ℕ) → back ≡ tx → new.worker.begun.tx ≡ Some back
           → new.worker.begun.tx ≡ old.worker.begun.tx
       still back same got = got ∙ ap (λ (n : ℕ). Some n) same ∙ sym tx_is
 
-      txs : (answer : Want) → IsWanted old.core tx addr modes.Exclusive answer new.core
+      txs : (answer : Want) → IsWanted old.core tx addr mode answer new.core
           → new.worker.begun ≡ begun_wanted answer → TxGoes old new
       txs (want.Held back bytes) is got = stays_out (still back is.0 (ap (λ (b : Begun). b.tx) got))
           (ap (λ (c : CoreState). c.out) is.2.only) (ap (λ (c : CoreState). c.begun) is.2.only)
@@ -307,7 +307,7 @@ module _ (old new : Side) (keeps : KeepsReadsOf old new)
       txs (want.NoMemory back) is got = stays_out (still back is.0 (ap (λ (b : Begun). b.tx) got))
           (ap (λ (c : CoreState). c.out) is.2) (ap (λ (c : CoreState). c.begun) is.2)
 
-      ios : (answer : Want) → IsWanted old.core tx addr modes.Exclusive answer new.core
+      ios : (answer : Want) → IsWanted old.core tx addr mode answer new.core
           → new.worker.begun ≡ begun_wanted answer → IoGoes old new
       ios (want.Held back bytes) is got =
           keeps_io (ap (λ (b : Begun). b.io) got ∙ sym no_io) is.2.leaves.fetches
@@ -474,7 +474,7 @@ module _ (old new : Side) (keeps : KeepsReadsOf old new)
         (ap (λ (s : State). s.begun.tx) worker) (ap (λ (s : State). s.begun.io) worker);
     replied = λ job job_is rules core worker no_tx no_io. same_core core
         (ap (λ (s : State). s.begun.tx) worker) (ap (λ (s : State). s.begun.io) worker);
-    wanted = λ tx addr made tx_is next has no_tx no_io. wants tx addr has.answer tx_is (no_io refl) has.core
+    wanted = λ tx addr mode made tx_is next has no_tx no_io. wants tx addr mode has.answer tx_is (no_io refl) has.core
         (ap (λ (s : State). s.begun) has.worker);
     claimed = λ tx block made tx_is next has no_tx no_io. takes tx has.core.0 has.answer tx_is (no_io refl)
         has.core.2 (ap (λ (s : State). s.begun) has.worker);

@@ -6,6 +6,7 @@ use Rattle.std.proofs.lemmas.Bool.{eqb-true}
 use Rattle.std.proofs.lemmas.List.Elements.{All-contains, All-head, All-tail}
 use Rattle.disk.specs.declared.block.BlockNo.{BlockNo}
 use Rattle.objects.specs.declared.addr.Addr.{Addr}
+use Rattle.objects.specs.declared.mode.Mode.{Mode}
 use Rattle.objects.specs.declared.mode.Mode.TheVariants as modes
 use Rattle.inode.proofs.AllTests.{all_three, same_number}
 use Rattle.procs.proofs.FewClaimed.{claimed_object}
@@ -17,7 +18,7 @@ use Rattle.inode.specs.Snap.{is_claimed, is_seen, same_addr}
 use Rattle.procs.specs.declared.next.Plan.{Plan}
 use Rattle.procs.specs.declared.next.Plan.TheVariants as plan
 use Rattle.inode.specs.declared.snap.Snap.{Snap}
-use Rattle.txn.specs.Claimed.{IsAmongRead, IsClaimedBy, IsClaimedObject}
+use Rattle.txn.specs.Claimed.{IsAmongRead, IsClaimedBy, IsClaimedObject, IsOwnObject, IsTakenAlone}
 use Rattle.txn.specs.Commit.{IsOwn, IsReadBy}
 use Rattle.txn.specs.Core.{CoreState, IsOut}
 use Rattle.txn.specs.Fetch.{Fetch}
@@ -128,45 +129,47 @@ module _ (core : CoreState) (tx : ℕ) (snap : Snap) (tidy : AreTidy core) (out 
   pub was_read : All (IsReadBy core tx) done.read
   was_read = subst (λ (os : List ObjectBytes). All (IsReadBy core tx) os) (sym ends.named.read) has.read
 
-  pub was_had : (object : ObjectBytes) → IsWritable snap object
-      → IsAmongRead done.read object ⊎ IsClaimedObject core tx object
+  pub was_had : (object : ObjectBytes) → IsWritable snap object → IsOwnObject core tx done.read object
   was_had object (inl seen) =
       let found = seen_there object.addr snap.objects.items seen in inl (
-        found.0,
-        subst (λ (os : List ObjectBytes). Contains os found.0) (sym ends.named.read) found.1,
-        found.2,
+        (
+          found.0,
+          subst (λ (os : List ObjectBytes). Contains os found.0) (sym ends.named.read) found.1,
+          found.2,
+        ),
+        subst (λ (a : Addr). IsTakenAlone core tx a) found.2
+            (All-contains (λ (o : ObjectBytes). IsTakenAlone core tx o.addr) snap.objects.items found.0 has.alone found.1),
       )
   was_had object (inr claimed) = inr (
     claimed_so (IsClaimedBy core tx) object.addr.block snap.claims.items has.claimed claimed.0,
     claimed.1,
   )
 
-  pub had : (object : ObjectBytes) → Contains done.written object
-      → IsAmongRead done.read object ⊎ IsClaimedObject core tx object
+  pub had : (object : ObjectBytes) → Contains done.written object → IsOwnObject core tx done.read object
   had object there = was_had object (All-contains (IsWritable snap) done.written object ends.writable there)
 
   pub own_change : ((object : ObjectBytes) → Contains done.written object
       → is_fetching core object.addr.block ≡ false) → IsOwn core tx (planned_of done)
   own_change settled = is_own core tx tidy out (planned_of done) (ends.named.blocks ∙ has.blocks)
-      (ends.named.inodes ∙ has.inodes) was_read had has.exclusive settled
+      (ends.named.inodes ∙ has.inodes) was_read had settled
 
 -- ---- a plan
 
 module _ (core : CoreState) (tx : ℕ) (snap : Snap) (tidy : AreTidy core) (out : core.out ≡ tx ∷ [])
     (has : HasOfCall tx core (seen_of snap)) (none : FetchesOnly None core) where
-  wanted_well : (new : CoreState) (addr : Addr) → Asks snap.geometry addr
+  wanted_well : (new : CoreState) (addr : Addr) (mode : Mode) → Asks snap.geometry addr
       → (answer : Want)
-      → IsWanted core tx addr modes.Exclusive answer new
-      → is_kept_off (Some (step.Wanted addr modes.Exclusive (wish_of answer))) ≡ false
-  wanted_well new addr asks (want.Held back bytes) is = refl
-  wanted_well new addr asks (want.Fetch back io) is = refl
-  wanted_well new addr asks (want.Outside back) is = refl
-  wanted_well new addr asks (want.NoMemory back) is = refl
-  wanted_well new addr asks (want.Busy back) is =
-      absurd (never_busy core tx tidy out addr modes.Exclusive (λ other hold taken over.
+      → IsWanted core tx addr mode answer new
+      → is_kept_off (Some (step.Wanted addr mode (wish_of answer))) ≡ false
+  wanted_well new addr mode asks (want.Held back bytes) is = refl
+  wanted_well new addr mode asks (want.Fetch back io) is = refl
+  wanted_well new addr mode asks (want.Outside back) is = refl
+  wanted_well new addr mode asks (want.NoMemory back) is = refl
+  wanted_well new addr mode asks (want.Busy back) is =
+      absurd (never_busy core tx tidy out addr mode (λ other hold taken over.
       one_or_apart snap.geometry other addr (has.asked other hold taken) asks over) is.1)
-  wanted_well new addr asks (want.Loading back) is =
-      absurd (never_loading core tx addr modes.Exclusive (none addr.block) is.1)
+  wanted_well new addr mode asks (want.Loading back) is =
+      absurd (never_loading core tx addr mode (none addr.block) is.1)
 
   claimed_well : (new : CoreState) (block : BlockNo) (addr : Addr) → Claims snap.geometry block
       → IsWhole block addr → (answer : Claim) → IsClaimed core tx addr answer new
@@ -218,8 +221,8 @@ module _ (old new : Side) (tidy : AreTidy old.core) (alone : IsOutAlone old.work
 
       of_next : (next : Plan) → IsPlanFor is.snap next → GoesByNext next tx old made new
           → is_kept_off (Some made) ≡ false
-      of_next (plan.Need addr) planned goes = ap (λ m. is_kept_off (Some m)) goes.made_is
-          ∙ wanted_well old.core tx is.snap tidy out has none new.core addr planned.1
+      of_next (plan.Need addr mode) planned goes = ap (λ m. is_kept_off (Some m)) goes.made_is
+          ∙ wanted_well old.core tx is.snap tidy out has none new.core addr mode planned.1
           goes.answer goes.core
       of_next (plan.Claim block) planned goes = ap (λ m. is_kept_off (Some m)) goes.made_is
           ∙ claimed_well old.core tx is.snap tidy out has none new.core block goes.core.0 planned.1

@@ -5,7 +5,7 @@ use Rattle.std.specs.Prelude.{Contains, IfSome, IsSomeAnd, is_some}
 use Rattle.std.proofs.lemmas.Bool.{eqb-true}
 use Rattle.std.proofs.lemmas.List.Elements.{All-nil, All-weaker}
 use Rattle.disk.specs.declared.block.BlockNo.{BlockNo}
-use Rattle.objects.specs.Mode.{raised}
+use Rattle.objects.specs.Mode.{covers, raised}
 use Rattle.objects.specs.declared.addr.Addr.{Addr}
 use Rattle.objects.specs.declared.mode.Mode.{Mode}
 use Rattle.objects.specs.declared.mode.Mode.TheVariants as modes
@@ -28,19 +28,19 @@ use Rattle.txn_law.proofs.Claims.{all_four}
 use Rattle.txn_law.proofs.TakenBy.{is_hold_by}
 use Rattle.txn_law.specs.Holds.{for_fetching, for_reading, for_writing, is_hold_of, joined}
 use Rattle.txn_law.specs.declared.hold.Hold.{Hold}
-use Rattle.store_promise.proofs.RisingAims.{all_more, kept, there}
-use Rattle.store_promise.specs.Aims.{inserted, is_above}
+use Rattle.store_promise.proofs.RisingAims.{all_more, claim_there, kept, kept_claim, there}
+use Rattle.store_promise.specs.Aims.{AreOfOne, inserted, is_barred, raised_by}
 use Rattle.store_promise.specs.declared.aims.Aim.{Aim}
 use Rattle.store_promise.specs.declared.aims.Aim.TheVariants as aim
 use Rattle.store_promise.specs.declared.answers.Verdict.TheVariants as verdict
 use Rattle.store_promise.specs.declared.events.Step.{Step}
 use Rattle.store_workers.proofs.HowFar.{without_broken_reply, without_reply}
 use Rattle.store_workers.proofs.WorkCases.{Cases, by_cases}
-use Rattle.store_workers.specs.Beside.{IsNoted, IsTakenIn, NoneTakenBeyond, NotesAll, NotesTaken}
+use Rattle.store_workers.specs.Beside.{IsNoted, IsTakenAs, IsTakenIn, NoneTakenBeyond, NotesAll, NotesTaken}
 use Rattle.store_workers.specs.Knowing.{Knowing, with_off}
 use Rattle.store_workers.specs.Phases.{has_transaction}
 use Rattle.store_workers.specs.WorkerAnswers.{after_commit, begun_claimed, begun_wanted, known_claimed, known_off}
-use Rattle.store_workers.specs.WorkerAnswers.{known_wanted, object, told_of, with_answer, with_entry}
+use Rattle.store_workers.specs.WorkerAnswers.{known_wanted, told_of, with_answer, with_entry}
 use Rattle.store_workers.specs.WorkerSteps.{GoesOn, HasBegun, HasGivenBack, IsTold, Side, Waits}
 use Rattle.store_workers.specs.WorkerSteps.{none_begun, planned_of, with_snap}
 use Rattle.store_workers.specs.declared.workers.parts.Job.{Job}
@@ -61,7 +61,28 @@ hold_at tx a hold is =
 -- what was noted is so with one more
 more_noted : (one : Aim) (aims : List Aim) (a : Addr) (m : Mode) → IsNoted aims a m → IsNoted (inserted one aims) a m
 more_noted one aims a m (inl object) = inl (kept one aims (aim.Object a m) object)
-more_noted one aims a m (inr claim) = inr (kept one aims (aim.Claim a.block) claim)
+more_noted one aims a m (inr claim) = inr (kept_claim one aims a.block claim)
+
+-- what is noted in each of two modes is so in the higher one
+raised_noted : (aims : List Aim) (a : Addr) (had wished : Mode) → IsNoted aims a had → IsNoted aims a wished
+    → IsNoted aims a (raised had wished)
+raised_noted aims a had modes.Shared was new = was
+raised_noted aims a had modes.Exclusive was new = new
+
+-- what is taken in the mode of one may be used as in the other's, and is so once it is raised
+still_covers : (had more wished : Mode) → covers had wished ≡ true → covers (raised had more) wished ≡ true
+still_covers had modes.Shared wished is = is
+still_covers had modes.Exclusive wished is = refl
+
+now_covers : (had more : Mode) → covers (raised had more) more ≡ true
+now_covers modes.Shared modes.Shared = refl
+now_covers modes.Shared modes.Exclusive = refl
+now_covers modes.Exclusive modes.Shared = refl
+now_covers modes.Exclusive modes.Exclusive = refl
+
+covers_itself : (mode : Mode) → covers mode mode ≡ true
+covers_itself modes.Shared = refl
+covers_itself modes.Exclusive = refl
 
 -- who has taken the same notes the same
 pub same_notes : (old new : CoreState) (tx : ℕ) (aims : List Aim)
@@ -72,64 +93,81 @@ same_notes old new tx aims same notes = record {
   taken = All-weaker (IsTakenIn old tx) (IsTakenIn new tx) one aims notes.taken;
 }
   where
-    one : (it : Aim) → IsTakenIn old tx it → IsTakenIn new tx it
-    one (aim.Object addr mode) is = ap (λ (o : Option Hold). is_some o) (same addr) ∙ is
-    one (aim.Claim block) is = (is.0, is.1, ap (λ (o : Option Hold). is_some o) (same is.0) ∙ is.2)
+    as_before : (addr : Addr) (mode : Mode) → IsTakenAs old tx addr mode → IsTakenAs new tx addr mode
+    as_before addr mode is =
+        subst (λ (o : Option Hold). IsSomeAnd o (λ (hold : Hold). covers hold.mode mode ≡ true)) (sym (same addr)) is
 
--- what a hold is added of is taken then
+    one : (it : Aim) → IsTakenIn old tx it → IsTakenIn new tx it
+    one (aim.Object addr mode) is = as_before addr mode is
+    one (aim.Claim block) is = (is.0, is.1, as_before is.0 modes.Exclusive is.2)
+
+-- what a hold is added of is taken then, in its mode
 now_taken : (core mid : CoreState) (tx : ℕ) (addr : Addr) (hold : Hold)
     → taken_by mid tx addr ≡ with_taken hold (taken_by core) tx addr → is_hold_of tx addr hold ≡ true
-    → is_some (taken_by mid tx addr) ≡ true
+    → IsTakenAs mid tx addr hold.mode
 now_taken core mid tx addr hold now own =
-    ap (λ (o : Option Hold). is_some o) now
-    ∙ ap (λ (b : Bool). is_some (if b then Some (joined (taken_by core tx addr) hold) else taken_by core tx addr)) own
+    subst (λ (o : Option Hold). IsSomeAnd o (λ (h : Hold). covers h.mode hold.mode ≡ true))
+    (sym (now ∙ ap (λ (b : Bool). if b then Some (joined (taken_by core tx addr) hold) else taken_by core tx addr) own))
+    (by (taken_by core tx addr))
+  where
+    by : (had : Option Hold) → covers (joined had hold).mode hold.mode ≡ true
+    by None = covers_itself hold.mode
+    by (Some had) = now_covers had.mode hold.mode
 
 -- what is taken then: what was, and a hold more, which is noted
 module _ (core mid : CoreState) (tx : ℕ) (aims : List Aim) (one : Aim) (hold : Hold)
-    (alone : (had : Option Hold) → (joined had hold).mode ≡ modes.Exclusive)
     (now : (a : Addr) → taken_by mid tx a ≡ with_taken hold (taken_by core) tx a)
-    (new_noted : IsNoted (inserted one aims) hold.addr modes.Exclusive) (new_taken : IsTakenIn mid tx one)
+    (new_noted : IsNoted (inserted one aims) hold.addr hold.mode) (new_taken : IsTakenIn mid tx one)
     (notes : NotesTaken core tx aims) where
   noted_more : (a : Addr) (x : Hold) → taken_by mid tx a ≡ Some x → IsNoted (inserted one aims) a x.mode
   noted_more a x taken = by (is_hold_of tx a hold) refl (sym (now a) ∙ taken)
     where
+      new_at : is_hold_of tx a hold ≡ true → IsNoted (inserted one aims) a hold.mode
+      new_at is = subst (λ (b : Addr). IsNoted (inserted one aims) b hold.mode) (hold_at tx a hold is) new_noted
+
+      joins : (had : Option Hold) → taken_by core tx a ≡ had → is_hold_of tx a hold ≡ true
+          → IsNoted (inserted one aims) a (joined had hold).mode
+      joins None had_is is = new_at is
+      joins (Some had) had_is is = raised_noted (inserted one aims) a had.mode hold.mode
+          (more_noted one aims a had.mode (notes.noted a had had_is)) (new_at is)
+
       by : (own : Bool) → is_hold_of tx a hold ≡ own
           → (if own then Some (joined (taken_by core tx a) hold) else taken_by core tx a) ≡ Some x
           → IsNoted (inserted one aims) a x.mode
       by false is e = more_noted one aims a x.mode (notes.noted a x e)
       by true is e =
           let same : joined (taken_by core tx a) hold ≡ x = some_same (joined (taken_by core tx a) hold) x e in
-          subst (λ (h : Hold). IsNoted (inserted one aims) a h.mode) same
-          (subst (λ (m : Mode). IsNoted (inserted one aims) a m) (sym (alone (taken_by core tx a)))
-          (subst (λ (b : Addr). IsNoted (inserted one aims) b modes.Exclusive) (hold_at tx a hold is) new_noted))
+          subst (λ (h : Hold). IsNoted (inserted one aims) a h.mode) same (joins (taken_by core tx a) refl is)
 
-  still_there : (a : Addr) → is_some (taken_by core tx a) ≡ true → is_some (taken_by mid tx a) ≡ true
-  still_there a had = ap (λ (o : Option Hold). is_some o) (now a) ∙ by (is_hold_of tx a hold)
+  still_there : (a : Addr) (mode : Mode) → IsTakenAs core tx a mode → IsTakenAs mid tx a mode
+  still_there a mode had =
+      subst (λ (o : Option Hold). IsSomeAnd o (λ (h : Hold). covers h.mode mode ≡ true)) (sym (now a))
+      (by (taken_by core tx a) had (is_hold_of tx a hold))
     where
-      by : (own : Bool)
-          → is_some (if own then Some (joined (taken_by core tx a) hold) else taken_by core tx a) ≡ true
-      by true = refl
-      by false = had
+      by : (found : Option Hold) → IsSomeAnd found (λ (h : Hold). covers h.mode mode ≡ true) → (own : Bool)
+          → IsSomeAnd (if own then Some (joined found hold) else found) (λ (h : Hold). covers h.mode mode ≡ true)
+      by None none own = absurd none
+      by (Some x) is false = is
+      by (Some x) is true = still_covers x.mode hold.mode mode is
 
   still_taken : (it : Aim) → IsTakenIn core tx it → IsTakenIn mid tx it
-  still_taken (aim.Object a mode) is = still_there a is
-  still_taken (aim.Claim block) is = (is.0, is.1, still_there is.0 is.2)
+  still_taken (aim.Object a mode) is = still_there a mode is
+  still_taken (aim.Claim block) is = (is.0, is.1, still_there is.0 modes.Exclusive is.2)
+
+  raise : (it first : Aim) → AreOfOne first it → IsTakenIn mid tx it → IsTakenIn mid tx first
+      → IsTakenIn mid tx (raised_by it first)
+  raise (aim.Object asked modes.Shared) (aim.Object addr mode) same new is = is
+  raise (aim.Object asked modes.Exclusive) (aim.Object addr mode) same new is =
+      subst (λ (a : Addr). IsTakenAs mid tx a modes.Exclusive) (sym same) new
+  raise (aim.Object asked wished) (aim.Claim block) same new is = is
+  raise (aim.Claim block) first same new is = is
 
   pub notes_more : NotesTaken mid tx (inserted one aims)
   notes_more = record {
     noted = noted_more;
-    taken = all_more one (IsTakenIn mid tx) aims new_taken
+    taken = all_more one (IsTakenIn mid tx) aims new_taken (λ first same is. raise one first same new_taken is)
         (All-weaker (IsTakenIn core tx) (IsTakenIn mid tx) still_taken aims notes.taken);
   }
-
-raised_alone : (had : Option Hold) (hold : Hold) → hold.mode ≡ modes.Exclusive
-    → (joined had hold).mode ≡ modes.Exclusive
-raised_alone None hold is = is
-raised_alone (Some had) hold is = ap (λ (m : Mode). raised had.mode m) is ∙ by had.mode
-  where
-    by : (mode : Mode) → raised mode modes.Exclusive ≡ modes.Exclusive
-    by modes.Shared = refl
-    by modes.Exclusive = refl
 
 module _ (old new : Side) (beyond : NoneTakenBeyond old.core) (notes : NotesAll old.worker old.core) where
   abbrev Notes : Phase → Option Step → Type 0
@@ -154,7 +192,7 @@ module _ (old new : Side) (beyond : NoneTakenBeyond old.core) (notes : NotesAll 
 
   off_taken : (wished : Aim) (room : Bool)
       → (known_off wished (record old.worker.known { room = room })).taken ≡ taken
-  off_taken wished room = by (is_above wished taken)
+  off_taken wished room = by (is_barred wished taken)
     where
       by : (above : Bool) → (if above then with_off wished (record old.worker.known { room = room })
           else record old.worker.known { room = room }).taken ≡ taken
@@ -171,28 +209,26 @@ module _ (old new : Side) (beyond : NoneTakenBeyond old.core) (notes : NotesAll 
         (subst (λ (as_taken : List Aim). NotesTaken new.core tx as_taken) (sym same_aims)
         (subst (λ (c : CoreState). NotesTaken c tx taken) (sym core) (own tx tx_is)))
 
-    wants : (addr : Addr) (room : Bool) (answer : Want)
-        → IsWanted old.core tx addr modes.Exclusive answer new.core
+    wants : (addr : Addr) (mode : Mode) (room : Bool) (answer : Want)
+        → IsWanted old.core tx addr mode answer new.core
         → IfSome (begun_wanted answer).tx (λ back. Then back
-        (known_wanted addr answer (record old.worker.known { room = room })))
-    wants addr room (want.Held back bytes) is =
-        subst (λ (n : ℕ). NotesTaken new.core n (inserted (object addr) taken)) (sym is.0)
-        (notes_more old.core new.core tx taken (object addr) (for_reading tx addr modes.Exclusive)
-        (λ had. raised_alone had (for_reading tx addr modes.Exclusive) refl)
-        (λ a. is.2.leaves.holds tx a) (inl (there (object addr) taken))
-        (now_taken old.core new.core tx addr (for_reading tx addr modes.Exclusive) (is.2.leaves.holds tx addr)
-        (is_hold_by tx addr (for_reading tx addr modes.Exclusive) refl refl refl refl)) (own tx tx_is))
-    wants addr room (want.Fetch back io) is =
-        subst (λ (n : ℕ). NotesTaken new.core n (inserted (object addr) taken)) (sym is.0)
-        (notes_more old.core new.core tx taken (object addr) (for_fetching tx addr modes.Exclusive)
-        (λ had. raised_alone had (for_fetching tx addr modes.Exclusive) refl)
-        (λ a. is.2.leaves.holds tx a) (inl (there (object addr) taken))
-        (now_taken old.core new.core tx addr (for_fetching tx addr modes.Exclusive) (is.2.leaves.holds tx addr)
-        (is_hold_by tx addr (for_fetching tx addr modes.Exclusive) refl refl refl refl)) (own tx tx_is))
-    wants addr room (want.Busy back) is = same back _ is.0 is.2 (off_taken (object addr) room)
-    wants addr room (want.Loading back) is = same back _ is.0 is.2 (off_taken (object addr) room)
-    wants addr room (want.Outside back) is = same back _ is.0 is.2 refl
-    wants addr room (want.NoMemory back) is = same back _ is.0 is.2 refl
+        (known_wanted addr mode answer (record old.worker.known { room = room })))
+    wants addr mode room (want.Held back bytes) is =
+        subst (λ (n : ℕ). NotesTaken new.core n (inserted (aim.Object addr mode) taken)) (sym is.0)
+        (notes_more old.core new.core tx taken (aim.Object addr mode) (for_reading tx addr mode)
+        (λ a. is.2.leaves.holds tx a) (inl (there (aim.Object addr mode) taken))
+        (now_taken old.core new.core tx addr (for_reading tx addr mode) (is.2.leaves.holds tx addr)
+        (is_hold_by tx addr (for_reading tx addr mode) refl refl refl refl)) (own tx tx_is))
+    wants addr mode room (want.Fetch back io) is =
+        subst (λ (n : ℕ). NotesTaken new.core n (inserted (aim.Object addr mode) taken)) (sym is.0)
+        (notes_more old.core new.core tx taken (aim.Object addr mode) (for_fetching tx addr mode)
+        (λ a. is.2.leaves.holds tx a) (inl (there (aim.Object addr mode) taken))
+        (now_taken old.core new.core tx addr (for_fetching tx addr mode) (is.2.leaves.holds tx addr)
+        (is_hold_by tx addr (for_fetching tx addr mode) refl refl refl refl)) (own tx tx_is))
+    wants addr mode room (want.Busy back) is = same back _ is.0 is.2 (off_taken (aim.Object addr mode) room)
+    wants addr mode room (want.Loading back) is = same back _ is.0 is.2 (off_taken (aim.Object addr mode) room)
+    wants addr mode room (want.Outside back) is = same back _ is.0 is.2 refl
+    wants addr mode room (want.NoMemory back) is = same back _ is.0 is.2 refl
 
     takes : (block : BlockNo) (addr : Addr) (room : Bool) (answer : Claim) → IsWhole block addr
         → IsClaimed old.core tx addr answer new.core
@@ -201,10 +237,9 @@ module _ (old new : Side) (beyond : NoneTakenBeyond old.core) (notes : NotesAll 
     takes block addr room (claim.Held back) whole is =
         subst (λ (n : ℕ). NotesTaken new.core n (inserted (aim.Claim block) taken)) (sym is.0)
         (notes_more old.core new.core tx taken (aim.Claim block) (for_writing tx addr)
-        (λ had. raised_alone had (for_writing tx addr) refl)
         (λ a. is.2.leaves.holds tx a)
         (inr (subst (λ (b : BlockNo). Contains (inserted (aim.Claim block) taken) (aim.Claim b)) (sym whole.0)
-        (there (aim.Claim block) taken))) (
+        (claim_there block taken))) (
           addr,
           whole,
           now_taken old.core new.core tx addr (for_writing tx addr) (is.2.leaves.holds tx addr)
@@ -286,8 +321,8 @@ module _ (old new : Side) (beyond : NoneTakenBeyond old.core) (notes : NotesAll 
         (ap (λ (s : State). s.known.taken) worker);
     replied = λ job job_is rules core worker none. as_before core (ap (λ (s : State). s.begun.tx) worker)
         (ap (λ (s : State). s.known.taken) worker);
-    wanted = λ tx addr made tx_is next has none. of_state _ has.worker
-        (wants tx tx_is addr new.worker.known.room has.answer has.core);
+    wanted = λ tx addr mode made tx_is next has none. of_state _ has.worker
+        (wants tx tx_is addr mode new.worker.known.room has.answer has.core);
     claimed = λ tx block made tx_is next has none. of_state _ has.worker
         (takes tx tx_is block has.core.0 new.worker.known.room has.answer has.core.1 has.core.2);
     committed = λ job tx done made tx_is next left job_is has none. of_state _ has.worker

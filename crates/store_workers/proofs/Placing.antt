@@ -1,17 +1,21 @@
 -- Lemmas: where an aim is put among others, and the next of what is left.
 use Rattle.std.proofs.Common.{◌≡◌, ◌∙◌, ◌+◌, ◌<◌, ◌≤◌, refl, sym, ap, subst, ℕ, zero, suc, Bool, true, false, cond}
 use Rattle.std.proofs.Common.{◌*◌, ◌||◌, All, nat_le, nat_lt, List, [], ◌∷◌, ◌++◌, Some, None, length, get_or, take, drop}
-use Rattle.std.proofs.Common.{position, arith}
+use Rattle.std.proofs.Common.{position, set, arith}
 use Rattle.std.proofs.lemmas.Bool.Decides.{nat_tests}
 use Rattle.std.proofs.lemmas.Iterator.Adapters.{position_from-zero}
 use Rattle.std.proofs.lemmas.List.{take-append-drop}
 use Rattle.std.specs.List.{insert, position_from}
-use Rattle.std.proofs.lemmas.List.Elements.{All-head, All-tail}
-use Rattle.limits.specs.declared.TheConstants.{BLOCK_BYTES}
-use Rattle.store_promise.specs.Aims.{Rises, bytes_of, inserted, is_above, kind_of, place_of, rank_of}
+use Rattle.store_promise.specs.Aims.{Rises, inserted, is_barred, raised_by, rank_of}
 use Rattle.store_workers.specs.Knowing.{IsNextOf, first_of}
 use Rattle.store_promise.specs.declared.aims.Aim.{Aim}
-use Rattle.store_promise.proofs.RisingAims.{Within, comes_last, within}
+use Rattle.store_promise.proofs.RisingAims.{comes_last, not_barred}
+
+-- an item that is there is it, whatever stands for one that isn't
+pub same_at : (aims : List Aim) (index : ℕ) (d e : Aim) → index < length aims → get_or aims index d ≡ get_or aims index e
+same_at [] index d e less = absurd (omega (arith, less))
+same_at (x ∷ xs) zero d e less = refl
+same_at (x ∷ xs) (suc index) d e less = same_at xs index d e (omega (arith, less))
 
 module _ (one : Aim) where
   -- an aim isn't below it
@@ -34,7 +38,7 @@ module _ (one : Aim) where
 
       by : (t : Bool) → nat_lt (rank_of one) (rank_of x) ≡ t → inserted one (x ∷ xs) ≡ one ∷ x ∷ xs
       by true is = ap (λ b. cond b (one ∷ x ∷ xs) (cond (nat_lt (rank_of x) (rank_of one)) (x ∷ inserted one xs)
-          (x ∷ xs))) is
+          (raised_by one x ∷ xs))) is
       by false is = absurd (let less = strictly (rank_of one) (rank_of x) over differs in grind (arith, nat_tests))
   before (x ∷ xs) (suc index) d less passes first differs =
       by (nat_lt (rank_of one) (rank_of x)) refl (nat_lt (rank_of x) (rank_of one)) refl
@@ -44,22 +48,22 @@ module _ (one : Aim) where
       under = let is = first 0 (omega arith) in grind (arith, nat_tests)
 
       by : (t : Bool) → nat_lt (rank_of one) (rank_of x) ≡ t → (u : Bool) → nat_lt (rank_of x) (rank_of one) ≡ u
-          → inserted one xs ≡ insert xs index one → cond t (one ∷ x ∷ xs) (cond u (x ∷ inserted one xs) (x ∷ xs))
+          → inserted one xs ≡ insert xs index one → cond t (one ∷ x ∷ xs) (cond u (x ∷ inserted one xs) (raised_by one x ∷ xs))
           ≡ x ∷ insert xs index one
       by true is u also rest = absurd (let low = under in grind (arith, nat_tests))
       by false is true also rest = ap (λ (ys : List Aim). x ∷ ys) rest
       by false is false also rest = absurd (let low = under in grind (arith, nat_tests))
 
-  -- where it is
+  -- where its object is, which is raised
   pub there : (aims : List Aim) (index : ℕ) (d : Aim) → index < length aims
       → ((k : ℕ) → k < index → test (get_or aims k d) ≡ false) → rank_of (get_or aims index d) ≡ rank_of one
-      → aims ≡ inserted one aims
+      → inserted one aims ≡ set aims index (raised_by one (get_or aims index d))
   there [] index d less first same = absurd (omega (arith, less))
   there (x ∷ xs) zero d less first same =
       by (nat_lt (rank_of one) (rank_of x)) refl (nat_lt (rank_of x) (rank_of one)) refl
     where
       by : (t : Bool) → nat_lt (rank_of one) (rank_of x) ≡ t → (u : Bool) → nat_lt (rank_of x) (rank_of one) ≡ u
-          → x ∷ xs ≡ cond t (one ∷ x ∷ xs) (cond u (x ∷ inserted one xs) (x ∷ xs))
+          → cond t (one ∷ x ∷ xs) (cond u (x ∷ inserted one xs) (raised_by one x ∷ xs)) ≡ raised_by one x ∷ xs
       by true is u also = absurd (grind (arith, nat_tests))
       by false is true also = absurd (grind (arith, nat_tests))
       by false is false also = refl
@@ -71,7 +75,9 @@ module _ (one : Aim) where
       under = let is = first 0 (omega arith) in grind (arith, nat_tests)
 
       by : (t : Bool) → nat_lt (rank_of one) (rank_of x) ≡ t → (u : Bool) → nat_lt (rank_of x) (rank_of one) ≡ u
-          → xs ≡ inserted one xs → x ∷ xs ≡ cond t (one ∷ x ∷ xs) (cond u (x ∷ inserted one xs) (x ∷ xs))
+          → inserted one xs ≡ set xs index (raised_by one (get_or xs index d))
+          → cond t (one ∷ x ∷ xs) (cond u (x ∷ inserted one xs) (raised_by one x ∷ xs))
+          ≡ x ∷ set xs index (raised_by one (get_or xs index d))
       by true is u also rest = absurd (let low = under in grind (arith, nat_tests))
       by false is true also rest = ap (λ (ys : List Aim). x ∷ ys) rest
       by false is false also rest = absurd (let low = under in grind (arith, nat_tests))
@@ -92,7 +98,7 @@ module _ (one : Aim) where
         where
           go : (t : Bool) → nat_lt (rank_of one) (rank_of x) ≡ t → (u : Bool)
               → nat_lt (rank_of x) (rank_of one) ≡ u → inserted one xs ≡ xs ++ one ∷ []
-              → cond t (one ∷ x ∷ xs) (cond u (x ∷ inserted one xs) (x ∷ xs)) ≡ x ∷ xs ++ one ∷ []
+              → cond t (one ∷ x ∷ xs) (cond u (x ∷ inserted one xs) (raised_by one x ∷ xs)) ≡ x ∷ xs ++ one ∷ []
           go true less u also last = absurd (grind (arith, nat_tests))
           go false less true also last = ap (λ (ys : List Aim). x ∷ ys) last
           go false less false also last = absurd (grind (arith, nat_tests))
@@ -128,41 +134,16 @@ next_taken aims count one rises less is =
       ap (λ (n : ℕ). drop n aims) (one_more count) ∙ sym (ap (λ (xs : List Aim). drop 1 xs) left),
     )
 
--- ---- what is left lies above what is taken
+-- ---- what is left is barred by nothing that is taken
 
-low : (one other : Aim) → rank_of one < rank_of other → place_of one ≤ place_of other
-low one other less = by (place_of one) (place_of other) (bytes_of one) (bytes_of other) (kind_of one) (kind_of other)
-    (within one) (within other) less
-  where
-    by : (p q b c k j : ℕ) → Within b k → Within c j
-        → (p * (BLOCK_BYTES + 1) + b) * 3 + k < (q * (BLOCK_BYTES + 1) + c) * 3 + j → p ≤ q
-    by p q b c k j (b_in, k_in) (c_in, j_in) less = omega (arith, less, b_in, k_in, c_in, j_in)
-
-none_above : (one : Aim) (aims behind : List Aim) → Rises (aims ++ one ∷ behind) → is_above one aims ≡ false
-none_above one [] behind rises = refl
-none_above one (x ∷ xs) behind rises =
-    by (nat_lt (place_of one) (place_of x)) refl (none_above one xs behind rises.1)
-  where
-    below : rank_of x < rank_of one
-    below = All-head (λ (a : Aim). rank_of x < rank_of a) one behind (all_behind xs rises.0)
-      where
-        all_behind : (ys : List Aim) → All (λ (a : Aim). rank_of x < rank_of a) (ys ++ one ∷ behind)
-            → All (λ (a : Aim). rank_of x < rank_of a) (one ∷ behind)
-        all_behind [] all = all
-        all_behind (y ∷ ys) all = all_behind ys (All-tail (λ (a : Aim). rank_of x < rank_of a) y (ys ++ one ∷ behind) all)
-
-    by : (t : Bool) → nat_lt (place_of one) (place_of x) ≡ t → is_above one xs ≡ false → (t || is_above one xs) ≡ false
-    by true is rest = absurd (let first = low x one below in grind (arith, nat_tests))
-    by false is rest = rest
-
-pub next_above : (aims : List Aim) (count : ℕ) (one : Aim) → Rises aims → first_of (drop count aims) ≡ Some one
-    → is_above one (take count aims) ≡ false
-next_above aims count one rises is = by (drop count aims) refl is
+pub next_free : (aims : List Aim) (count : ℕ) (one : Aim) → Rises aims → first_of (drop count aims) ≡ Some one
+    → is_barred one (take count aims) ≡ false
+next_free aims count one rises is = by (drop count aims) refl is
   where
     by : (left : List Aim) → drop count aims ≡ left → first_of left ≡ Some one
-        → is_above one (take count aims) ≡ false
+        → is_barred one (take count aims) ≡ false
     by [] none is = cc
     by (x ∷ xs) some is =
         let same : x ≡ one = cc in
-        none_above one (take count aims) xs (subst Rises (sym (take-append-drop count aims)
+        not_barred one (take count aims) xs (subst Rises (sym (take-append-drop count aims)
         ∙ ap (λ (ys : List Aim). take count aims ++ ys) some ∙ ap (λ (a : Aim). take count aims ++ a ∷ xs) same) rises)

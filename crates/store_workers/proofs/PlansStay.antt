@@ -6,6 +6,7 @@ use Rattle.std.specs.Prelude.{IsSomeAnd}
 use Rattle.std.proofs.lemmas.List.Elements.{All-nil, All-push, All-weaker}
 use Rattle.disk.specs.declared.block.BlockNo.{BlockNo}
 use Rattle.objects.specs.declared.addr.Addr.{Addr}
+use Rattle.objects.specs.declared.mode.Mode.{Mode}
 use Rattle.objects.specs.declared.mode.Mode.TheVariants as modes
 use Rattle.model.specs.Calls.{is_answered_stable}
 use Rattle.nfs_types.specs.declared.reply.Reply.{Reply}
@@ -19,7 +20,7 @@ use Rattle.procs.specs.declared.next.Plan.{Plan}
 use Rattle.procs.specs.declared.next.Plan.TheVariants as plan
 use Rattle.inode.specs.Snap.{is_claimed, is_seen}
 use Rattle.inode.specs.declared.snap.Snap.{Snap}
-use Rattle.txn.specs.Claimed.{IsClaimedBy}
+use Rattle.txn.specs.Claimed.{IsClaimedBy, IsTakenAlone}
 use Rattle.txn.specs.Commit.{IsReadBy}
 use Rattle.txn.specs.Core.{CoreState}
 use Rattle.txn.specs.CoreWindow.{KeepsReads}
@@ -33,10 +34,11 @@ use Rattle.txn.specs.declared.outcomes.Commit.{Commit}
 use Rattle.txn.specs.declared.outcomes.Commit.TheVariants as commit
 use Rattle.txn.specs.declared.outcomes.Want.{Want}
 use Rattle.txn.specs.declared.outcomes.Want.TheVariants as want
-use Rattle.txn_law.specs.Holds.{for_fetching, for_reading, for_writing, is_written, joined}
+use Rattle.txn_law.specs.Holds.{for_fetching, for_reading, for_writing, is_written}
+use Rattle.txn_law.proofs.TakenBy.{is_hold_by}
 use Rattle.txn_law.specs.Wishes.{IsFetched, IsHeld, IsTaken, IsWhole}
 use Rattle.txn_law.specs.declared.hold.Hold.{Hold}
-use Rattle.store_promise.specs.Aims.{is_above}
+use Rattle.store_promise.specs.Aims.{is_barred}
 use Rattle.store_promise.specs.Waiting.{IsAim}
 use Rattle.store_promise.specs.declared.aims.Aim.{Aim}
 use Rattle.store_promise.specs.declared.aims.Aim.TheVariants as aim
@@ -44,13 +46,13 @@ use Rattle.store_promise.specs.declared.answers.Verdict.TheVariants as verdict
 use Rattle.store_promise.specs.declared.events.Step.{Step}
 use Rattle.store_workers.proofs.HowFar.{without_broken_reply, without_reply}
 use Rattle.store_workers.proofs.LoneWorker.{has_of, has_so, seen_of}
-use Rattle.store_workers.proofs.StaysAlone.{all_asked, all_claimed, all_exclusive, alone_for_fetching}
-use Rattle.store_workers.proofs.StaysAlone.{alone_for_reading, alone_for_writing, moved, one_whole, same_taken}
+use Rattle.store_workers.proofs.StaysAlone.{all_alone, all_asked, all_claimed, moved, new_alone, one_whole}
+use Rattle.store_workers.proofs.StaysAlone.{same_taken}
 use Rattle.store_workers.proofs.WorkCases.{Cases, IsWished, by_cases}
 use Rattle.store_workers.specs.Alone.{HasOfCall, HasTaken, PlansAlone}
 use Rattle.store_workers.specs.Beside.{IsLeftOf, NoneTakenBeyond}
 use Rattle.store_workers.specs.Seen.{Seen, seen_in, with_claim, with_object}
-use Rattle.store_workers.specs.WorkerAnswers.{after_commit, begun_claimed, begun_wanted, object, phase_claimed}
+use Rattle.store_workers.specs.WorkerAnswers.{after_commit, begun_claimed, begun_wanted, phase_claimed}
 use Rattle.store_workers.specs.WorkerAnswers.{phase_off, phase_wanted, seen_claimed, seen_held, seen_taken}
 use Rattle.store_workers.specs.WorkerAnswers.{seen_wanted, told_of, with_answer, with_entry}
 use Rattle.store_workers.specs.WorkerSteps.{GoesOn, HasBegun, HasGivenBack, HasClaimed, HasCommitted, HasWanted}
@@ -68,7 +70,6 @@ use Rattle.store_workers.specs.declared.workers.parts.State.{State}
 
 -- it has what it had, and has taken this too
 module _ (core mid : CoreState) (tx : ℕ) (seen : Seen) (addr : Addr) (taken : Hold) (at : taken.addr ≡ addr)
-    (exclusive : (had : Option Hold) → (joined had taken).mode ≡ modes.Exclusive)
     (now : (a : Addr) → taken_by mid tx a ≡ with_taken taken (taken_by core) tx a)
     (blocks : mid.log.blocks ≡ core.log.blocks) (inodes : mid.inodes ≡ core.inodes)
     (reads : KeepsReads core mid tx) (asks : Asks seen.geometry addr) (has : HasOfCall tx core seen) where
@@ -77,26 +78,26 @@ module _ (core mid : CoreState) (tx : ℕ) (seen : Seen) (addr : Addr) (taken : 
     blocks = has.blocks ∙ sym blocks;
     inodes = has.inodes ∙ sym inodes;
     claims = has.claims;
-    claimed = all_claimed core mid tx addr taken at exclusive now seen.claims has.claimed;
+    claimed = all_claimed core mid tx addr taken at now seen.claims has.claimed;
     were = has.were;
     read = All-weaker (IsReadBy core tx) (IsReadBy mid tx) (λ object is. reads object is) seen.objects has.read;
-    exclusive = all_exclusive core mid tx addr taken at exclusive now has.exclusive;
-    asked = all_asked core mid tx addr taken at exclusive now (λ a. Asks seen.geometry a) has.asked asks;
+    alone = all_alone core mid tx addr taken at now seen.objects has.read has.alone;
+    asked = all_asked core mid tx addr taken at now (λ a. Asks seen.geometry a) has.asked asks;
   }
 
-module _ (core mid : CoreState) (tx : ℕ) (seen : Seen) (addr : Addr) (asks : Asks seen.geometry addr)
+module _ (core mid : CoreState) (tx : ℕ) (seen : Seen) (addr : Addr) (mode : Mode) (asks : Asks seen.geometry addr)
     (reads : KeepsReads core mid tx) (has : HasOfCall tx core seen) where
-  pub with_held : (bytes : List ℕ) → IsHeld core tx addr modes.Exclusive bytes mid → HasOfCall tx mid seen
+  pub with_held : (bytes : List ℕ) → IsHeld core tx addr mode bytes mid → HasOfCall tx mid seen
   with_held bytes held =
-      hold_more core mid tx seen addr (for_reading tx addr modes.Exclusive) refl (alone_for_reading tx addr)
+      hold_more core mid tx seen addr (for_reading tx addr mode) refl
       (λ a. held.leaves.holds tx a) (ap (λ (c : CoreState). c.log.blocks) held.only)
       (ap (λ (c : CoreState). c.inodes) held.only) reads asks has
 
-  -- it is read too, where it wasn't
-  pub with_read : (bytes : List ℕ) → is_seen addr seen.objects ≡ false
-      → IsHeld core tx addr modes.Exclusive bytes mid
+  -- it is read too, alone, where it wasn't
+  pub with_read : (bytes : List ℕ) → is_seen addr seen.objects ≡ false → mode ≡ modes.Exclusive
+      → IsHeld core tx addr mode bytes mid
       → HasOfCall tx mid (record seen { objects = seen.objects ++ record { addr = addr; bytes = bytes } ∷ [] })
-  with_read bytes new_to_it held =
+  with_read bytes new_to_it exclusive held =
       let object : ObjectBytes = record { addr = addr; bytes = bytes } in
       let more = with_held bytes held in record {
         blocks = more.blocks;
@@ -105,19 +106,23 @@ module _ (core mid : CoreState) (tx : ℕ) (seen : Seen) (addr : Addr) (asks : A
         claimed = more.claimed;
         were = one_asked_once seen.geometry seen.objects object has.were asks new_to_it;
         read = All-push (IsReadBy mid tx) seen.objects object more.read held.read;
-        exclusive = more.exclusive;
+        alone = All-push (λ (o : ObjectBytes). IsTakenAlone mid tx o.addr) seen.objects object more.alone
+            (new_alone core mid tx addr (for_reading tx addr mode) refl (λ a. held.leaves.holds tx a)
+            (is_hold_by tx addr (for_reading tx addr mode) refl refl refl refl) exclusive);
         asked = more.asked;
       }
 
-  pub with_fetch : (io : Fetch) → IsFetched core tx addr modes.Exclusive io mid → HasOfCall tx mid seen
+  pub with_fetch : (io : Fetch) → IsFetched core tx addr mode io mid → HasOfCall tx mid seen
   with_fetch io fetched =
-      hold_more core mid tx seen addr (for_fetching tx addr modes.Exclusive) refl (alone_for_fetching tx addr)
+      hold_more core mid tx seen addr (for_fetching tx addr mode) refl
       (λ a. fetched.leaves.holds tx a) (ap (λ (c : CoreState). c.log.blocks) fetched.only)
       (ap (λ (c : CoreState). c.inodes) fetched.only) reads asks has
 
+module _ (core mid : CoreState) (tx : ℕ) (seen : Seen) (addr : Addr) (asks : Asks seen.geometry addr)
+    (reads : KeepsReads core mid tx) (has : HasOfCall tx core seen) where
   pub with_whole : IsTaken core tx addr mid → HasOfCall tx mid seen
   with_whole took =
-      hold_more core mid tx seen addr (for_writing tx addr) refl (alone_for_writing tx addr)
+      hold_more core mid tx seen addr (for_writing tx addr) refl
       (λ a. took.leaves.holds tx a) (ap (λ (c : CoreState). c.log.blocks) took.only)
       (ap (λ (c : CoreState). c.inodes) took.only) reads asks has
 
@@ -135,7 +140,7 @@ module _ (core mid : CoreState) (tx : ℕ) (seen : Seen) (addr : Addr) (asks : A
             ∙ took.written.held);
         were = more.were;
         read = more.read;
-        exclusive = more.exclusive;
+        alone = more.alone;
         asked = more.asked;
       }
 
@@ -218,7 +223,9 @@ module _ (old new : Side) (keeps : KeepsReadsOf old new) (beyond : NoneTakenBeyo
                 (sym saw.objects) (none_read seen.geometry);
             read = subst (λ (objects : List ObjectBytes). All (IsReadBy new.core number) objects)
                 (sym saw.objects) (All-nil (IsReadBy new.core number));
-            exclusive = λ addr hold is. absurd (nothing addr hold is);
+            alone = subst (λ (objects : List ObjectBytes). All (λ (o : ObjectBytes).
+                IsTakenAlone new.core number o.addr) objects) (sym saw.objects)
+                (All-nil (λ (o : ObjectBytes). IsTakenAlone new.core number o.addr));
             asked = λ addr hold is. absurd (nothing addr hold is);
           })
         where
@@ -231,6 +238,10 @@ module _ (old new : Side) (keeps : KeepsReadsOf old new) (beyond : NoneTakenBeyo
   module _ (tx : ℕ) (tx_is : old.worker.begun.tx ≡ Some tx) (job : Job) (job_is : old.worker.work.job ≡ Some job)
       (seen : Seen) (seen_is : seen_in old.worker.work.snap ≡ Some seen) (new_job : new.worker.work.job ≡ Some job)
       (has : HasOfCall tx old.core seen) where
+    -- an object is new to what was read, and asked for alone
+    abbrev IsNewTo : Addr → Mode → Type 0
+    IsNewTo addr mode = (is_seen addr seen.objects ≡ false) × (mode ≡ modes.Exclusive)
+
     -- it is told that it has its transaction still
     module _ (back : ℕ) (same : back ≡ tx) (got : new.worker.begun.tx ≡ Some back) where
       new_tx : new.worker.begun.tx ≡ Some tx
@@ -247,34 +258,35 @@ module _ (old new : Side) (keeps : KeepsReadsOf old new) (beyond : NoneTakenBeyo
 
       off : (wished : Aim) → new.core ≡ old.core → seen_in new.worker.work.snap ≡ seen_in old.worker.work.snap
           → PlansAlone (phase_off wished old.worker.known) new.worker new.core
-      off wished core seen_same = by (is_above wished old.worker.known.taken)
+      off wished core seen_same = by (is_barred wished old.worker.known.taken)
         where
           by : (above : Bool) → PlansAlone (if above then Again else Planning) new.worker new.core
           by true = tt
           by false = as_before core seen_same
 
-      held : (addr : Addr) (bytes : List ℕ) → Asks seen.geometry addr
-          → (old.worker.known.left ≡ [] → is_seen addr seen.objects ≡ false)
-          → IsHeld old.core tx addr modes.Exclusive bytes new.core
+      held : (addr : Addr) (mode : Mode) (bytes : List ℕ) → Asks seen.geometry addr
+          → (old.worker.known.left ≡ [] → IsNewTo addr mode)
+          → IsHeld old.core tx addr mode bytes new.core
           → seen_in new.worker.work.snap
           ≡ seen_held old.worker.known.left addr bytes (seen_in old.worker.work.snap)
           → HasTaken new.worker new.core
-      held addr bytes asks new_to_it is then_seen = by old.worker.known.left refl
+      held addr mode bytes asks new_to_it is then_seen = by old.worker.known.left refl
         where
           by : (left : List Aim) → old.worker.known.left ≡ left → HasTaken new.worker new.core
           by [] none = has_so new.worker new.core job tx _ new_job new_tx
               (then_seen ∙ ap (λ l. seen_held l addr bytes (seen_in old.worker.work.snap)) none
               ∙ ap (with_object addr bytes) seen_is)
-              (with_read old.core new.core tx seen addr asks reads has bytes (new_to_it none) is)
+              (with_read old.core new.core tx seen addr mode asks reads has bytes (new_to_it none).0 (new_to_it none).1
+              is)
           by (next ∷ later) some = has_so new.worker new.core job tx seen new_job new_tx
               (then_seen ∙ ap (λ l. seen_held l addr bytes (seen_in old.worker.work.snap)) some ∙ seen_is)
-              (with_held old.core new.core tx seen addr asks reads has bytes is)
+              (with_held old.core new.core tx seen addr mode asks reads has bytes is)
 
-      fetched : (addr : Addr) (io : Fetch) → Asks seen.geometry addr
-          → IsFetched old.core tx addr modes.Exclusive io new.core
+      fetched : (addr : Addr) (mode : Mode) (io : Fetch) → Asks seen.geometry addr
+          → IsFetched old.core tx addr mode io new.core
           → seen_in new.worker.work.snap ≡ seen_in old.worker.work.snap → HasTaken new.worker new.core
-      fetched addr io asks is seen_same = has_so new.worker new.core job tx seen new_job new_tx
-          (seen_same ∙ seen_is) (with_fetch old.core new.core tx seen addr asks reads has io is)
+      fetched addr mode io asks is seen_same = has_so new.worker new.core job tx seen new_job new_tx
+          (seen_same ∙ seen_is) (with_fetch old.core new.core tx seen addr mode asks reads has io is)
 
       claims : (block : BlockNo) (addr : Addr) → Claims seen.geometry block
           → (old.worker.known.left ≡ [] → is_claimed block seen.claims ≡ false) → IsWhole block addr
@@ -296,23 +308,23 @@ module _ (old new : Side) (keeps : KeepsReadsOf old new) (beyond : NoneTakenBeyo
               (then_seen ∙ ap (λ l. seen_taken l block (seen_in old.worker.work.snap)) some ∙ seen_is)
               (with_whole old.core new.core tx seen addr asks reads has is)
 
-    wants : (addr : Addr) (answer : Want) → Asks seen.geometry addr
-        → (old.worker.known.left ≡ [] → is_seen addr seen.objects ≡ false)
-        → IsWanted old.core tx addr modes.Exclusive answer new.core
+    wants : (addr : Addr) (mode : Mode) (answer : Want) → Asks seen.geometry addr
+        → (old.worker.known.left ≡ [] → IsNewTo addr mode)
+        → IsWanted old.core tx addr mode answer new.core
         → new.worker.begun ≡ begun_wanted answer
         → seen_in new.worker.work.snap
         ≡ seen_wanted old.worker.known.left addr answer (seen_in old.worker.work.snap)
-        → PlansAlone (phase_wanted addr answer old.worker.known) new.worker new.core
-    wants addr (want.Held back bytes) asks new_to_it is got then_seen =
-        held back is.0 (ap (λ (b : Begun). b.tx) got) addr bytes asks new_to_it is.2 then_seen
-    wants addr (want.Fetch back io) asks new_to_it is got then_seen =
-        fetched back is.0 (ap (λ (b : Begun). b.tx) got) addr io asks is.2 then_seen
-    wants addr (want.Busy back) asks new_to_it is got then_seen =
-        off back is.0 (ap (λ (b : Begun). b.tx) got) (object addr) is.2 then_seen
-    wants addr (want.Loading back) asks new_to_it is got then_seen =
-        off back is.0 (ap (λ (b : Begun). b.tx) got) (object addr) is.2 then_seen
-    wants addr (want.Outside back) asks new_to_it is got then_seen = tt
-    wants addr (want.NoMemory back) asks new_to_it is got then_seen = tt
+        → PlansAlone (phase_wanted addr mode answer old.worker.known) new.worker new.core
+    wants addr mode (want.Held back bytes) asks new_to_it is got then_seen =
+        held back is.0 (ap (λ (b : Begun). b.tx) got) addr mode bytes asks new_to_it is.2 then_seen
+    wants addr mode (want.Fetch back io) asks new_to_it is got then_seen =
+        fetched back is.0 (ap (λ (b : Begun). b.tx) got) addr mode io asks is.2 then_seen
+    wants addr mode (want.Busy back) asks new_to_it is got then_seen =
+        off back is.0 (ap (λ (b : Begun). b.tx) got) (aim.Object addr mode) is.2 then_seen
+    wants addr mode (want.Loading back) asks new_to_it is got then_seen =
+        off back is.0 (ap (λ (b : Begun). b.tx) got) (aim.Object addr mode) is.2 then_seen
+    wants addr mode (want.Outside back) asks new_to_it is got then_seen = tt
+    wants addr mode (want.NoMemory back) asks new_to_it is got then_seen = tt
 
     takes : (block : BlockNo) (addr : Addr) (answer : Claim) → Claims seen.geometry block
         → (old.worker.known.left ≡ [] → is_claimed block seen.claims ≡ false) → IsWhole block addr
@@ -330,18 +342,19 @@ module _ (old new : Side) (keeps : KeepsReadsOf old new) (beyond : NoneTakenBeyo
     takes block addr (claim.Outside back) may new_to_it whole is got then_seen = tt
     takes block addr (claim.NoMemory back) may new_to_it whole is got then_seen = tt
 
-  wanted_so : (tx : ℕ) (addr : Addr) (made : Step) → old.worker.begun.tx ≡ Some tx
-      → IsWished old.worker (object addr) (plan.Need addr) → HasWanted tx addr old made new
+  wanted_so : (tx : ℕ) (addr : Addr) (mode : Mode) (made : Step) → old.worker.begun.tx ≡ Some tx
+      → IsWished old.worker (aim.Object addr mode) (plan.Need addr mode) → HasWanted tx addr mode old made new
       → old.worker.phase ≡ Planning → PlansAlone Planning old.worker old.core
       → PlansAlone new.worker.phase new.worker new.core
-  wanted_so tx addr made tx_is wished has at plans =
-      let is = wish_by old.worker (object addr) (plan.Need addr) (λ seen. is_seen addr seen.objects ≡ false)
-      (λ snap planned. ((planned.1, refl), planned.0)) (left_of at) wished in
+  wanted_so tx addr mode made tx_is wished has at plans =
+      let is = wish_by old.worker (aim.Object addr mode) (plan.Need addr mode)
+      (λ seen. (is_seen addr seen.objects ≡ false) × (mode ≡ modes.Exclusive))
+      (λ snap planned. (planned.1, (planned.0, planned.2))) (left_of at) wished in
       by_phase _ (ap (λ (s : State). s.phase) has.worker)
       (wants tx tx_is is.job is.job_is (seen_of is.snap) is.snap_is
       (ap (λ (s : State). s.work.job) has.worker ∙ is.job_is)
       (has_of old.worker old.core is.job tx (seen_of is.snap) is.job_is tx_is is.snap_is plans)
-      addr has.answer is.is_aim.0 is.new_to_it has.core (ap (λ (s : State). s.begun) has.worker) has.seen)
+      addr mode has.answer is.is_aim is.new_to_it has.core (ap (λ (s : State). s.begun) has.worker) has.seen)
 
   claimed_so : (tx : ℕ) (block : BlockNo) (made : Step) → old.worker.begun.tx ≡ Some tx
       → IsWished old.worker (aim.Claim block) (plan.Claim block) → HasClaimed tx block old made new
@@ -426,7 +439,7 @@ module _ (old new : Side) (keeps : KeepsReadsOf old new) (beyond : NoneTakenBeyo
     begun = λ job number job_is rules has at plans. begins job number has;
     not_begun = λ job why job_is rules none core worker at plans. by_state _ worker tt;
     replied = λ job job_is rules core worker at plans. by_state _ worker tt;
-    wanted = λ tx addr made tx_is next has at plans. wanted_so tx addr made tx_is next has at plans;
+    wanted = λ tx addr mode made tx_is next has at plans. wanted_so tx addr mode made tx_is next has at plans;
     claimed = λ tx block made tx_is next has at plans. claimed_so tx block made tx_is next has at plans;
     committed = λ job tx done made tx_is next none job_is has at plans.
         committed_so job tx done made tx_is has plans;

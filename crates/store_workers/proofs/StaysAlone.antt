@@ -4,9 +4,9 @@ use Rattle.std.proofs.Common.{inl, inr, if◌then◌else◌, cond, nat_eq, Optio
 use Rattle.std.specs.Prelude.{IsSomeAnd, option_to_list}
 use Rattle.std.specs.List.{list_any}
 use Rattle.std.proofs.lemmas.Bool.{eqb-true}
-use Rattle.std.proofs.lemmas.List.Elements.{All-contains, All-nil, All-push, All-weaker}
+use Rattle.std.proofs.lemmas.List.Elements.{All-contains, All-cons, All-head, All-nil, All-push, All-tail, All-weaker}
 use Rattle.disk.specs.declared.block.BlockNo.{BlockNo}
-use Rattle.objects.specs.Mode.{is_exclusive}
+use Rattle.objects.specs.Mode.{is_exclusive, raised}
 use Rattle.objects.specs.declared.addr.Addr.{Addr}
 use Rattle.objects.specs.declared.mode.Mode.{Mode}
 use Rattle.objects.specs.declared.mode.Mode.TheVariants as modes
@@ -21,7 +21,7 @@ use Rattle.procs.specs.Planned.{IsPlanFor}
 use Rattle.procs.specs.declared.next.Plan.{Plan}
 use Rattle.procs.specs.declared.next.Plan.TheVariants as plan
 use Rattle.inode.specs.declared.snap.Snap.{Snap}
-use Rattle.txn.specs.Claimed.{IsClaimedBy}
+use Rattle.txn.specs.Claimed.{IsClaimedBy, IsTakenAlone}
 use Rattle.txn.specs.Commit.{IsReadBy}
 use Rattle.txn.specs.Core.{CoreState}
 use Rattle.txn.specs.CoreWindow.{KeepsReads}
@@ -36,12 +36,13 @@ use Rattle.txn.specs.declared.outcomes.Commit.{Commit}
 use Rattle.txn.specs.declared.outcomes.Commit.TheVariants as commit
 use Rattle.txn.specs.declared.outcomes.Want.{Want}
 use Rattle.txn.specs.declared.outcomes.Want.TheVariants as want
-use Rattle.txn_law.specs.Holds.{for_fetching, for_reading, for_writing, is_hold_of, is_written, joined}
+use Rattle.txn_law.specs.Holds.{for_fetching, for_reading, for_writing, is_hold_of, is_read, is_written, joined}
 use Rattle.txn_law.specs.Tidy.{IsOfOne}
 use Rattle.txn_law.specs.Wishes.{IsFetched, IsHeld, IsTaken, IsWhole}
 use Rattle.txn_law.specs.declared.hold.Hold.{Hold}
 use Rattle.txn_law.proofs.Again as again
 use Rattle.txn_law.proofs.Claims.{all_four, found_by}
+use Rattle.txn_law.proofs.TakenBy.{is_hold_by}
 use Rattle.wal_law.specs.Log.{added_blocks}
 use Rattle.txn.specs.Group.{blocks_of}
 use Rattle.store_promise.specs.declared.answers.Verdict.{Verdict}
@@ -57,14 +58,14 @@ use Rattle.store_workers.proofs.StepKinds.{Beginning, IsTold, beginning, ending}
 use Rattle.store_workers.proofs.StepKinds.{begun, refused, replied, lacked, committed}
 use Rattle.store_workers.specs.Alone.{HasOfCall, HasTaken, IsOutAlone, LeavesNothing, PlansAlone, StaysAlone}
 use Rattle.store_workers.specs.Alone.{is_full}
-use Rattle.store_promise.specs.Aims.{is_above}
+use Rattle.store_promise.specs.Aims.{is_barred}
 use Rattle.store_promise.specs.declared.aims.Aim.{Aim}
 use Rattle.store_promise.specs.declared.aims.Aim.TheVariants as aim
 use Rattle.store_images.specs.Fetches.{FetchesOnly, is_fetch_of}
 use Rattle.store_workers.specs.Phases.{has_fetch, has_transaction}
 use Rattle.store_workers.specs.Seen.{Seen, seen_in, with_claim, with_object}
 use Rattle.store_workers.specs.WorkerAnswers.{after_commit, begun_claimed, begun_wanted, committing_of}
-use Rattle.store_workers.specs.WorkerAnswers.{object, phase_claimed, phase_off, phase_wanted, seen_claimed}
+use Rattle.store_workers.specs.WorkerAnswers.{phase_claimed, phase_off, phase_wanted, seen_claimed}
 use Rattle.store_workers.specs.WorkerAnswers.{seen_held, seen_taken, seen_wanted, told_of}
 use Rattle.store_workers.specs.WorkerAnswers.{with_answer, with_entry}
 use Rattle.store_workers.specs.WorkerSteps.{GoesByNext, GoesOn, HasAborted, HasBegun, HasGivenBack, HasLacked}
@@ -95,7 +96,8 @@ moved tx seen core mid blocks inodes same reads has = record {
       seen.claims has.claimed;
   were = has.were;
   read = All-weaker (IsReadBy core tx) (IsReadBy mid tx) (λ object is. reads object is) seen.objects has.read;
-  exclusive = λ addr hold is. has.exclusive addr hold (sym (same addr) ∙ is);
+  alone = All-weaker (λ (o : ObjectBytes). IsTakenAlone core tx o.addr) (λ (o : ObjectBytes). IsTakenAlone mid tx o.addr)
+      (λ o is hold taken. is hold (sym (same o.addr) ∙ taken)) seen.objects has.alone;
   asked = λ addr hold is. has.asked addr hold (sym (same addr) ∙ is);
 }
 
@@ -142,20 +144,60 @@ either true false false more also is = absurd (true≢false (sym is))
 either true false true true also is = refl
 either true false true false also is = refl
 
--- what is taken then: what was, and the address, alone
+-- what is held for writing is held alone
+exclusive_is : (mode : Mode) (held : Bool) → (is_exclusive mode && held) ≡ true → mode ≡ modes.Exclusive
+exclusive_is modes.Exclusive held is = refl
+exclusive_is modes.Shared held is = absurd (true≢false (sym is))
+
+-- a mode that is raised
+raised_so : (had wished : Mode) → had ≡ modes.Exclusive → raised had wished ≡ modes.Exclusive
+raised_so had modes.Shared is = is
+raised_so had modes.Exclusive is = refl
+
+raised_alone : (had wished : Mode) → wished ≡ modes.Exclusive → raised had wished ≡ modes.Exclusive
+raised_alone had wished is = ap (raised had) is
+
+-- what is taken then: what was, and the address
 module _ (core mid : CoreState) (tx : ℕ) (addr : Addr) (taken : Hold) (at : taken.addr ≡ addr)
-    (exclusive : (had : Option Hold) → (joined had taken).mode ≡ modes.Exclusive)
     (now : (a : Addr) → taken_by mid tx a ≡ with_taken taken (taken_by core) tx a) where
-  pub all_exclusive : ((a : Addr) (hold : Hold) → taken_by core tx a ≡ Some hold → hold.mode ≡ modes.Exclusive)
-      → (a : Addr) (hold : Hold) → taken_by mid tx a ≡ Some hold → hold.mode ≡ modes.Exclusive
-  all_exclusive were a hold is = by (is_hold_of tx a taken) (sym (now a) ∙ is)
+  -- what was taken alone is so still
+  alone_still : (a : Addr) → is_some (taken_by core tx a) ≡ true → IsTakenAlone core tx a → IsTakenAlone mid tx a
+  alone_still a had were hold is = by (taken_by core tx a) refl (is_hold_of tx a taken) had (sym (now a) ∙ is)
     where
-      by : (mine : Bool)
-          → cond mine (Some (joined (taken_by core tx a) taken)) (taken_by core tx a) ≡ Some hold
-          → hold.mode ≡ modes.Exclusive
-      by true is = let same : joined (taken_by core tx a) taken ≡ hold = cc in
-          ap (λ (h : Hold). h.mode) (sym same) ∙ exclusive (taken_by core tx a)
-      by false is = were a hold is
+      by : (found : Option Hold) → taken_by core tx a ≡ found → (mine : Bool) → is_some found ≡ true
+          → cond mine (Some (joined found taken)) found ≡ Some hold → hold.mode ≡ modes.Exclusive
+      by None found mine none is = absurd (true≢false (sym none))
+      by (Some x) found true had is =
+          let same : joined (Some x) taken ≡ hold = cc in
+          ap (λ (h : Hold). h.mode) (sym same) ∙ raised_so x.mode taken.mode (were x found)
+      by (Some x) found false had is = were hold (found ∙ is)
+
+  -- what is read was taken
+  was_taken : (found : Option Hold) → is_read found ≡ true → is_some found ≡ true
+  was_taken None none = absurd (true≢false (sym none))
+  was_taken (Some x) is = refl
+
+  pub all_alone : (objects : List ObjectBytes) → All (IsReadBy core tx) objects
+      → All (λ (o : ObjectBytes). IsTakenAlone core tx o.addr) objects
+      → All (λ (o : ObjectBytes). IsTakenAlone mid tx o.addr) objects
+  all_alone [] reads were = All-nil (λ (o : ObjectBytes). IsTakenAlone mid tx o.addr)
+  all_alone (o ∷ os) reads were = All-cons (λ (o : ObjectBytes). IsTakenAlone mid tx o.addr) o os
+      (alone_still o.addr (was_taken (taken_by core tx o.addr) (All-head (IsReadBy core tx) o os reads).held)
+      (All-head (λ (o : ObjectBytes). IsTakenAlone core tx o.addr) o os were))
+      (all_alone os (All-tail (IsReadBy core tx) o os reads)
+      (All-tail (λ (o : ObjectBytes). IsTakenAlone core tx o.addr) o os were))
+
+  -- and what is taken alone now is
+  pub new_alone : is_hold_of tx addr taken ≡ true → taken.mode ≡ modes.Exclusive → IsTakenAlone mid tx addr
+  new_alone own alone hold is = by (taken_by core tx addr)
+      (sym (ap (λ (b : Bool). cond b (Some (joined (taken_by core tx addr) taken)) (taken_by core tx addr)) own)
+      ∙ sym (now addr) ∙ is)
+    where
+      by : (had : Option Hold) → Some (joined had taken) ≡ Some hold → hold.mode ≡ modes.Exclusive
+      by None is = let same : taken ≡ hold = cc in ap (λ (h : Hold). h.mode) (sym same) ∙ alone
+      by (Some x) is =
+          let same : joined (Some x) taken ≡ hold = cc in
+          ap (λ (h : Hold). h.mode) (sym same) ∙ raised_alone x.mode taken.mode alone
 
   pub all_asked : (P : Addr → Type 0) → ((a : Addr) (hold : Hold) → taken_by core tx a ≡ Some hold
       → P a) → P addr
@@ -183,66 +225,54 @@ module _ (core mid : CoreState) (tx : ℕ) (addr : Addr) (taken : Hold) (at : ta
       by None true is = absurd (true≢false (sym is))
       by (Some had) true is =
           ap (λ (m : Mode). is_exclusive m && ((had.is_read || taken.is_read)
-          || (had.is_claimed || taken.is_claimed))) (exclusive (Some had))
+          || (had.is_claimed || taken.is_claimed)))
+          (raised_so had.mode taken.mode (exclusive_is had.mode (had.is_read || had.is_claimed) is))
           ∙ either (is_exclusive had.mode) had.is_read had.is_claimed taken.is_read taken.is_claimed is
 
-pub alone_for_reading : (tx : ℕ) (addr : Addr) (had : Option Hold)
-    → (joined had (for_reading tx addr modes.Exclusive)).mode ≡ modes.Exclusive
-alone_for_reading tx addr None = refl
-alone_for_reading tx addr (Some had) = refl
-
-pub alone_for_fetching : (tx : ℕ) (addr : Addr) (had : Option Hold)
-    → (joined had (for_fetching tx addr modes.Exclusive)).mode ≡ modes.Exclusive
-alone_for_fetching tx addr None = refl
-alone_for_fetching tx addr (Some had) = refl
-
-pub alone_for_writing : (tx : ℕ) (addr : Addr) (had : Option Hold)
-    → (joined had (for_writing tx addr)).mode ≡ modes.Exclusive
-alone_for_writing tx addr None = refl
-alone_for_writing tx addr (Some had) = refl
-
 module _ (core mid : CoreState) (tx : ℕ) (snap : Snap) (addr : Addr)
-    (has : HasOfCall tx core (seen_of snap)) (is_plan : IsPlanFor snap (plan.Need addr))
+    (mode : Mode) (has : HasOfCall tx core (seen_of snap)) (is_plan : IsPlanFor snap (plan.Need addr mode))
     (reads : KeepsReads core mid tx) where
-  pub read_one : (bytes : List ℕ) → IsHeld core tx addr modes.Exclusive bytes mid
+  pub read_one : (bytes : List ℕ) → IsHeld core tx addr mode bytes mid
       → HasOfCall tx mid (record (seen_of snap) {
         objects = snap.objects.items ++ record { addr = addr; bytes = bytes } ∷ [];
       })
   read_one bytes held =
-      let taken = for_reading tx addr modes.Exclusive in
+      let taken = for_reading tx addr mode in
       let object : ObjectBytes = record { addr = addr; bytes = bytes } in
       record {
         blocks = has.blocks ∙ sym (ap (λ (c : CoreState). c.log.blocks) held.only);
         inodes = has.inodes ∙ sym (ap (λ (c : CoreState). c.inodes) held.only);
         claims = has.claims;
-        claimed = all_claimed core mid tx addr taken refl (alone_for_reading tx addr)
+        claimed = all_claimed core mid tx addr taken refl
             (λ a. held.leaves.holds tx a) snap.claims.items has.claimed;
         were = one_asked_once snap.geometry snap.objects.items object has.were is_plan.1 is_plan.0;
         read = All-push (IsReadBy mid tx) snap.objects.items object
             (All-weaker (IsReadBy core tx) (IsReadBy mid tx) (λ object is. reads object is)
             snap.objects.items has.read) held.read;
-        exclusive = all_exclusive core mid tx addr taken refl (alone_for_reading tx addr)
-            (λ a. held.leaves.holds tx a) has.exclusive;
-        asked = all_asked core mid tx addr taken refl (alone_for_reading tx addr) (λ a. held.leaves.holds tx a)
+        alone = All-push (λ (o : ObjectBytes). IsTakenAlone mid tx o.addr) snap.objects.items object
+            (all_alone core mid tx addr taken refl (λ a. held.leaves.holds tx a) snap.objects.items has.read has.alone)
+            (new_alone core mid tx addr taken refl (λ a. held.leaves.holds tx a)
+            (is_hold_by tx addr taken refl refl refl refl) is_plan.2);
+        asked = all_asked core mid tx addr taken refl (λ a. held.leaves.holds tx a)
             (λ a. Asks snap.geometry a) has.asked is_plan.1;
       }
 
-  pub fetch_one : (io : Fetch) → IsFetched core tx addr modes.Exclusive io mid
+  pub fetch_one : (io : Fetch) → IsFetched core tx addr mode io mid
       → HasOfCall tx mid (seen_of snap)
   fetch_one io fetched =
-      let taken = for_fetching tx addr modes.Exclusive in
+      let taken = for_fetching tx addr mode in
       record {
         blocks = has.blocks ∙ sym (ap (λ (c : CoreState). c.log.blocks) fetched.only);
         inodes = has.inodes ∙ sym (ap (λ (c : CoreState). c.inodes) fetched.only);
         claims = has.claims;
-        claimed = all_claimed core mid tx addr taken refl (alone_for_fetching tx addr)
+        claimed = all_claimed core mid tx addr taken refl
             (λ a. fetched.leaves.holds tx a) snap.claims.items has.claimed;
         were = has.were;
         read = All-weaker (IsReadBy core tx) (IsReadBy mid tx) (λ object is. reads object is) snap.objects.items
             has.read;
-        exclusive = all_exclusive core mid tx addr taken refl (alone_for_fetching tx addr)
-            (λ a. fetched.leaves.holds tx a) has.exclusive;
-        asked = all_asked core mid tx addr taken refl (alone_for_fetching tx addr)
+        alone = all_alone core mid tx addr taken refl (λ a. fetched.leaves.holds tx a) snap.objects.items has.read
+            has.alone;
+        asked = all_asked core mid tx addr taken refl
             (λ a. fetched.leaves.holds tx a) (λ a. Asks snap.geometry a)
             has.asked is_plan.1;
       }
@@ -265,16 +295,16 @@ claim_one core mid tx snap block addr has is_plan reads whole took =
       inodes = has.inodes ∙ sym (ap (λ (c : CoreState). c.inodes) took.only);
       claims = one_claimed_once snap.geometry snap.claims.items block has.claims is_plan.1 is_plan.0;
       claimed = All-push (IsClaimedBy mid tx) snap.claims.items block
-          (all_claimed core mid tx addr taken refl (alone_for_writing tx addr)
+          (all_claimed core mid tx addr taken refl
           (λ a. took.leaves.holds tx a) snap.claims.items has.claimed)
           (λ a is. ap (λ (a : Addr). is_written (taken_by mid tx a)) (one_whole block a addr is whole)
           ∙ took.written.held);
       were = has.were;
       read = All-weaker (IsReadBy core tx) (IsReadBy mid tx) (λ object is. reads object is) snap.objects.items
           has.read;
-      exclusive = all_exclusive core mid tx addr taken refl (alone_for_writing tx addr)
-          (λ a. took.leaves.holds tx a) has.exclusive;
-      asked = all_asked core mid tx addr taken refl (alone_for_writing tx addr) (λ a. took.leaves.holds tx a)
+      alone = all_alone core mid tx addr taken refl (λ a. took.leaves.holds tx a) snap.objects.items has.read
+          has.alone;
+      asked = all_asked core mid tx addr taken refl (λ a. took.leaves.holds tx a)
           (λ a. Asks snap.geometry a) has.asked (claimed_object snap.geometry block addr is_plan.1 whole);
     }
 
@@ -322,7 +352,9 @@ module _ (old new : Side) (tidy : AreTidy old.core) (alone : IsOutAlone old.work
                 (sym saw.objects) (none_read seen.geometry);
             read = subst (λ (objects : List ObjectBytes). All (IsReadBy new.core number) objects)
                 (sym saw.objects) (All-nil (IsReadBy new.core number));
-            exclusive = λ addr hold is. absurd (nothing addr hold is);
+            alone = subst (λ (objects : List ObjectBytes). All (λ (o : ObjectBytes).
+                IsTakenAlone new.core number o.addr) objects) (sym saw.objects)
+                (All-nil (λ (o : ObjectBytes). IsTakenAlone new.core number o.addr));
             asked = λ addr hold is. absurd (nothing addr hold is);
           })
         where
@@ -348,16 +380,16 @@ module _ (old new : Side) (tidy : AreTidy old.core) (alone : IsOutAlone old.work
         -- who is kept off has what it had
         off_plans : (wished : Aim) → HasTaken new.worker new.core
             → PlansAlone (phase_off wished old.worker.known) new.worker new.core
-        off_plans wished taken = by (is_above wished old.worker.known.taken)
+        off_plans wished taken = by (is_barred wished old.worker.known.taken)
           where
             by : (above : Bool) → PlansAlone (if above then Again else Planning) new.worker new.core
             by true = tt
             by false = taken
 
-        wanted_so : (addr : Addr) (made : Step) → IsPlanFor snap (plan.Need addr)
-            → HasWanted tx addr old made new
+        wanted_so : (addr : Addr) (mode : Mode) (made : Step) → IsPlanFor snap (plan.Need addr mode)
+            → HasWanted tx addr mode old made new
             → StaysLeft (Some made) new.worker new.core
-        wanted_so addr made is_plan wanted =
+        wanted_so addr mode made is_plan wanted =
             by wanted.answer wanted.core (ap (λ (s : State). s.phase) wanted.worker)
             (ap (λ (s : State). s.begun) wanted.worker) wanted.seen
           where
@@ -380,8 +412,8 @@ module _ (old new : Side) (tidy : AreTidy old.core) (alone : IsOutAlone old.work
             still : new.core ≡ old.core → FetchesOnly None new.core
             still core = subst (λ (c : CoreState). FetchesOnly None c) (sym core) none
 
-            by : (answer : Want) → IsWanted old.core tx addr modes.Exclusive answer new.core
-                → new.worker.phase ≡ phase_wanted addr answer old.worker.known
+            by : (answer : Want) → IsWanted old.core tx addr mode answer new.core
+                → new.worker.phase ≡ phase_wanted addr mode answer old.worker.known
                 → new.worker.begun ≡ begun_wanted answer
                 → seen_in new.worker.work.snap
                 ≡ seen_wanted old.worker.known.left addr answer (seen_in old.worker.work.snap)
@@ -394,7 +426,7 @@ module _ (old new : Side) (tidy : AreTidy old.core) (alone : IsOutAlone old.work
                 (λ room. has_so new.worker new.core job tx _ new_job new_tx
                 (seen ∙ ap (λ l. seen_held l addr bytes (seen_in old.worker.work.snap)) left
                 ∙ ap (with_object addr bytes) snap_is)
-                (read_one old.core new.core tx snap addr has is_plan (reads new_tx) bytes is.2))
+                (read_one old.core new.core tx snap addr mode has is_plan (reads new_tx) bytes is.2))
             by (want.Fetch back io) is phase got seen =
                 let new_tx : new.worker.begun.tx ≡ Some tx =
                 ap (λ (b : Begun). b.tx) got ∙ ap (λ t. Some t) is.0 in
@@ -403,20 +435,20 @@ module _ (old new : Side) (tidy : AreTidy old.core) (alone : IsOutAlone old.work
                 ∙ or_none (nat_eq block.0 addr.block.0)
                 ∙ ap (λ (k : BlockNo). nat_eq block.0 k.0) (sym is.2.block))
                 (λ room. has_so new.worker new.core job tx (seen_of snap) new_job new_tx (seen ∙ snap_is)
-                (fetch_one old.core new.core tx snap addr has is_plan (reads new_tx) io is.2))
+                (fetch_one old.core new.core tx snap addr mode has is_plan (reads new_tx) io is.2))
             by (want.Busy back) is phase got seen =
-                alone_by (Some made) new.worker new.core (phase_off (object addr) old.worker.known) None phase
-                (ap (λ (b : Begun). b.io) got) (still is.2) (λ room. off_plans (object addr)
+                alone_by (Some made) new.worker new.core (phase_off (aim.Object addr mode) old.worker.known) None phase
+                (ap (λ (b : Begun). b.io) got) (still is.2) (λ room. off_plans (aim.Object addr mode)
                 (same_core is.2 (ap (λ (b : Begun). b.tx) got ∙ ap (λ t. Some t) is.0) seen))
             by (want.Loading back) is phase got seen =
-                alone_by (Some made) new.worker new.core (phase_off (object addr) old.worker.known) None phase
-                (ap (λ (b : Begun). b.io) got) (still is.2) (λ room. off_plans (object addr)
+                alone_by (Some made) new.worker new.core (phase_off (aim.Object addr mode) old.worker.known) None phase
+                (ap (λ (b : Begun). b.io) got) (still is.2) (λ room. off_plans (aim.Object addr mode)
                 (same_core is.2 (ap (λ (b : Begun). b.tx) got ∙ ap (λ t. Some t) is.0) seen))
             by (want.Outside back) is phase got seen =
-                alone_by (Some made) new.worker new.core (phase_wanted addr (want.Outside back) old.worker.known) None phase
+                alone_by (Some made) new.worker new.core (phase_wanted addr mode (want.Outside back) old.worker.known) None phase
                 (ap (λ (b : Begun). b.io) got) (still is.2) (λ room. tt)
             by (want.NoMemory back) is phase got seen =
-                alone_by (Some made) new.worker new.core (phase_wanted addr (want.NoMemory back) old.worker.known) None phase
+                alone_by (Some made) new.worker new.core (phase_wanted addr mode (want.NoMemory back) old.worker.known) None phase
                 (ap (λ (b : Begun). b.io) got) (still is.2) (λ room. tt)
 
         claimed_so : (block : BlockNo) (made : Step) → IsPlanFor snap (plan.Claim block)
@@ -525,8 +557,8 @@ module _ (old new : Side) (tidy : AreTidy old.core) (alone : IsOutAlone old.work
 
         of_next : (next : Plan) → IsPlanFor is.snap next → GoesByNext next tx old made new
             → StaysLeft (Some made) new.worker new.core
-        of_next (plan.Need addr) is_plan goes =
-            wanted_so is.job is.snap is.job_is is.snap_is has left addr made is_plan goes
+        of_next (plan.Need addr mode) is_plan goes =
+            wanted_so is.job is.snap is.job_is is.snap_is has left addr mode made is_plan goes
         of_next (plan.Claim block) is_plan goes =
             claimed_so is.job is.snap is.job_is is.snap_is has left block made is_plan goes
         of_next (plan.Done done) is_plan goes = elim (ending old new tx done made goes) [

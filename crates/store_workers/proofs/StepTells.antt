@@ -8,7 +8,7 @@ use Rattle.std.specs.Prelude.{IsSomeAnd, unwrap_or}
 use Rattle.std.proofs.lemmas.Option.{none-some}
 use Rattle.disk.specs.declared.block.BlockNo.{BlockNo}
 use Rattle.objects.specs.declared.addr.Addr.{Addr}
-use Rattle.objects.specs.declared.mode.Mode.TheVariants as modes
+use Rattle.objects.specs.declared.mode.Mode.{Mode}
 use Rattle.model.specs.Entry.{Entry}
 use Rattle.model.specs.Calls.{is_answered_stable}
 use Rattle.model.specs.Refused.{refused}
@@ -28,7 +28,7 @@ use Rattle.txn.specs.declared.outcomes.Commit.{Commit}
 use Rattle.txn.specs.declared.outcomes.Commit.TheVariants as commit
 use Rattle.txn.specs.declared.outcomes.Want.{Want}
 use Rattle.txn.specs.declared.outcomes.Want.TheVariants as want
-use Rattle.store_promise.specs.Aims.{is_above}
+use Rattle.store_promise.specs.Aims.{is_barred}
 use Rattle.store_promise.specs.declared.aims.Aim.{Aim}
 use Rattle.store_promise.specs.declared.aims.Aim.TheVariants as aim
 use Rattle.store_promise.specs.Progress.{Progress, Stage, is_idle}
@@ -59,7 +59,7 @@ use Rattle.store_workers.specs.WorkTells.{TellsEntry, TellsStep}
 use Rattle.store_workers.specs.WorkTells.{entries_ready, with_ready}
 use Rattle.store_workers.specs.WorkerAnswers.{after_commit, asked_wanted, begun_claimed}
 use Rattle.store_workers.specs.WorkerAnswers.{begun_wanted, claim_wish}
-use Rattle.store_workers.specs.WorkerAnswers.{committing_of, known_claimed, known_wanted, object, phase_claimed}
+use Rattle.store_workers.specs.WorkerAnswers.{committing_of, known_claimed, known_wanted, phase_claimed}
 use Rattle.store_workers.specs.WorkerAnswers.{phase_off, phase_wanted, told_of}
 use Rattle.store_workers.specs.WorkerAnswers.{wish_of, with_answer}
 use Rattle.store_workers.specs.WorkerAnswers.{with_entry, with_tx}
@@ -251,12 +251,12 @@ module _ (boot number : ℕ) (entries : List Entry) (old new : Side) (at : IsWor
 
   -- ---- while it plans
 
-  abbrev once_wanted : Addr → Want → State
-  once_wanted addr answer = record (with_snap new.worker old.worker) {
-    phase = phase_wanted addr answer old.worker.known;
+  abbrev once_wanted : Addr → Mode → Want → State
+  once_wanted addr mode answer = record (with_snap new.worker old.worker) {
+    phase = phase_wanted addr mode answer old.worker.known;
     begun = begun_wanted answer;
-    asked = asked_wanted addr answer old.worker.asked;
-    known = known_wanted addr answer (with_snap new.worker old.worker).known;
+    asked = asked_wanted addr mode answer old.worker.asked;
+    known = known_wanted addr mode answer (with_snap new.worker old.worker).known;
   }
 
   abbrev once_claimed : BlockNo → Claim → State
@@ -268,7 +268,7 @@ module _ (boot number : ℕ) (entries : List Entry) (old new : Side) (at : IsWor
 
   -- who is kept off has its call still
   off_job : (wished : Aim) → has_job (phase_off wished old.worker.known) ≡ true
-  off_job wished = by (is_above wished old.worker.known.taken)
+  off_job wished = by (is_barred wished old.worker.known.taken)
     where
       by : (above : Bool) → has_job (if above then Again else Planning) ≡ true
       by true = refl
@@ -276,35 +276,36 @@ module _ (boot number : ℕ) (entries : List Entry) (old new : Side) (at : IsWor
 
   off_stands : (wished : Aim) (state : State) → RunsIn boot state
       → StandsAt boot (with_ready number entries state) (phase_off wished old.worker.known) (telling.told state)
-  off_stands wished state runs = by (is_above wished old.worker.known.taken)
+  off_stands wished state runs = by (is_barred wished old.worker.known.taken)
     where
       by : (above : Bool) → StandsAt boot (with_ready number entries state) (if above then Again else Planning)
           (telling.told state)
       by true = runs
       by false = runs
 
-  wants : (tx : ℕ) (addr : Addr) (made : Step) → old.worker.begun.tx ≡ Some tx
-      → IsWished old.worker (object addr) (plan.Need addr) → (has : HasWanted tx addr old made new)
-      → LeavesIt Planning (Some (step.Wanted addr modes.Exclusive (wish_of has.answer)))
-  wants tx addr made tx_is next has phase_is stands = so Planning _ _ has.worker (by has.answer has.core)
+  wants : (tx : ℕ) (addr : Addr) (mode : Mode) (made : Step) → old.worker.begun.tx ≡ Some tx
+      → IsWished old.worker (aim.Object addr mode) (plan.Need addr mode)
+      → (has : HasWanted tx addr mode old made new)
+      → LeavesIt Planning (Some (step.Wanted addr mode (wish_of has.answer)))
+  wants tx addr mode made tx_is next has phase_is stands = so Planning _ _ has.worker (by has.answer has.core)
     where
-      left : (answer : Want) → has_job (phase_wanted addr answer old.worker.known) ≡ true
-          → StandsAt boot (with_ready number entries (once_wanted addr answer))
-          (phase_wanted addr answer old.worker.known) (telling.told (once_wanted addr answer))
-          → Leaves Planning (Some (step.Wanted addr modes.Exclusive (wish_of answer))) (once_wanted addr answer)
+      left : (answer : Want) → has_job (phase_wanted addr mode answer old.worker.known) ≡ true
+          → StandsAt boot (with_ready number entries (once_wanted addr mode answer))
+          (phase_wanted addr mode answer old.worker.known) (telling.told (once_wanted addr mode answer))
+          → Leaves Planning (Some (step.Wanted addr mode (wish_of answer))) (once_wanted addr mode answer)
       left answer busy stands_then =
-          goes_on Planning (step.Wanted addr modes.Exclusive (wish_of answer)) (once_wanted addr answer)
+          goes_on Planning (step.Wanted addr mode (wish_of answer)) (once_wanted addr mode answer)
           next.job next.job_is busy
           at.boot_is at.answer at.entry stands_then
 
-      by : (answer : Want) → IsWanted old.core tx addr modes.Exclusive answer new.core
-          → Leaves Planning (Some (step.Wanted addr modes.Exclusive (wish_of answer))) (once_wanted addr answer)
+      by : (answer : Want) → IsWanted old.core tx addr mode answer new.core
+          → Leaves Planning (Some (step.Wanted addr mode (wish_of answer))) (once_wanted addr mode answer)
       by (want.Held back bytes) is = left (want.Held back bytes) refl (runs tx back tx_is is.0 stands)
       by (want.Fetch back io) is = left (want.Fetch back io) refl (runs tx back tx_is is.0 stands, is.2.block)
-      by (want.Busy back) is = left (want.Busy back) (off_job (object addr))
-          (off_stands (object addr) (once_wanted addr (want.Busy back)) (runs tx back tx_is is.0 stands))
-      by (want.Loading back) is = left (want.Loading back) (off_job (object addr))
-          (off_stands (object addr) (once_wanted addr (want.Loading back)) (runs tx back tx_is is.0 stands))
+      by (want.Busy back) is = left (want.Busy back) (off_job (aim.Object addr mode))
+          (off_stands (aim.Object addr mode) (once_wanted addr mode (want.Busy back)) (runs tx back tx_is is.0 stands))
+      by (want.Loading back) is = left (want.Loading back) (off_job (aim.Object addr mode))
+          (off_stands (aim.Object addr mode) (once_wanted addr mode (want.Loading back)) (runs tx back tx_is is.0 stands))
       by (want.Outside back) is = left (want.Outside back) refl (runs tx back tx_is is.0 stands)
       by (want.NoMemory back) is = left (want.NoMemory back) refl (runs tx back tx_is is.0 stands)
 

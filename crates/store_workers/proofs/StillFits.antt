@@ -6,7 +6,7 @@ use Rattle.std.specs.List.{list_any}
 use Rattle.std.proofs.lemmas.Bool.{eq-eqb}
 use Rattle.disk.specs.declared.block.BlockNo.{BlockNo}
 use Rattle.objects.specs.declared.addr.Addr.{Addr}
-use Rattle.objects.specs.declared.mode.Mode.TheVariants as modes
+use Rattle.objects.specs.declared.mode.Mode.{Mode}
 use Rattle.layout.specs.Geometry.{IsLawful}
 use Rattle.model.specs.Calls.{is_answered_stable}
 use Rattle.nfs_types.specs.declared.reply.Reply.{Reply}
@@ -91,17 +91,17 @@ module _ (old new : Side) (phase : Phase) where
   still tx back same tx_is begun out = goes_on tx None tx_is
       (begun ∙ ap (λ (n : ℕ). record { tx = Some n; io = None }) same) out tt
 
-  wants : (tx : ℕ) (addr : Addr) (answer : Want) → old.worker.begun.tx ≡ Some tx
-      → IsWanted old.core tx addr modes.Exclusive answer new.core → new.worker.begun ≡ begun_wanted answer
+  wants : (tx : ℕ) (addr : Addr) (mode : Mode) (answer : Want) → old.worker.begun.tx ≡ Some tx
+      → IsWanted old.core tx addr mode answer new.core → new.worker.begun ≡ begun_wanted answer
       → Turn old new phase
-  wants tx addr (want.Held back bytes) tx_is is begun = still tx back is.0 tx_is begun (out_of _ is.2.only)
-  wants tx addr (want.Busy back) tx_is is begun = still tx back is.0 tx_is begun (out_of _ is.2)
-  wants tx addr (want.Fetch back io) tx_is is begun = goes_on tx (Some io) tx_is
+  wants tx addr mode (want.Held back bytes) tx_is is begun = still tx back is.0 tx_is begun (out_of _ is.2.only)
+  wants tx addr mode (want.Busy back) tx_is is begun = still tx back is.0 tx_is begun (out_of _ is.2)
+  wants tx addr mode (want.Fetch back io) tx_is is begun = goes_on tx (Some io) tx_is
       (begun ∙ ap (λ (n : ℕ). record { tx = Some n; io = Some io }) is.0) (out_of _ is.2.only)
       (subst (λ (b : BlockNo). b.0 < old.core.log.blocks) (sym is.2.block) is.1.inside.home.1)
-  wants tx addr (want.Loading back) tx_is is begun = still tx back is.0 tx_is begun (out_of _ is.2)
-  wants tx addr (want.Outside back) tx_is is begun = still tx back is.0 tx_is begun (out_of _ is.2)
-  wants tx addr (want.NoMemory back) tx_is is begun = still tx back is.0 tx_is begun (out_of _ is.2)
+  wants tx addr mode (want.Loading back) tx_is is begun = still tx back is.0 tx_is begun (out_of _ is.2)
+  wants tx addr mode (want.Outside back) tx_is is begun = still tx back is.0 tx_is begun (out_of _ is.2)
+  wants tx addr mode (want.NoMemory back) tx_is is begun = still tx back is.0 tx_is begun (out_of _ is.2)
 
   claims : (tx : ℕ) (addr : Addr) (answer : Claim) → old.worker.begun.tx ≡ Some tx
       → IsClaimed old.core tx addr answer new.core → new.worker.begun ≡ begun_claimed answer → Turn old new phase
@@ -143,7 +143,7 @@ turns old new = record {
       (ap (λ (c : CoreState). c.out) core);
   replied = λ job job_is rules core worker. rests (ap (λ (s : State). s.begun) worker)
       (ap (λ (c : CoreState). c.out) core);
-  wanted = λ tx addr made tx_is next has. wants old new Planning tx addr has.answer tx_is has.core
+  wanted = λ tx addr mode made tx_is next has. wants old new Planning tx addr mode has.answer tx_is has.core
       (ap (λ (s : State). s.begun) has.worker);
   claimed = λ tx block made tx_is next has. claims old new Planning tx has.core.0 has.answer tx_is has.core.2
       (ap (λ (s : State). s.begun) has.worker);

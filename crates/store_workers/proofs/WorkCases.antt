@@ -4,7 +4,7 @@ use Rattle.std.proofs.Common.{Option, Some, None, Ok, Err, List, [], ◌∷◌, 
 use Rattle.std.specs.Prelude.{IsSomeAnd}
 use Rattle.disk.specs.declared.block.BlockNo.{BlockNo}
 use Rattle.objects.specs.declared.addr.Addr.{Addr}
-use Rattle.objects.specs.declared.mode.Mode.TheVariants as modes
+use Rattle.objects.specs.declared.mode.Mode.{Mode}
 use Rattle.nfs_types.specs.declared.reply.Reply.TheVariants.{Null}
 use Rattle.model.specs.Calls.{begins_transaction}
 use Rattle.wal_law.specs.Log.{added_blocks}
@@ -26,7 +26,7 @@ use Rattle.store_promise.specs.declared.events.Step.{Step}
 use Rattle.store_promise.specs.declared.events.Step.TheVariants as step
 use Rattle.store_workers.specs.Phases.{is_planned, is_served}
 use Rattle.store_workers.specs.Seen.{seen_in}
-use Rattle.store_workers.specs.WorkerAnswers.{claim_wish, committing_of, object, wish_of, with_answer}
+use Rattle.store_workers.specs.WorkerAnswers.{claim_wish, committing_of, wish_of, with_answer}
 use Rattle.store_workers.specs.WorkerSteps.{BeginsBy, EndsBy, GoesByAim, GoesByNext, GoesOn, HasBegun, HasClaimed}
 use Rattle.store_workers.specs.WorkerSteps.{HasCommitted, HasGivenBack, HasLacked, HasLeft}
 use Rattle.store_workers.specs.WorkerSteps.{HasRefused, HasWanted}
@@ -62,9 +62,10 @@ pub record Cases (old new : Side) (P : Phase → Option Step → Type 0) : Type 
       → new.core ≡ old.core
       → new.worker ≡ with_answer (verdict.Reply Null) None old.worker
       → P Called (Some step.Replied)
-  pub wanted : (tx : ℕ) (addr : Addr) (made : Step) → old.worker.begun.tx ≡ Some tx
-      → IsWished old.worker (object addr) (plan.Need addr) → (has : HasWanted tx addr old made new)
-      → P Planning (Some (step.Wanted addr modes.Exclusive (wish_of has.answer)))
+  pub wanted : (tx : ℕ) (addr : Addr) (mode : Mode) (made : Step) → old.worker.begun.tx ≡ Some tx
+      → IsWished old.worker (aim.Object addr mode) (plan.Need addr mode)
+      → (has : HasWanted tx addr mode old made new)
+      → P Planning (Some (step.Wanted addr mode (wish_of has.answer)))
   pub claimed : (tx : ℕ) (block : BlockNo) (made : Step) → old.worker.begun.tx ≡ Some tx
       → IsWished old.worker (aim.Claim block) (plan.Claim block) → (has : HasClaimed tx block old made new)
       → P Planning (Some (step.Claimed block (claim_wish has.answer)))
@@ -161,8 +162,8 @@ module _ (old new : Side) (P : Phase → Option Step → Type 0) (cases : Cases 
 
     goes : (next : Plan) (made : Step) → IsNext old.worker next → GoesByNext next tx old made new
         → P Planning (Some made)
-    goes (plan.Need addr) made is has = so Planning made _ has.made_is
-        (cases.wanted tx addr made tx_is (by_plan (object addr) (plan.Need addr) is) has)
+    goes (plan.Need addr mode) made is has = so Planning made _ has.made_is
+        (cases.wanted tx addr mode made tx_is (by_plan (aim.Object addr mode) (plan.Need addr mode) is) has)
     goes (plan.Claim block) made is has = so Planning made _ has.made_is
         (cases.claimed tx block made tx_is (by_plan (aim.Claim block) (plan.Claim block) is) has)
     goes (plan.Done done) made is has = ends done is made has
@@ -194,9 +195,8 @@ module _ (old new : Side) (P : Phase → Option Step → Type 0) (cases : Cases 
       → (later : List Aim) → old.worker.known.left ≡ one ∷ later → (made : Step)
       → GoesByAim one tx old made new → P Planning (Some made)
   takes tx tx_is planned (aim.Object addr mode) later left made has =
-      so Planning made _ has.1.made_is (cases.wanted tx addr made tx_is
-      (again tx tx_is planned (object addr) later (left ∙ ap (λ m. aim.Object addr m ∷ later) has.0) (plan.Need addr))
-      has.1)
+      so Planning made _ has.made_is (cases.wanted tx addr mode made tx_is
+      (again tx tx_is planned (aim.Object addr mode) later left (plan.Need addr mode)) has)
   takes tx tx_is planned (aim.Claim block) later left made has =
       so Planning made _ has.made_is (cases.claimed tx block made tx_is
       (again tx tx_is planned (aim.Claim block) later left (plan.Claim block)) has)

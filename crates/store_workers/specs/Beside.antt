@@ -3,14 +3,17 @@
 use Rattle.std.specs.Prelude.{◌≡◌, ◌⊎◌, ℕ, ◌+◌, ◌≤◌, ◌<◌, true, false, Option, Some, List, ◌∷◌, Contains}
 use Rattle.std.specs.Prelude.{All, IfSome, IsSomeAnd, is_some, length, slice_get}
 use Rattle.disk.specs.declared.block.BlockNo.{BlockNo}
+use Rattle.objects.specs.Mode.{covers}
 use Rattle.objects.specs.declared.addr.Addr.{Addr}
 use Rattle.objects.specs.declared.mode.Mode.{Mode}
+use Rattle.objects.specs.declared.mode.Mode.TheVariants as modes
 use Rattle.txn_law.specs.Core.{CoreState, IsOut}
 use Rattle.txn_law.specs.Fetch.{Fetch}
 use Rattle.txn_law.specs.Leaves.{is_fetching, taken_by}
 use Rattle.txn_law.specs.Others.{KeepsTaken}
 use Rattle.txn_law.specs.Wishes.{IsWhole}
 use Rattle.txn_law.specs.declared.hold.Hold.{Hold}
+use Rattle.store_promise.specs.Aims.{IsCovered}
 use Rattle.store_promise.specs.declared.aims.Aim.{Aim}
 use Rattle.store_promise.specs.declared.aims.Aim.TheVariants as aim
 use Rattle.store_promise.specs.Waiting.{IsAim}
@@ -20,17 +23,20 @@ use Rattle.store_workers.specs.declared.workers.parts.State.{State}
 
 -- ---- what a worker has noted
 
--- the address is among these in its mode, or its block is, as one that is claimed
+-- the address is among these in its mode or in a higher one, or its block is, as one that is claimed
 abbrev pub IsNoted : List Aim → Addr → Mode → Type 0
-IsNoted aims addr mode = Contains aims (aim.Object addr mode) ⊎ Contains aims (aim.Claim addr.block)
+IsNoted aims addr mode = IsCovered aims (aim.Object addr mode) ⊎ Contains aims (aim.Claim addr.block)
 
--- the transaction has taken this address, in whatever mode; a claim is of the whole block
+-- the transaction has taken this address, in this mode or in a higher one
+abbrev pub IsTakenAs : CoreState → ℕ → Addr → Mode → Type 0
+IsTakenAs core tx addr mode = IsSomeAnd (taken_by core tx addr) (λ (hold : Hold). covers hold.mode mode ≡ true)
+
+-- so it has of an aim; a claim is of the whole block, alone
 abbrev pub IsTakenIn : CoreState → ℕ → Aim → Type 0
-IsTakenIn core tx (aim.Object addr mode) = is_some (taken_by core tx addr) ≡ true
-IsTakenIn core tx (aim.Claim block) =
-    (addr : Addr) × IsWhole block addr × (is_some (taken_by core tx addr) ≡ true)
+IsTakenIn core tx (aim.Object addr mode) = IsTakenAs core tx addr mode
+IsTakenIn core tx (aim.Claim block) = (addr : Addr) × IsWhole block addr × IsTakenAs core tx addr modes.Exclusive
 
--- all that a transaction has taken is among these in its mode, and it has taken the address of each of these
+-- all that a transaction has taken is among these, in its mode or in a higher one, and it has so taken each of these
 pub record NotesTaken (core : CoreState) (tx : ℕ) (aims : List Aim) : Type 0 where
   pub noted : (addr : Addr) (hold : Hold) → taken_by core tx addr ≡ Some hold → IsNoted aims addr hold.mode
   pub taken : All (IsTakenIn core tx) aims

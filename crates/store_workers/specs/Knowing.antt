@@ -1,6 +1,6 @@
 -- What a worker's call knows, without where it lies in memory.
-use Rattle.std.specs.Prelude.{◌≡◌, ◌≢◌, Bool, false, Option, Some, None, List, [], ◌∷◌, ◌++◌, drop}
-use Rattle.store_promise.specs.Aims.{inserted, kind_of}
+use Rattle.std.specs.Prelude.{◌≡◌, Bool, false, Option, Some, None, List, [], ◌∷◌, ◌++◌, drop}
+use Rattle.store_promise.specs.Aims.{inserted}
 use Rattle.store_promise.specs.Progress.{with_wished}
 use Rattle.store_promise.specs.declared.aims.Aim.{Aim}
 
@@ -14,10 +14,6 @@ pub record Knowing : Type 0 where
 
 abbrev pub nothing_known : Knowing
 nothing_known = record { taken = []; left = []; off = None; room = false }
-
--- it is asked for by one transaction alone
-abbrev pub IsAlone : Aim → Type 0
-IsAlone one = kind_of one ≢ 0
 
 -- the first of a list
 abbrev pub first_of : List Aim → Option Aim

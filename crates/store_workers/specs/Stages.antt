@@ -5,6 +5,7 @@ use Rattle.std.specs.Prelude.{◌^◌, ◌<◌, unwrap_or}
 use Rattle.disk.specs.declared.block.BlockNo.{BlockNo}
 use Rattle.nfs_types.specs.declared.status.Status.TheVariants as status
 use Rattle.objects.specs.declared.addr.Addr.{Addr}
+use Rattle.objects.specs.declared.mode.Mode.{Mode}
 use Rattle.objects.specs.declared.mode.Mode.TheVariants.{Exclusive}
 use Rattle.model.specs.Entry.{Entry}
 use Rattle.model.specs.Calls.{is_answered_stable}
@@ -24,9 +25,13 @@ use Rattle.store_workers.specs.declared.workers.parts.Phase.TheVariants.{Reading
 use Rattle.store_workers.specs.declared.workers.parts.Phase.TheVariants.{Refused, Again, Waiting}
 use Rattle.store_workers.specs.declared.workers.parts.State.{State}
 
+-- an object in a mode
+abbrev pub taken_as : Mode → Addr → Taken
+taken_as mode addr = record { addr = addr; mode = mode }
+
 -- an object that a plan asked for: it takes each alone
 abbrev pub alone : Addr → Taken
-alone addr = record { addr = addr; mode = Exclusive }
+alone addr = taken_as Exclusive addr
 
 -- the objects that were read, and the blocks that were claimed
 abbrev pub held_in : Option Seen → List Taken
@@ -56,19 +61,19 @@ abbrev pub at_stage : Option Job → Stage → Progress
 at_stage None stage = told.Idle
 at_stage (Some job) stage = told.At (handed job) stage
 
--- a stage of an object whose block is fetched
-abbrev pub at_fetch : (Taken → Stage) → told.Begun → Option Addr → Stage
-at_fetch stage begun None = told.Planning begun
-at_fetch stage begun (Some addr) = stage (alone addr)
+-- a stage of an object whose block is fetched, as it is wished in this mode
+abbrev pub at_fetch : (Taken → Stage) → told.Begun → Mode → Option Addr → Stage
+at_fetch stage begun mode None = told.Planning begun
+at_fetch stage begun mode (Some addr) = stage (taken_as mode addr)
 
 abbrev pub progress_in : Phase → Option Job → told.Begun → Asking → Knowing → Progress
 progress_in Idle job begun asked knowing = told.Idle
 progress_in Called job begun asked knowing = at_stage job (told.Called (known_in knowing))
 progress_in Planning job begun asked knowing = at_stage job (told.Planning begun)
 progress_in Reading job begun asked knowing =
-    at_stage job (at_fetch (λ taken. told.Reading begun taken) begun asked.wish)
+    at_stage job (at_fetch (λ taken. told.Reading begun taken) begun asked.mode asked.wish)
 progress_in (Read ok) job begun asked knowing =
-    at_stage job (at_fetch (λ taken. told.Read begun taken ok) begun asked.wish)
+    at_stage job (at_fetch (λ taken. told.Read begun taken ok) begun asked.mode asked.wish)
 progress_in (Refused why) job begun asked knowing = at_stage job (told.Refused begun why)
 progress_in Again job begun asked knowing = at_stage job (told.Again begun knowing.off)
 progress_in (Waiting place) job begun asked knowing = at_stage asked.waiting (told.Waiting place.0)

@@ -5,6 +5,7 @@ use Rattle.nfs_types.specs.declared.ctx.Credential.{Credential}
 use Rattle.nfs_types.specs.declared.ctx.Ctx.{Ctx}
 use Rattle.nfs_types.specs.declared.ctx.Moment.{Moment}
 use Rattle.layout.specs.Geometry.{IsLawful}
+use Rattle.objects.specs.declared.mode.Mode.TheVariants as modes
 use Rattle.inode.specs.Snap as seen
 use Rattle.procs.specs.declared.next.Plan.{Plan}
 use Rattle.procs.specs.declared.next.Plan.TheVariants as plan
@@ -56,7 +57,7 @@ pub record HasRoom (state : State) : Type 0 where
 
 -- there is room for what the plan asks for
 abbrev pub HasRoomFor : Plan → State → Type 0
-HasRoomFor (plan.Need addr) state = HasRoom state
+HasRoomFor (plan.Need addr mode) state = HasRoom state
 HasRoomFor (plan.Claim block) state = HasRoom state
 HasRoomFor (plan.Done done) state = Unit {0}
 HasRoomFor plan.NoMemory state = Unit {0}
@@ -90,6 +91,6 @@ at_rest boot = record {
   phase = Idle;
   work = record { job = None; snap = None; reply = None; broken_reply = None; entry = None; answer = None };
   begun = record { tx = None; io = None };
-  asked = record { wish = None; waiting = None };
+  asked = record { wish = None; mode = modes.Exclusive; waiting = None };
   known = nothing_known;
 }

@@ -1,7 +1,7 @@
 -- What a worker makes of what the core answered it.
 use Rattle.std.specs.Prelude.{ℕ, Bool, true, false, if◌then◌else◌, Option, Some, None, List, [], ◌∷◌}
 use Rattle.objects.specs.declared.addr.Addr.{Addr}
-use Rattle.objects.specs.declared.mode.Mode.TheVariants as modes
+use Rattle.objects.specs.declared.mode.Mode.{Mode}
 use Rattle.disk.specs.declared.block.BlockNo.{BlockNo}
 use Rattle.nfs_types.specs.declared.reply.Reply.{Reply}
 use Rattle.nfs_types.specs.declared.status.Status.TheVariants as status
@@ -14,7 +14,7 @@ use Rattle.txn.specs.declared.outcomes.Commit.{Commit}
 use Rattle.txn.specs.declared.outcomes.Commit.TheVariants as commit
 use Rattle.txn.specs.declared.outcomes.Want.{Want}
 use Rattle.txn.specs.declared.outcomes.Want.TheVariants as want
-use Rattle.store_promise.specs.Aims.{is_above}
+use Rattle.store_promise.specs.Aims.{is_barred}
 use Rattle.store_promise.specs.declared.aims.Aim.{Aim}
 use Rattle.store_promise.specs.declared.aims.Aim.TheVariants as aim
 use Rattle.store_promise.specs.declared.answers.Verdict.{Verdict}
@@ -45,33 +45,29 @@ wish_of (want.Loading back) = wish.Loading
 wish_of (want.Outside back) = wish.Outside
 wish_of (want.NoMemory back) = wish.NoMemory
 
--- an object that a plan asks for: it takes each alone
-abbrev pub object : Addr → Aim
-object addr = aim.Object addr modes.Exclusive
-
--- who is kept off waits, where it has taken nothing above what it wishes, and else begins again
+-- who is kept off waits, where it has taken nothing that bars the wait, and else begins again
 abbrev pub phase_off : Aim → Knowing → Phase
-phase_off wished knowing = if is_above wished knowing.taken then Again else Planning
+phase_off wished knowing = if is_barred wished knowing.taken then Again else Planning
 
 abbrev pub known_off : Aim → Knowing → Knowing
-known_off wished knowing = if is_above wished knowing.taken then with_off wished knowing else knowing
+known_off wished knowing = if is_barred wished knowing.taken then with_off wished knowing else knowing
 
-abbrev pub phase_wanted : Addr → Want → Knowing → Phase
-phase_wanted addr (want.Held back bytes) knowing = Planning
-phase_wanted addr (want.Busy back) knowing = phase_off (object addr) knowing
-phase_wanted addr (want.Fetch back io) knowing = Reading
-phase_wanted addr (want.Loading back) knowing = phase_off (object addr) knowing
-phase_wanted addr (want.Outside back) knowing = Refused cause.Io
-phase_wanted addr (want.NoMemory back) knowing = Refused cause.NoMemory
+abbrev pub phase_wanted : Addr → Mode → Want → Knowing → Phase
+phase_wanted addr mode (want.Held back bytes) knowing = Planning
+phase_wanted addr mode (want.Busy back) knowing = phase_off (aim.Object addr mode) knowing
+phase_wanted addr mode (want.Fetch back io) knowing = Reading
+phase_wanted addr mode (want.Loading back) knowing = phase_off (aim.Object addr mode) knowing
+phase_wanted addr mode (want.Outside back) knowing = Refused cause.Io
+phase_wanted addr mode (want.NoMemory back) knowing = Refused cause.NoMemory
 
 -- what is taken then
-abbrev pub known_wanted : Addr → Want → Knowing → Knowing
-known_wanted addr (want.Held back bytes) knowing = with_aim (object addr) knowing
-known_wanted addr (want.Busy back) knowing = known_off (object addr) knowing
-known_wanted addr (want.Fetch back io) knowing = with_aim (object addr) knowing
-known_wanted addr (want.Loading back) knowing = known_off (object addr) knowing
-known_wanted addr (want.Outside back) knowing = knowing
-known_wanted addr (want.NoMemory back) knowing = knowing
+abbrev pub known_wanted : Addr → Mode → Want → Knowing → Knowing
+known_wanted addr mode (want.Held back bytes) knowing = with_aim (aim.Object addr mode) knowing
+known_wanted addr mode (want.Busy back) knowing = known_off (aim.Object addr mode) knowing
+known_wanted addr mode (want.Fetch back io) knowing = with_aim (aim.Object addr mode) knowing
+known_wanted addr mode (want.Loading back) knowing = known_off (aim.Object addr mode) knowing
+known_wanted addr mode (want.Outside back) knowing = knowing
+known_wanted addr mode (want.NoMemory back) knowing = knowing
 
 -- the transaction comes back, with a fetch where the block has to be read
 abbrev pub begun_wanted : Want → Begun
@@ -96,13 +92,13 @@ seen_wanted left addr (want.Outside back) seen = seen
 seen_wanted left addr (want.NoMemory back) seen = seen
 
 -- its block is to be fetched then
-abbrev pub asked_wanted : Addr → Want → Asking → Asking
-asked_wanted addr (want.Fetch back io) asked = record asked { wish = Some addr }
-asked_wanted addr (want.Held back bytes) asked = asked
-asked_wanted addr (want.Busy back) asked = asked
-asked_wanted addr (want.Loading back) asked = asked
-asked_wanted addr (want.Outside back) asked = asked
-asked_wanted addr (want.NoMemory back) asked = asked
+abbrev pub asked_wanted : Addr → Mode → Want → Asking → Asking
+asked_wanted addr mode (want.Fetch back io) asked = record asked { wish = Some addr; mode = mode }
+asked_wanted addr mode (want.Held back bytes) asked = asked
+asked_wanted addr mode (want.Busy back) asked = asked
+asked_wanted addr mode (want.Loading back) asked = asked
+asked_wanted addr mode (want.Outside back) asked = asked
+asked_wanted addr mode (want.NoMemory back) asked = asked
 
 -- ---- a wish to claim
 

@@ -5,7 +5,7 @@ use Rattle.std.specs.Prelude.{Option, Some, None, Ok, Err, List, [], ◌∷◌, 
 use Rattle.disk.specs.Crash.{Image}
 use Rattle.disk.specs.declared.block.BlockNo.{BlockNo}
 use Rattle.objects.specs.declared.addr.Addr.{Addr}
-use Rattle.objects.specs.declared.mode.Mode.TheVariants as modes
+use Rattle.objects.specs.declared.mode.Mode.{Mode}
 use Rattle.layout.specs.declared.version.FormatVersion.TheVariants.{First}
 use Rattle.nfs_types.specs.declared.reply.Reply.TheVariants.{Null}
 use Rattle.model.specs.Calls.{begins_transaction}
@@ -121,16 +121,16 @@ Begins old made new =
 
 -- ---- a plan
 
--- a wish to read an object, alone, is answered
-pub record HasWanted (tx : ℕ) (addr : Addr) (old : Side) (made : Step) (new : Side) : Type 0 where
+-- a wish to read an object in a mode is answered
+pub record HasWanted (tx : ℕ) (addr : Addr) (mode : Mode) (old : Side) (made : Step) (new : Side) : Type 0 where
   pub answer : Want
-  pub made_is : made ≡ step.Wanted addr modes.Exclusive (wish_of answer)
-  pub core : IsWanted old.core tx addr modes.Exclusive answer new.core
+  pub made_is : made ≡ step.Wanted addr mode (wish_of answer)
+  pub core : IsWanted old.core tx addr mode answer new.core
   pub worker : new.worker ≡ record (with_snap new.worker old.worker) {
-    phase = phase_wanted addr answer old.worker.known;
+    phase = phase_wanted addr mode answer old.worker.known;
     begun = begun_wanted answer;
-    asked = asked_wanted addr answer old.worker.asked;
-    known = known_wanted addr answer (with_snap new.worker old.worker).known;
+    asked = asked_wanted addr mode answer old.worker.asked;
+    known = known_wanted addr mode answer (with_snap new.worker old.worker).known;
   }
   pub seen : seen_in new.worker.work.snap
       ≡ seen_wanted old.worker.known.left addr answer (seen_in old.worker.work.snap)
@@ -188,7 +188,7 @@ EndsBy tx done old made new = IsSomeAnd old.worker.work.job (λ job. HasCommitte
 
 -- the step that a plan asks for
 abbrev pub GoesByNext : Plan → ℕ → Side → Step → Side → Type 0
-GoesByNext (plan.Need addr) tx old made new = HasWanted tx addr old made new
+GoesByNext (plan.Need addr mode) tx old made new = HasWanted tx addr mode old made new
 GoesByNext (plan.Claim block) tx old made new = HasClaimed tx block old made new
 GoesByNext (plan.Done done) tx old made new = EndsBy tx done old made new
 GoesByNext plan.NoMemory tx old made new = HasLacked tx old made new
@@ -213,9 +213,9 @@ pub record GoesByPlan (old : Side) (made : Step) (new : Side) : Type 0 where
 
 -- ---- what was known is taken again
 
--- the aim is wished, alone
+-- the aim is wished, in its mode
 abbrev pub GoesByAim : Aim → ℕ → Side → Step → Side → Type 0
-GoesByAim (aim.Object addr mode) tx old made new = (mode ≡ modes.Exclusive) × HasWanted tx addr old made new
+GoesByAim (aim.Object addr mode) tx old made new = HasWanted tx addr mode old made new
 GoesByAim (aim.Claim block) tx old made new = HasClaimed tx block old made new
 
 -- The first of what is left is wished again, whatever the plan asks for.

@@ -21,7 +21,7 @@ use Rattle.txn_law.specs.declared.hold.Hold.{Hold}
 use Rattle.txn_law.proofs.Again as again
 use Rattle.txn_law.proofs.Claims.{all_four, found_by}
 use Rattle.txn_law.proofs.Swept.{in_first, in_more}
-use Rattle.txn.specs.Claimed.{IsAmongRead, IsClaimedObject}
+use Rattle.txn.specs.Claimed.{IsAmongRead, IsClaimedObject, IsOwnObject, IsTakenAlone}
 
 -- what holds of the blocks of all objects holds of the group's
 pub blocks_all : (P : BlockNo → Type 0) (blocks : List BlockNo) (objects : List ObjectBytes) → All P blocks
@@ -57,46 +57,49 @@ module _ (core : CoreState) (tx : ℕ) (tidy : AreTidy core) where
       subst (λ (a : Addr). IsHomeOn core.log.blocks a.block) at.1
       (All-contains (IsOfOne core) core.holds hold tidy.owned at.0).1
 
-  -- Its change is its own: it was planned for this core and by what the transaction holds, and writes only
-  -- what it read and holds alone and what it has claimed, while no fetch is pending of what it writes.
-  module _ (out : IsOut core tx) (plan : Planned) (blocks : plan.blocks ≡ core.log.blocks) (inodes : plan.inodes ≡ core.inodes)
-      (read : All (IsReadBy core tx) plan.read)
-      (written : (object : ObjectBytes) → Contains plan.written object
-      → IsAmongRead plan.read object ⊎ IsClaimedObject core tx object)
-      (exclusive : (addr : Addr) (hold : Hold) → taken_by core tx addr ≡ Some hold
-      → hold.mode ≡ modes.Exclusive)
-      (loaded : (object : ObjectBytes) → Contains plan.written object
-      → is_fetching core object.addr.block ≡ false) where
+  -- what it read and holds alone, and what it has claimed, it holds for writing
+  module _ (objects : List ObjectBytes) (read : All (IsReadBy core tx) objects) where
     is_written_so : (mode : Mode) (reads claims : Bool) → mode ≡ modes.Exclusive → reads ≡ true
         → (is_exclusive mode && (reads || claims)) ≡ true
     is_written_so mode reads claims at by = ap (λ m. is_exclusive m && (reads || claims)) at
         ∙ ap (λ b. b || claims) by
 
-    by_read : (object : ObjectBytes) → IsAmongRead plan.read object
+    by_read : (object : ObjectBytes) → IsAmongRead objects object → IsTakenAlone core tx object.addr
         → is_written (taken_by core tx object.addr) ≡ true
-    by_read object before = from (taken_by core tx object.addr) refl
+    by_read object before alone = from (taken_by core tx object.addr) refl
         (subst (λ (a : Addr). is_read (hold_of core.holds tx a) ≡ true) before.2
-        (All-contains (IsReadBy core tx) plan.read before.0 read before.1).held)
+        (All-contains (IsReadBy core tx) objects before.0 read before.1).held)
       where
         from : (found : Option Hold) → taken_by core tx object.addr ≡ found → is_read found ≡ true
             → is_written found ≡ true
         from None is none = absurd (true≢false (sym none))
         from (Some hold) is reads =
-            is_written_so hold.mode hold.is_read hold.is_claimed (exclusive object.addr hold is) reads
+            is_written_so hold.mode hold.is_read hold.is_claimed (alone hold is) reads
 
-    held_by : (object : ObjectBytes) → IsAmongRead plan.read object ⊎ IsClaimedObject core tx object
+    pub held_by : (object : ObjectBytes) → IsOwnObject core tx objects object
         → is_written (taken_by core tx object.addr) ≡ true
-    held_by object (inl before) = by_read object before
+    held_by object (inl both) = by_read object both.0 both.1
     held_by object (inr claimed) = claimed.0 object.addr claimed.1
+
+  -- Its change is its own: it was planned for this core and by what the transaction holds, and writes only
+  -- what it read and holds alone and what it has claimed, while no fetch is pending of what it writes.
+  module _ (out : IsOut core tx) (plan : Planned) (blocks : plan.blocks ≡ core.log.blocks) (inodes : plan.inodes ≡ core.inodes)
+      (read : All (IsReadBy core tx) plan.read)
+      (written : (object : ObjectBytes) → Contains plan.written object
+      → IsOwnObject core tx plan.read object)
+      (loaded : (object : ObjectBytes) → Contains plan.written object
+      → is_fetching core object.addr.block ≡ false) where
+    held : (object : ObjectBytes) → Contains plan.written object → is_written (taken_by core tx object.addr) ≡ true
+    held object there = held_by plan.read read object (written object there)
 
     written_by : (object : ObjectBytes) → Contains plan.written object → IsWrittenBy core tx object.addr
     written_by object there = record {
-      held = held_by object (written object there);
+      held = held object there;
       loaded = loaded object there;
     }
 
     home_of : (object : ObjectBytes) → Contains plan.written object → IsHomeOn core.log.blocks object.addr.block
-    home_of object there = by (taken_by core tx object.addr) refl (held_by object (written object there))
+    home_of object there = by (taken_by core tx object.addr) refl (held object there)
       where
         by : (found : Option Hold) → taken_by core tx object.addr ≡ found → is_written found ≡ true
             → IsHomeOn core.log.blocks object.addr.block

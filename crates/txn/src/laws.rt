@@ -17,7 +17,7 @@ ghost use Rattle.objects.specs.Object.{ObjectBytes};
 ghost use Rattle.txn_law.specs.Tidy.{AreTidy};
 ghost use Rattle.txn_law.specs.Wishes.{IsBusy, IsLoading, IsWhole};
 ghost use Rattle.txn_law.specs.declared.hold.Hold.{Hold};
-ghost use Rattle.txn.specs.Claimed.{IsAmongRead, IsClaimedBy, IsClaimedObject};
+ghost use Rattle.txn.specs.Claimed.{IsClaimedBy, IsOwnObject};
 ghost use Rattle.txn.specs.Outcomes.{IsClaimed, IsMet, IsWanted, TakesPlace};
 ghost use Rattle.txn.specs.declared.outcomes.Claim.{Claim};
 ghost use Rattle.txn.specs.declared.outcomes.Want.{Want};
@@ -72,14 +72,12 @@ pub fn others_keep_what_they_have()
 {}
 
 /// The change of a transaction that is out is its own, so not Foreign, where it was planned for this core, read
-/// what the transaction holds, and writes only what it read and holds alone and whole blocks that it has
+/// what the transaction holds, and writes only what it read and has taken alone and whole blocks that it has
 /// claimed, while no fetch of a block that it writes is pending.
 pub fn a_planned_change_is_its_own()
     ensures { (core : CoreState) (tx : ℕ) (plan : Planned) → AreTidy core → IsOut core tx
         → plan.blocks ≡ core.log.blocks → plan.inodes ≡ core.inodes → All (IsReadBy core tx) plan.read
-        → ((object : ObjectBytes) → Contains plan.written object
-        → IsAmongRead plan.read object ⊎ IsClaimedObject core tx object)
-        → ((addr : Addr) (hold : Hold) → taken_by core tx addr ≡ Some hold → hold.mode ≡ modes.Exclusive)
+        → ((object : ObjectBytes) → Contains plan.written object → IsOwnObject core tx plan.read object)
         → ((object : ObjectBytes) → Contains plan.written object → is_fetching core object.addr.block ≡ false)
         → IsOwn core tx plan }
 {}

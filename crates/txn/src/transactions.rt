@@ -3,7 +3,6 @@ ghost use Rattle.std.specs.Prelude.{◌≡◌, ◌≤◌, ◌<◌, ◌+◌, ◌^
 ghost use Rattle.std.specs.Prelude.{ℕ, IfOk, ◌∷◌, true, false, is_some, if◌then◌else◌, [], length};
 ghost use Rattle.limits.specs.declared.TheConstants.{CHANGED_BLOCKS};
 ghost use Rattle.objects.specs.declared.addr.Addr.{Addr};
-ghost use Rattle.objects.specs.declared.mode.Mode.TheVariants as modes;
 ghost use Rattle.wal_law.specs.Log.{settled_place, installed_place, tail_count, added_blocks};
 ghost use Rattle.wal_law.specs.Calls.{LogCallGoesOut, LogCallComesBack, InstCallGoesOut, InstCallComesBack};
 ghost use Rattle.wal_law.specs.Calls.{AgreesBeside, Pending, home_after};
@@ -122,18 +121,20 @@ impl<C: Change> Core<C> {
         self.state.begin()
     }
 
-    /// Takes an object for reading, alone. Outside: the block isn't one that a change may write, or the
-    /// transaction isn't one that this core began and that hasn't ended. Busy: another transaction has taken a
-    /// byte of it, or this one by another address. Loading: a fetch of the block is pending, and nothing is
-    /// taken. They are tested in this order. Fetch: the block has to be read from home; the object is taken,
-    /// and the same want after `fetched` answers Held or NoMemory. NoMemory: nothing has changed.
-    pub fn want(&mut self, alloc: Global, tx: Tx, addr: Addr) -> Want
-        ensures answer { IsWanted self.old tx addr modes.Exclusive result self.new }
+    /// Takes an object for reading, in a mode: beside others that share it, or alone. Outside: the block isn't one
+    /// that a change may write, or the transaction isn't one that this core began and that hasn't ended. Busy:
+    /// another transaction has taken a byte of it, and it or this one takes that alone; or this one has taken a byte
+    /// of it by another address. Loading: a fetch of the block is pending, and nothing is taken. They are tested in
+    /// this order. Fetch: the block has to be read from home; the object is taken, and the same want after `fetched`
+    /// answers Held or NoMemory. NoMemory: nothing has changed. An object that this transaction shares is raised by a
+    /// want of it alone, where no other transaction shares it.
+    pub fn want(&mut self, alloc: Global, tx: Tx, addr: Addr, mode: Mode) -> Want
+        ensures answer { IsWanted self.old tx addr mode result self.new }
         ensures within { IsWithin self.old.log.blocks addr.len result }
         ensures stays { (other : ℕ) → KeepsReads self.old self.new other }
         ensures keeps { KeepsHome self.old self.new }
     {
-        self.state.want(alloc, tx, addr, Mode::Exclusive)
+        self.state.want(alloc, tx, addr, mode)
     }
 
     /// Takes a whole block for writing, whose bytes don't matter. It answers as `want` does, and never Fetch.
@@ -177,7 +178,7 @@ impl<C: Change> Core<C> {
     /// Commits a change at the next place, and ends its transaction. Broken: a write or a barrier has failed.
     /// Foreign: the transaction isn't one that this core began and that hasn't ended; or the change was planned
     /// for other counts than the core's, writes a block that no change may write, writes what this transaction
-    /// doesn't hold or whose fetch is pending, or read what it doesn't hold for reading or what differs. Spent:
+    /// doesn't hold alone or whose fetch is pending, or read what it doesn't hold for reading or what differs. Spent:
     /// no place is left, or too few positions of the log. Full: the open group and this change pass the log.
     /// These and NoMemory change nothing.
     pub fn commit(&mut self, alloc: Global, tx: Tx, change: C) -> Commit<C>

@@ -1,17 +1,19 @@
 //! What a worker has asked for, beside what it goes by. With it, how far a worker is can be told from its
 //! state.
 ghost use Rattle.std.specs.Prelude.{◌≡◌, Some, None};
+ghost use Rattle.objects.specs.declared.mode.Mode.TheVariants as modes;
 
 use super::parts::Job;
-use objects::Addr;
+use objects::{Addr, Mode};
 use std::marker::Model;
 use std::snapshot::Snapshot;
 
-// The object whose block is fetched or was fetched last, and the call whose procedure was committed and waits for
+// The object whose block is fetched or was fetched last, in which mode it is wished, and the call whose procedure was committed and waits for
 // its place. They serve proofs alone, and the second takes no memory.
 #[derive(Drop)]
 pub(crate) struct Asked {
     wish: Option<Addr>,
+    mode: Mode,
     waiting: Option<Snapshot<Job>>,
 }
 
@@ -23,6 +25,7 @@ impl Model for Asked {
 
     ghost view = { λ a. record {
       wish = a.wish;
+      mode = a.mode;
       waiting = option_map (λ job. job.value) a.waiting;
     } };
 }
@@ -30,19 +33,21 @@ impl Model for Asked {
 impl Asked {
     // Nothing yet.
     pub(super) fn new() -> Asked
-        ensures { result ≡ record { wish = None; waiting = None } }
+        ensures { result ≡ record { wish = None; mode = modes.Exclusive; waiting = None } }
     {
         Asked {
             wish: None,
+            mode: Mode::Exclusive,
             waiting: None,
         }
     }
 
-    // The block of this object is to be fetched.
-    pub(super) fn wish_for(&mut self, addr: Addr)
-        ensures { self.new ≡ record self.old { wish = Some addr } }
+    // The block of this object, which is wished in this mode, is to be fetched.
+    pub(super) fn wish_for(&mut self, addr: Addr, mode: Mode)
+        ensures { self.new ≡ record self.old { wish = Some addr; mode = mode } }
     {
         self.wish = Some(addr);
+        self.mode = mode;
     }
 
     // The procedure of this call was committed, and waits for its place.

@@ -1,7 +1,6 @@
 //! What a worker's call knows: what it has taken, and was kept off from.
-ghost use Rattle.std.specs.Prelude.{◌≡◌, ◌<◌, All, nat_le, position, vec_len, vec_capacity};
-ghost use Rattle.store_promise.specs.Aims.{Rises, inserted, is_above, rank_of};
-ghost use Rattle.store_workers.specs.Knowing.{IsAlone};
+ghost use Rattle.std.specs.Prelude.{◌≡◌, ◌<◌, nat_le, position, vec_len, vec_capacity};
+ghost use Rattle.store_promise.specs.Aims.{Rises, inserted, is_barred, rank_of};
 
 use std::alloc::{AllocError, Global};
 use std::marker::Model;
@@ -30,19 +29,18 @@ impl Model for Known {
       room = k.room;
     } };
 
-    ghost use Rattle.std.specs.Prelude.{◌≡◌, ◌≤◌, ◌<◌, true, All, IfSome, is_some, vec_len, vec_capacity};
+    ghost use Rattle.std.specs.Prelude.{◌≡◌, ◌≤◌, ◌<◌, true, is_some, vec_len, vec_capacity};
     ghost use Rattle.store_promise.specs.Aims.{Rises};
-    ghost use Rattle.store_workers.specs.Knowing.{IsAlone};
 
-    ghost invariant = { λ k. (k.taken ≤ vec_len k.aims) × Rises k.aims.items × All IsAlone k.aims.items
-        × IfSome k.off IsAlone × (is_some k.off ≡ true → k.room ≡ true)
+    ghost invariant = { λ k. (k.taken ≤ vec_len k.aims) × Rises k.aims.items
+        × (is_some k.off ≡ true → k.room ≡ true)
         × (k.room ≡ true → vec_len k.aims < vec_capacity k.aims) };
 }
 
 impl Known {
-    ghost use Rattle.std.specs.Prelude.{Some, None, [], true, false, IfSome, OnOk, OnErr};
-    ghost use Rattle.store_promise.specs.Aims.{is_above};
-    ghost use Rattle.store_workers.specs.Knowing.{IsAlone, IsNextOf, first_of, given_back, nothing_known, with_aim, with_off, without_off};
+    ghost use Rattle.std.specs.Prelude.{Some, None, [], true, false, OnOk, OnErr};
+    ghost use Rattle.store_promise.specs.Aims.{is_barred};
+    ghost use Rattle.store_workers.specs.Knowing.{IsNextOf, first_of, given_back, nothing_known, with_aim, with_off, without_off};
 
     // Nothing yet.
     pub(crate) fn new(alloc: Global) -> Known
@@ -76,10 +74,9 @@ impl Known {
         Ok(())
     }
 
-    // What is to be taken again next. Each is asked for by a transaction alone.
+    // What is to be taken again next.
     pub(crate) fn next(&self) -> Option<Aim>
-        ensures next { result ≡ first_of self.now.left }
-        ensures alone { IfSome result IsAlone }
+        ensures { result ≡ first_of self.now.left }
     {
         self.aims.get(self.taken).copied()
     }
@@ -88,7 +85,6 @@ impl Known {
     pub(crate) fn take(&mut self, one: Aim)
         requires next { IsNextOf one self.old.left }
         requires room { self.old.left ≡ [] → self.old.room ≡ true }
-        requires alone { IsAlone one }
         ensures { self.new ≡ with_aim one self.old }
     {
         self.room = false;
@@ -101,18 +97,17 @@ impl Known {
         }
     }
 
-    // Whether the transaction has taken something above this.
-    pub(crate) fn has_above(&self, wished: Aim) -> bool
-        ensures above { result ≡ is_above wished self.now.taken }
+    // Whether the transaction has taken something that bars a wait for this: above it, or what it raises.
+    pub(crate) fn bars(&self, wished: Aim) -> bool
+        ensures barred { result ≡ is_barred wished self.now.taken }
         ensures next { first_of self.now.left ≡ Some wished → result ≡ false }
     {
-        any_above(&self.aims[..self.taken], wished)
+        any_bars(&self.aims[..self.taken], wished)
     }
 
     // Notes what it was kept off from.
     pub(crate) fn keep_off(&mut self, wished: Aim)
         requires room { self.old.room ≡ true }
-        requires alone { IsAlone wished }
         ensures { self.new ≡ with_off wished self.old }
     {
         self.off = Some(wished);
@@ -137,12 +132,11 @@ impl Known {
     }
 }
 
-// Whether one of these begins above what is wished.
-fn any_above(aims: &[Aim], wished: Aim) -> bool
-    ensures { result ≡ is_above wished aims.now }
+// Whether one of these bars a wait for what is wished.
+fn any_bars(aims: &[Aim], wished: Aim) -> bool
+    ensures { result ≡ is_barred wished aims.now }
 {
-    let place = wished.place();
-    aims.iter().any(|one| place < one.place())
+    aims.iter().any(|one| one.bars(wished))
 }
 
 // Where the first aim stands whose rank isn't below this one.
@@ -152,22 +146,22 @@ fn position_from(aims: &[Aim], rank: usize) -> Option<usize>
     aims.iter().position(|other| rank <= other.rank())
 }
 
-// Puts an aim in its place, where it isn't there.
+// Puts an aim in its place. Where its object is there, that is raised to its mode.
 fn insert(aims: &mut Vec<Aim>, one: Aim)
     requires rise { Rises aims.old.items }
-    requires alone { All IsAlone aims.old.items × IsAlone one }
     requires room { vec_len aims.old < vec_capacity aims.old }
     ensures items { aims.new.items ≡ inserted one aims.old.items }
     ensures rise { Rises aims.new.items }
-    ensures alone { All IsAlone aims.new.items }
 {
     match position_from(aims, one.rank()) {
         Some(index) => {
-            if aims[index].rank() != one.rank() {
-                match aims.insert(index, one) {
-                    Ok(()) => {}
-                    Err(_) => unreachable!(),
-                }
+            if aims[index].rank() == one.rank() {
+                aims[index] = aims[index].raised_by(one);
+                return;
+            }
+            match aims.insert(index, one) {
+                Ok(()) => {}
+                Err(_) => unreachable!(),
             }
         }
         None => match aims.push(one) {

@@ -16,12 +16,12 @@ impl State {
     ghost use Rattle.store_workers.specs.declared.workers.parts.Phase.TheVariants.{Planning};
     ghost use Rattle.store_images.specs.Counts.{SameFrame};
     ghost use Rattle.store_workers.specs.Phases.{is_planned};
-    ghost use Rattle.store_workers.specs.Knowing.{IsAlone, IsNextOf, first_of};
+    ghost use Rattle.store_workers.specs.Knowing.{IsNextOf, first_of};
     ghost use Rattle.store_workers.specs.Seen.{seen_in};
     ghost use Rattle.store_workers.specs.Worker.{IsSound, HasBytes, HasRoom, HasRoomFor, IsHeld};
     ghost use Rattle.store_workers.specs.WorkerAnswers.{asked_wanted, begun_claimed, begun_wanted};
     ghost use Rattle.store_workers.specs.WorkerAnswers.{claim_wish, known_claimed, known_off, known_wanted};
-    ghost use Rattle.store_workers.specs.WorkerAnswers.{object, phase_claimed, phase_off, phase_wanted};
+    ghost use Rattle.store_workers.specs.WorkerAnswers.{phase_claimed, phase_off, phase_wanted};
     ghost use Rattle.store_workers.specs.WorkerAnswers.{seen_claimed, seen_held, seen_taken, seen_wanted};
     ghost use Rattle.store_workers.specs.WorkerAnswers.{wish_of};
     ghost use Rattle.store_workers.specs.WorkerSteps.{GoesByPlan, HasClaimed, HasLacked, HasWanted, TakesAgain};
@@ -51,7 +51,6 @@ impl State {
         requires sound { IsSound self.old }
         requires phase { self.old.phase ≡ Planning }
         requires next { first_of self.old.known.left ≡ Some next }
-        requires alone { IsAlone next }
         ensures sound { IsSound self.new }
         ensures frame { SameFrame core.old core.new }
         ensures step { TakesAgain (side self.old core.old) result (side self.new core.new) }
@@ -60,7 +59,7 @@ impl State {
     {
         let tx = self.begun.take_tx();
         match next {
-            Aim::Object(addr, _) => self.want(alloc, core, tx, addr),
+            Aim::Object(addr, mode) => self.want(alloc, core, tx, addr, mode),
             Aim::Claim(block) => self.claim(core, tx, block),
         }
     }
@@ -79,7 +78,7 @@ impl State {
         let next = self.next(alloc);
         let tx = self.begun.take_tx();
         match next {
-            Plan::Need(addr) => self.want(alloc, core, tx, addr),
+            Plan::Need(addr, mode) => self.want(alloc, core, tx, addr, mode),
             Plan::Claim(block) => self.claim(core, tx, block),
             Plan::Done(done) => self.commit(alloc, core, tx, done),
             Plan::NoMemory => self.lack(core, tx),
@@ -117,42 +116,42 @@ impl State {
         Step::Ended(Ending::NoMemory)
     }
 
-    // Reads an object in the transaction.
-    fn want(&mut self, alloc: Global, core: &mut Core<Done>, tx: Tx, addr: Addr) -> Step
+    // Reads an object in the transaction, in a mode.
+    fn want(&mut self, alloc: Global, core: &mut Core<Done>, tx: Tx, addr: Addr, mode: Mode) -> Step
         requires held { IsHeld self.old }
-        requires next { IsNextOf (object addr) self.old.known.left }
+        requires next { IsNextOf (aim.Object addr mode) self.old.known.left }
         requires room { self.old.known.left ≡ [] → HasRoom self.old }
         ensures sound { IsSound self.new }
         ensures frame { SameFrame core.old core.new }
-        ensures step { HasWanted tx addr (side self.old core.old) result (side self.new core.new) }
+        ensures step { HasWanted tx addr mode (side self.old core.old) result (side self.new core.new) }
         ensures home { KeepsHome core.old core.new }
         ensures stays { (other : ℕ) → KeepsReads core.old core.new other }
         ensures tx { self.new.begun.tx ≡ Some tx }
     {
-        let answer = core.want(alloc, tx, addr);
-        let wish = self.wanted(addr, answer);
-        Step::Wanted(addr, Mode::Exclusive, wish)
+        let answer = core.want(alloc, tx, addr, mode);
+        let wish = self.wanted(addr, mode, answer);
+        Step::Wanted(addr, mode, wish)
     }
 
     // Goes on by what came of a wish to read.
-    fn wanted(&mut self, addr: Addr, answer: Want) -> Wish
+    fn wanted(&mut self, addr: Addr, mode: Mode, answer: Want) -> Wish
         requires planned { is_planned self.old.work ≡ true }
         requires none { (self.old.begun.tx ≡ None) × (self.old.begun.io ≡ None) }
-        requires next { IsNextOf (object addr) self.old.known.left }
+        requires next { IsNextOf (aim.Object addr mode) self.old.known.left }
         requires room { self.old.known.left ≡ [] → HasRoom self.old }
         requires len { HasBytes addr.len answer }
         ensures wish { result ≡ wish_of answer }
         ensures rest { self.new ≡ record (with_snap self.new self.old) {
-          phase = phase_wanted addr answer self.old.known;
+          phase = phase_wanted addr mode answer self.old.known;
           begun = begun_wanted answer;
-          asked = asked_wanted addr answer self.old.asked;
-          known = known_wanted addr answer (with_snap self.new self.old).known;
+          asked = asked_wanted addr mode answer self.old.asked;
+          known = known_wanted addr mode answer (with_snap self.new self.old).known;
         } }
         ensures seen { seen_in self.new.work.snap
             ≡ seen_wanted self.old.known.left addr answer (seen_in self.old.work.snap) }
         ensures planned { is_planned self.new.work ≡ true }
     {
-        let aim = Aim::Object(addr, Mode::Exclusive);
+        let aim = Aim::Object(addr, mode);
         match answer {
             Want::Held(tx, bytes) => {
                 self.keep(addr, bytes);
@@ -162,7 +161,7 @@ impl State {
             }
             Want::Fetch(tx, io) => {
                 put(&mut self.begun.io, io);
-                self.asked.wish_for(addr);
+                self.asked.wish_for(addr, mode);
                 self.known.take(aim);
                 self.go_on(tx, Phase::Reading);
                 Wish::Fetch
@@ -186,10 +185,9 @@ impl State {
         }
     }
 
-    // A worker that is kept off waits, where it has taken nothing above what it wishes, and else begins again.
+    // A worker that is kept off waits, where it has taken nothing that bars the wait, and else begins again.
     fn keep_off(&mut self, tx: Tx, wished: Aim)
         requires none { self.old.begun.tx ≡ None }
-        requires alone { IsAlone wished }
         requires next { IsNextOf wished self.old.known.left }
         requires room { self.old.known.left ≡ [] → self.old.known.room ≡ true }
         ensures { self.new ≡ record self.old {
@@ -198,7 +196,7 @@ impl State {
           known = known_off wished self.old.known;
         } }
     {
-        if self.known.has_above(wished) {
+        if self.known.bars(wished) {
             self.known.keep_off(wished);
             self.go_on(tx, Phase::Again);
         } else {

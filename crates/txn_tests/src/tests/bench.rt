@@ -5,6 +5,7 @@ use crate::tests::toys::{At, BLOCKS, INODES, Toy};
 use circ::{Recovered, recover};
 use disk::{Block, BlockNo, CrashDisk, MemDisk};
 use limits::FIRST_HOME_BLOCK;
+use objects::Mode;
 use std::alloc::Global;
 use std::test::Fail;
 use txn::*;
@@ -134,7 +135,7 @@ impl<D: CrashDisk> Bench<D> {
     pub fn fetch_out(&mut self, steps: &[Step], at: At) -> Option<(Tx, FetchIo)> {
         let tx = self.begin()?;
         let (tx, _) = self.take_all(tx, steps, &[]);
-        let tx = match self.core.want(self.alloc, tx, at.addr()) {
+        let tx = match self.core.want(self.alloc, tx, at.addr(), Mode::Exclusive) {
             Want::Fetch(tx, io) => return Some((tx, io)),
             Want::Held(tx, _) => tx,
             Want::Busy(tx) | Want::Loading(tx) | Want::Outside(tx) | Want::NoMemory(tx) => tx,
@@ -233,7 +234,7 @@ impl<D: CrashDisk> Bench<D> {
     }
 
     fn want_once(&mut self, tx: Tx, at: At) -> (Tx, Seen) {
-        match self.core.want(self.alloc, tx, at.addr()) {
+        match self.core.want(self.alloc, tx, at.addr(), Mode::Exclusive) {
             Want::Held(tx, bytes) => (tx, Seen::Bytes(first(bytes.as_slice()))),
             Want::Busy(tx) => (tx, Seen::Busy),
             Want::Fetch(tx, io) => (tx, self.fetch(io)),

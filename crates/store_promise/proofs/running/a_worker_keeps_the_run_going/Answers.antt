@@ -1,4 +1,6 @@
-use Rattle.std.proofs.Common.{◌+◌, ◌≤◌, ap, sym, ◌∙◌, subst, arith, length}
+use Rattle.std.proofs.Common.{◌+◌, ◌≤◌, ap, sym, ◌∙◌, subst, arith, length, length-append}
+use Rattle.wal_law.proofs.Tail.{tail_length}
+use Rattle.wal_law.specs.Log.{blocks_of, new_blocks, tail_blocks}
 use Rattle.txn_law.specs.Core.{CoreState}
 use Rattle.store_promise.specs.ToldOf.{StandsAtHome}
 use Rattle.store_promise.proofs.OpenCommits.{blocks_now}
@@ -57,9 +59,13 @@ returns-clause-commit c =
             let logged = grown.logged in
             let taken = grown.taken in
             let starts = took.still.start in
-            let tail = took.group.seen.tail in
+            let tail = ap length took.group.seen.tail in
+            let more = length-append (tail_blocks old.log) (new_blocks (tail_blocks old.log)
+            (blocks_of took.group.group)) in
+            let held = tail_length old.log in
+            let holds = tail_length new.log in
             let within = run.since.over.lawful.taken_within in
-            omega (arith, before, logged, taken, starts, tail, within);
+            omega (arith, before, logged, taken, starts, tail, more, held, holds, within);
         blocks = run.blocks ∙ sym took.still.blocks;
         inodes = run.inodes ∙ sym (ap (λ (core : CoreState). core.inodes) took.only);
         stands = stands_after_commit old.log new.log took.group.group run.since.over.lawful grown

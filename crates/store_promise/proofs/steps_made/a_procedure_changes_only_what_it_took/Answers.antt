@@ -12,4 +12,4 @@ returns c =
     λ before later tree first workers index events t entry job begun addr there planned within free kept.
     let own = kept.changes index entry there in
     let same = same_begun job own.job begun own.begun (sym planned ∙ own.planned) in
-    own.others addr within (sym (ap (λ (b : Begun). takes (wish_of addr modes.Exclusive) b) same) ∙ free)
+    own.others addr within (sym (ap (λ (b : Begun). takes (wish_of addr modes.Shared) b) same) ∙ free)

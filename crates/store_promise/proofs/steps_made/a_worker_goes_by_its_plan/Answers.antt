@@ -19,7 +19,7 @@ asks : (o : Setting) (told : Told) (worker : ℕ) (begun : Begun) (left : List A
     → Asks o.geometry addr
 asks o told worker begun [] none addr mode answer is are = is.0.asks
 asks o told worker begun (next ∷ later) some addr mode answer is are =
-    (subst (IsAim o.geometry) is.0 (left_is o told worker begun next later some are)).0
+    subst (IsAim o.geometry) is.0 (left_is o told worker begun next later some are)
 
 pub returns : goal.returns
 returns c =

@@ -15,13 +15,13 @@ use Rattle.store_promise.proofs.steps_made.nothing_is_asked_for_twice.Goals as g
 unheld : (o : Setting) (told : Told) (worker : ℕ) (begun : Begun) (left : List Aim) → begun.left ≡ left
     → (addr : Addr) (mode : Mode) (answer : Wish)
     → IsStepBeside left o told worker begun (step.Wanted addr mode answer) → AreTakenBy o.geometry begun
-    → is_held addr begun.held ≡ false
+    → is_held addr mode begun.held ≡ false
 unheld o told worker begun [] none addr mode answer is are = is.0.unheld
 unheld o told worker begun (next ∷ later) some addr mode answer is are = by are.first
   where
-    by : (begun.left ≡ []) ⊎ ((begun.held ≡ []) × (begun.claimed ≡ [])) → is_held addr begun.held ≡ false
+    by : (begun.left ≡ []) ⊎ ((begun.held ≡ []) × (begun.claimed ≡ [])) → is_held addr mode begun.held ≡ false
     by (inl none) = let never : next ∷ later ≡ [] = sym some ∙ none in cc
-    by (inr both) = ap (λ (held : List Taken). is_held addr held) both.0
+    by (inr both) = ap (λ (held : List Taken). is_held addr mode held) both.0
 
 never : true ≡ false → ⊥
 never same = cc

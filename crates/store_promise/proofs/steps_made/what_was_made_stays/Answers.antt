@@ -42,7 +42,7 @@ module _ (o : Setting) (told : Told) (later : ℕ → Image) where
       → IsStepByPlan o told worker begun made
       → IsStepByPlan with_later told worker begun made
   by_plan worker begun (step.Wanted addr mode answer) is =
-      (record { unheld = is.0.unheld; asks = is.0.asks; alone = is.0.alone }, is.1)
+      (record { unheld = is.0.unheld; asks = is.0.asks }, is.1)
   by_plan worker begun (step.Claimed block answer) is =
       (record { unclaimed = is.0.unclaimed; claims = is.0.claims }, is.1)
   by_plan worker begun (step.Commit blocks answer) is = (is.0, commits blocks answer is.1)

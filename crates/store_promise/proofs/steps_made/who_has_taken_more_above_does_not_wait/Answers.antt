@@ -9,7 +9,7 @@ use Rattle.store_promise.specs.declared.events.Step.{Step}
 use Rattle.store_promise.specs.declared.events.Step.TheVariants as step
 use Rattle.store_promise.specs.declared.events.Wish.{Wish}
 use Rattle.store_promise.specs.declared.events.Wish.TheVariants as wish
-use Rattle.store_promise.specs.Aims.{is_above}
+use Rattle.store_promise.specs.Aims.{is_barred}
 use Rattle.store_promise.specs.Progress.{Again, At, Begun, Planning, Progress, Stage, after_wanted, kept_off}
 use Rattle.store_promise.specs.Progress.{progressed}
 use Rattle.store_promise.specs.Schedule.{IsStepOfWork, Schedule, told_before, progress_before}
@@ -37,7 +37,7 @@ module _ (begun : Begun) (addr : Addr) (mode : Mode) where
   off answer (inl busy) = ap (after_wanted begun (record { addr = addr; mode = mode })) busy
   off answer (inr loading) = ap (after_wanted begun (record { addr = addr; mode = mode })) loading
 
-  ends : is_above wished begun.taken ≡ true → kept_off begun wished ≡ Again begun (Some wished)
+  ends : is_barred wished begun.taken ≡ true → kept_off begun wished ≡ Again begun (Some wished)
   ends above = ap (λ (b : Bool). if b then Again begun (Some wished) else Planning begun) above
 
 pub returns-clause-off : goal.returns-clause-off

@@ -8,7 +8,7 @@ pub returns-clause-there : goal.returns-clause-there
 returns-clause-there c = there
 
 pub returns-clause-kept : goal.returns-clause-kept
-returns-clause-kept c = λ one other aims. kept one aims other
+returns-clause-kept c = λ one other aims is. kept one aims other is
 
 pub returns-clause-no_more : goal.returns-clause-no_more
 returns-clause-no_more c = λ one other aims. no_more one aims other

@@ -2,12 +2,13 @@ use Rattle.store_runs.proofs.AtWorkFetched.{after_given, after_held, after_wante
 use Rattle.store_runs.proofs.at_work.what_was_fetched_stays.Goals as goal
 
 pub returns-clause-held : goal.returns-clause-held
-returns-clause-held c = λ old new tx fetched addr bytes held. after_held old new tx fetched addr bytes held
+returns-clause-held c = λ old new tx fetched addr mode bytes held.
+    after_held old new tx fetched addr mode bytes held
 
 pub returns-clause-wanted : goal.returns-clause-wanted
-returns-clause-wanted c = λ old new tx fetched addr io asked loaded. (
-  after_wanted old new tx fetched addr io asked loaded,
-  wanted_taken old new tx fetched addr io asked,
+returns-clause-wanted c = λ old new tx fetched addr mode io asked loaded. (
+  after_wanted old new tx fetched addr mode io asked loaded,
+  wanted_taken old new tx fetched addr mode io asked,
 )
 
 pub returns-clause-given : goal.returns-clause-given

@@ -32,7 +32,7 @@ pub returns-then-index-self-clause-taken : goal.returns-then-index-self-clause-t
 returns-then-index-self-clause-taken c =
     let same = c.loop-at.invariant.0 in
     let read = rw same at c.index.ensures in
-    let taken = rw same at c.remove.ensures.value in
-    let left = rw same at c.remove.ensures.items in
+    let taken = rw same at c.remove-taken.ensures.value in
+    let left = rw same at c.remove-taken.ensures.items in
     let le = rw same at c.if-index-self.true in
     first_settled _ _ _ _ _ _ (omega arith) read taken le left c.loop-at.invariant.1
