@@ -5,8 +5,10 @@ good, and the client that was there first is served still.
 """
 
 import collections
+import contextlib
 import socket
 import struct
+import threading
 
 from cases import checking, images, nfs, wire
 from cases.conversing import ROOT
@@ -127,7 +129,6 @@ class Hostile:
         self.image = tree().write(place.path("image"))
         self.server = Server(place, self.image)
         self.first = self.server.client()
-        self.sent, self.closing = {}, 0
 
     def send(self, messages):
         """Has each of these answered as it is judged: pairs of what it is and its bytes."""
@@ -139,8 +140,11 @@ class Hostile:
             else:
                 answered.append((what, message, asked))
         with self.server.connect() as stream:
-            stream.sendall(b"".join(wire.record(it) for _, it, _ in answered))
+            # (a server whose replies nobody takes reads no further)
+            sender = threading.Thread(target=stream.sendall, args=[b"".join(wire.record(it) for _, it, _ in answered)])
+            sender.start()
             found = replies(stream, len(answered))
+            sender.join()
         for what, message, asked in answered:
             reply = found[struct.unpack_from(">I", message)[0]]
             if asked.procedure is None:
@@ -152,7 +156,9 @@ class Hostile:
         """The connection that these bytes come over is closed without an answer."""
         with self.server.connect() as stream:
             stream.sendall(data)
-            stream.shutdown(socket.SHUT_WR)
+            with contextlib.suppress(OSError):
+                # (it may be closed already)
+                stream.shutdown(socket.SHUT_WR)
             is_so(f"{what}: it was answered", is_closed(stream))
 
     def end(self):
