@@ -302,7 +302,7 @@ def drawn_damage(call, xid, drawn):
         if kind == 0:
             message[at] = drawn.choice([0, 1, 2, 127, 128, drawn.randrange(256)])
         elif kind == 1:
-            word = drawn.choice([0, 1, 2, 3, 5, 8, 16, 17, 20, 22, 64, 65, 256, 400, 401, 1025, 2**31, 2**32 - 1, len(message)])
+            word = drawn.choice([0, 1, 2, 3, 5, 8, 16, 17, 20, 22, 64, 65, 256, 400, 401, 1025, 2**31, 2**32 - 1])
             message[at // 4 * 4 : at // 4 * 4 + 4] = wire.words(word)
         elif kind == 2:
             message[at:at] = bytes(drawn.choice([1, 3, 4, 8]))
