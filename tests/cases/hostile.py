@@ -131,7 +131,8 @@ class Hostile:
         self.place, self.image = place, image.write(place.path("image"))
         self.known = {it.handle() for it in image.files}
         self.server = Server(place, self.image)
-        self.first = self.server.client()
+        # (both are open before many others have ended, of which the server may not know at once)
+        self.first, self.stream = self.server.client(), self.server.connect()
 
     def send(self, messages):
         """Has each of these answered as it is judged: pairs of what it is and its bytes."""
@@ -142,12 +143,12 @@ class Hostile:
                 self.is_closed(what, wire.record(message))
             else:
                 answered.append((what, message, asked))
-        with self.server.connect() as stream:
-            # (a server whose replies nobody takes reads no further)
-            sender = threading.Thread(target=stream.sendall, args=[b"".join(wire.record(it) for _, it, _ in answered)])
-            sender.start()
-            found = replies(stream, len(answered))
-            sender.join()
+        # (a server whose replies nobody takes reads no further)
+        data = b"".join(wire.record(it) for _, it, _ in answered)
+        sender = threading.Thread(target=self.stream.sendall, args=[data], daemon=True)
+        sender.start()
+        found = replies(self.stream, len(answered))
+        sender.join()
         for what, message, asked in answered:
             reply = found[struct.unpack_from(">I", message)[0]]
             if asked.procedure is None:
@@ -167,6 +168,8 @@ class Hostile:
     def end(self):
         """The client that was there first is served, and a kill leaves a good image, which the next server opens."""
         same("a later call's status", self.first.ask(nfs.GETATTR, ROOT)[0], nfs.OK)
+        self.first.close()
+        self.stream.close()
         self.server.kill()
         same("why the image is bad", checking.why_bad(self.image), None)
         expect("once", self.place.once(self.image, wire.null_call(1)), 0, wire.null_reply(1), b"")
