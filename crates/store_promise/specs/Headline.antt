@@ -20,7 +20,8 @@ use Rattle.store_promise.specs.History.{IsHistory}
 use Rattle.store_promise.specs.LogTold.{settled_told}
 use Rattle.store_promise.specs.Openings.{AtEachStop, IsBootOf, IsLater, IsOpened, IsRefused, LeavesImages}
 use Rattle.store_promise.specs.Prefix.{HasPrefix}
-use Rattle.store_promise.specs.Schedule.{Schedule, Setting, AreTaken, SoundEvents, told_before}
+use Rattle.store_promise.specs.Schedule.{Schedule, Setting, SoundEvents, told_before}
+use Rattle.store_promise.specs.EventSteps.{AreTaken}
 use Rattle.store_promise.specs.Transcript.{Transcript, Report, entries_of, device_calls, commits_by, fails}
 use Rattle.store_promise.specs.Verdicts.{IsStableAnswer, IsCoveredWrite, AreAnswers}
 
