@@ -211,7 +211,7 @@ pub fn a_call_changes_no_more_than_it_may()
 
 /// A commit that names a block twice breaks the promise, and so does one that names a block of which its transaction
 /// has taken no part alone.
-pub fn a_commit_names_what_it_changes()
+pub fn a_commit_names_what_was_taken_alone()
     ensures once { (before later : Device) (tree : Tree) (first workers index worker : ℕ) (events : Schedule)
         (t : Transcript) (job : Job) (begun : Begun) (blocks : List BlockNo) (answer : Committing)
         → slice_get events index ≡ Some (event.Work worker) → worker < workers

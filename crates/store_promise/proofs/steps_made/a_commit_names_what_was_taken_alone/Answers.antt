@@ -4,7 +4,7 @@ use Rattle.disk.specs.declared.block.BlockNo.{BlockNo}
 use Rattle.store_promise.specs.Progress.{has_part_alone}
 use Rattle.store_promise.specs.Schedule.{told_before}
 use Rattle.store_promise.proofs.Told.{commit_is, planned_step}
-use Rattle.store_promise.proofs.steps_made.a_commit_names_what_it_changes.Goals as goal
+use Rattle.store_promise.proofs.steps_made.a_commit_names_what_was_taken_alone.Goals as goal
 
 pub returns-clause-once : goal.returns-clause-once
 returns-clause-once c =
