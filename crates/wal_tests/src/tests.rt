@@ -1,6 +1,7 @@
 //! What no contract says: that calls succeed with ample memory, and the bytes of the log on a disk.
-ghost use Rattle.std.specs.Prelude.{◌<◌, IfOk, All};
-ghost use Rattle.wal.specs.Log.{IsHomeOn, blocks_of};
+ghost use Rattle.std.specs.Prelude.{◌≡◌, ◌<◌, IfOk, IsTrue, All};
+ghost use Rattle.wal.specs.Log.{AreOnce, IsHomeOn, blocks_of};
+ghost use Rattle.wal.specs.Room.{HasPlaces};
 
 use circ::{LogFault, Recovered, address_at, end_of, put_address, put_end, put_start, read_log};
 use disk::{Block, BlockNo, CrashDisk, MemDisk, Side};
@@ -31,7 +32,8 @@ fn opened(alloc: Global, start: u32) -> Result<Wal, Fail> {
 // A group that changes so many blocks from a home on, each to a block that begins with the byte.
 fn group(alloc: Global, first: u8, count: u16, byte: u8) -> Result<Vec<(BlockNo, Block)>, Fail>
     requires { count < 1024 }
-    ensures { IfOk result (λ group. All (IsHomeOn BLOCKS) (blocks_of group.items)) }
+    ensures homes { IfOk result (λ group. All (IsHomeOn BLOCKS) (blocks_of group.items)) }
+    ensures once { IfOk result (λ group. AreOnce (blocks_of group.items)) }
 {
     let mut group = Vec::new(alloc);
     for i in 0..u32::from(count) {
@@ -44,13 +46,40 @@ fn group(alloc: Global, first: u8, count: u16, byte: u8) -> Result<Vec<(BlockNo,
 
 // Adds a group where it finds room.
 fn add(alloc: Global, log: &mut Wal, group: Vec<(BlockNo, Block)>) -> Result<Append, Fail>
-    requires { All (IsHomeOn BLOCKS) (blocks_of group.items) }
+    requires homes { All (IsHomeOn BLOCKS) (blocks_of group.items) }
+    requires once { AreOnce (blocks_of group.items) }
 {
-    let blocks: Vec<BlockNo> = group.iter().map(|change| change.0).collect(alloc)?;
-    if log.blocks() != BLOCKS || log.room(&blocks) == Room::Spent {
-        Err("no room")?;
+    let blocks = blocks_in(alloc, &group)?;
+    if has_places(log, &blocks) {
+        Ok(log.append(group))
+    } else {
+        Err("no places")?
     }
-    Ok(log.append(group))
+}
+
+// The blocks of a group.
+fn blocks_in(alloc: Global, group: &[(BlockNo, Block)]) -> Result<Vec<BlockNo>, Fail>
+    ensures { IfOk result (λ blocks. blocks.items ≡ blocks_of group.now) }
+{
+    let mut blocks = Vec::new(alloc);
+    for change in group {
+        blocks.push(change.0)?;
+    }
+    Ok(blocks)
+}
+
+// Whether it is a log of the disks here, with a place and enough log positions for a group of these blocks.
+fn has_places(log: &Wal, blocks: &[BlockNo]) -> bool
+    ensures disk { IsTrue result → log.now.blocks ≡ BLOCKS }
+    ensures places { IsTrue result → HasPlaces log.now blocks.now }
+{
+    if log.blocks() != BLOCKS {
+        return false;
+    }
+    match log.room(blocks) {
+        Room::Fits | Room::Full => true,
+        Room::Spent => false,
+    }
 }
 
 // A commit of so many blocks from a home on, each of which begins with the byte.
@@ -142,7 +171,6 @@ fn calls_come_in_order(rt: HostRuntime) -> Result<(), Fail> {
     let logger = [
         IoCall::Write(BlockNo(2)),
         IoCall::Write(BlockNo(3)),
-        IoCall::Write(BlockNo(4)),
         IoCall::Barrier(Side::Log),
         IoCall::Write(BlockNo(1)),
         IoCall::Barrier(Side::Log),
@@ -188,9 +216,84 @@ fn newest_content_wins(rt: HostRuntime) -> Result<(), Fail> {
 }
 
 #[test]
+fn a_hundred_appends_of_one_block_are_one_group_of_it(rt: HostRuntime) -> Result<(), Fail> {
+    let mut log = opened(rt.alloc(), 0)?;
+    for byte in 1..=100 {
+        let again = Commit {
+            first: 0,
+            count: 1,
+            byte,
+        };
+        assert!(rt; add_commit(rt.alloc(), &mut log, again)? == Append::Appended);
+    }
+    assert!(rt; (log.tail(), first_byte(&log, 514)) == (1, Some(100)));
+    assert!(rt; count(&mut log, Worker::Logger) == 4);
+    assert!(rt; (log.settled(), log.places()) == (Seq(100), Seq(100)));
+    Ok(())
+}
+
+#[test]
+fn a_full_tail_takes_what_it_has(rt: HostRuntime) -> Result<(), Fail> {
+    let most = Commit {
+        first: 1,
+        count: 511,
+        byte: 1,
+    };
+    let one_of_them = Commit {
+        first: 9,
+        count: 1,
+        byte: 2,
+    };
+    let one_more = Commit {
+        first: 0,
+        count: 2,
+        byte: 3,
+    };
+    let mut log = log_of(rt.alloc(), 0, &[most])?;
+    let absorbed = add_commit(rt.alloc(), &mut log, one_of_them)?;
+    let refused = add_commit(rt.alloc(), &mut log, one_more)?;
+    assert!(rt; (absorbed, refused) == (Append::Appended, Append::Full));
+    assert!(rt; (log.tail(), log.places()) == (511, Seq(2)));
+    assert!(rt; first_byte(&log, 523) == Some(2));
+    assert!(rt; (first_byte(&log, 514), first_byte(&log, 515)) == (None, Some(1)));
+    assert!(rt; count(&mut log, Worker::Logger) == 514);
+    assert!(rt; log.settled() == Seq(2));
+    Ok(())
+}
+
+// One block before its group is taken, and after.
+const BEFORE: Commit = Commit {
+    first: 0,
+    count: 1,
+    byte: 1,
+};
+
+const AFTER: Commit = Commit {
+    first: 0,
+    count: 1,
+    byte: 2,
+};
+
+#[test]
+fn a_group_that_is_taken_takes_nothing(rt: HostRuntime) -> Result<(), Fail> {
+    let mut log = log_of(rt.alloc(), 0, &[BEFORE])?;
+    let began = step(&mut log, Worker::Logger);
+    let later = add_commit(rt.alloc(), &mut log, AFTER)?;
+    assert!(rt; (began, later) == (Some(IoCall::Write(BlockNo(2))), Append::Appended));
+    assert!(rt; (log.tail(), first_byte(&log, 514)) == (1, Some(2)));
+    for _ in 0..3 {
+        step(&mut log, Worker::Logger);
+    }
+    assert!(rt; (log.settled(), log.tail()) == (Seq(1), 1));
+    assert!(rt; count(&mut log, Worker::Logger) == 4);
+    assert!(rt; log.settled() == Seq(2));
+    Ok(())
+}
+
+#[test]
 fn a_full_tail_waits_for_the_installer(rt: HostRuntime) -> Result<(), Fail> {
     let many = Commit {
-        first: 0,
+        first: 12,
         count: 500,
         byte: 1,
     };
