@@ -5,6 +5,6 @@ use Rattle.txn.proofs.state.State.inst_next.Goals as goal
 
 pub returns-clause-law : goal.returns-clause-law
 returns-clause-law g c =
-    subst (λ (old : CoreState). IfSome c.inst_next.result
-    (λ io. InstCallGoesOut old.log io c.inst_next.new.self))
-    c.self.view_is c.inst_next.ensures.law
+    subst (λ (old : CoreState). IfSome c.inst_next-io.result
+    (λ io. InstCallGoesOut old.log io c.inst_next-io.new.self))
+    c.self.view_is c.inst_next-io.ensures.law
