@@ -42,11 +42,10 @@ impl Ledgers {
     }
 }
 
-/// Puts a core behind the lock, with so many seats. The ledgers are those that the types stand for.
+/// Puts a core behind the lock, with so many seats. What they answer bears the core's boot number. The ledgers are those that the types stand for.
 pub fn begin<L: Ledger, G: Whole, I: Whole>(
     alloc: Global,
     core: Core<Done>,
-    boot: u64,
     workers: u32,
     ledgers: Ledgers,
 ) -> Result<Pool<L, G, I>, AllocError>
@@ -65,7 +64,7 @@ pub fn begin<L: Ledger, G: Whole, I: Whole>(
     } = ledgers;
     let (mut commits, mut rest) = commits.open::<L>();
     commits.add(&mut rest, core.places().0);
-    let seats = seats(alloc, boot, workers, &mut rest)?;
+    let seats = seats(alloc, workers, &mut rest)?;
     let (logged, logs) = logged.open::<G>();
     let (installed, installs) = installed.open::<I>();
     Ok(Pool {
@@ -84,7 +83,6 @@ pub fn begin<L: Ledger, G: Whole, I: Whole>(
 // So many seats, each with a part of the ledger of commits.
 fn seats<L: Ledger>(
     alloc: Global,
-    boot: u64,
     workers: u32,
     rest: &mut Share<L>,
 ) -> Result<Vec<Mutex<Seat<L>>>, AllocError>
@@ -93,7 +91,7 @@ fn seats<L: Ledger>(
 {
     let mut seats = Vec::with_capacity(alloc, workers as usize)?;
     for _made in 0..workers {
-        let seat = Seat::new(alloc, boot, rest.split_off(1, 0));
+        let seat = Seat::new(alloc, rest.split_off(1, 0));
         match seats.push(Mutex::new(seat)) {
             Ok(()) => {}
             Err(_) => unreachable!(),
