@@ -11,6 +11,7 @@ mod sound;
 
 use disk::CrashDisk;
 use running::Running;
+pub use sound::can_be_spelled;
 use std::alloc::Global;
 use store_images::{close, open};
 use store_promise::{Event, OpenFault, Run};

@@ -15,7 +15,7 @@ use nfs_types::Reply;
 use procs::Done;
 use std::alloc::Global;
 use std::test::Fail;
-use store::{CallAnswer, Verdict, Worker};
+use store::{CallAnswer, Verdict, Worker, can_be_spelled};
 use txn::Core;
 use wal::Wal;
 use worked_messages::{GETATTR, NOW};
@@ -88,6 +88,9 @@ fn answer<D: CrashDisk>(
 fn told<D: CrashDisk>(alloc: Global, disk: &mut D) -> Result<Option<CallAnswer>, Fail> {
     let mut core = core_of(alloc, disk)?;
     let (credential, call) = asked(alloc, &GETATTR)?;
+    if !can_be_spelled(&call) {
+        return Ok(None);
+    }
     let mut worker = Worker::new(alloc);
     worker.hand(credential, NOW, call);
     let told = answer(alloc, disk, &mut core, &mut worker);

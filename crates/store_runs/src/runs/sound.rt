@@ -16,9 +16,9 @@ pub(super) fn is_moment(moment: Moment) -> bool
     moment.nanoseconds < NANOSECONDS
 }
 
-// Whether a call can be spelled: its handles and its texts are as short as their items may be. Each number has
-// its bits.
-pub(super) fn can_be_spelled(call: &Call) -> bool
+/// Whether a call can be spelled: its handles and its texts are as short as their items may be. Each number has
+/// its bits.
+pub fn can_be_spelled(call: &Call) -> bool
     ensures { IsTrue result ↔ CallFits call.now }
 {
     match call {
