@@ -42,7 +42,8 @@ impl Ledgers {
     }
 }
 
-/// Puts a core behind the lock, with so many seats. What they answer bears the core's boot number. The ledgers are those that the types stand for.
+/// Puts a core behind the lock, with so many seats. What they do bears the core's boot number. The ledgers are
+/// those that the types stand for.
 pub fn begin<L: Ledger, G: Whole, I: Whole>(
     alloc: Global,
     core: Core<Done>,

@@ -47,9 +47,9 @@ pub enum SessionFault {
     Device,
 }
 
-/// Answers the records of a stream in their order, each call at the moment, of less than a second of nanoseconds, and gives the count of the
-/// replies. At the end of the input everything is settled. The records before a fault are answered, and then,
-/// but after Output, what can be settled is settled too.
+/// Answers the records of a stream in their order, each call at the moment, which is one of less than a second
+/// of nanoseconds, and gives the count of the replies. At the end of the input everything is settled. The
+/// records before a fault are answered, and then, but after Output, what can be settled is settled too.
 #[tactic(auto, using(crate::specs::Serving::has_served))]
 pub fn serve<D: CrashDisk, R: Read, W: Write>(
     alloc: Global,

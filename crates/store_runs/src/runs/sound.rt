@@ -1,15 +1,17 @@
 //! Whether a call can be spelled, and a moment is one.
-ghost use Rattle.std.specs.Prelude.{◌↔◌, IsTrue};
+ghost use Rattle.std.specs.Prelude.{◌↔◌, ◌<◌, ◌^◌, IfSome, IsTrue};
 ghost use Rattle.model.specs.Sound.{SoundTime};
-ghost use Rattle.nfs_types.specs.Fits.{CallFits, CreateHowFits, DirectoryNameFits, HandleFits, MomentFits};
-ghost use Rattle.nfs_types.specs.Fits.{NewAttributesFit, SpecialFileFits, TextFits, VerifierFits};
+ghost use Rattle.nfs_types.specs.Fits.{AreBytes, CallFits, CreateHowFits, DeviceNumberFits, DirectoryNameFits};
+ghost use Rattle.nfs_types.specs.Fits.{HandleFits, MomentFits, NewAttributesFit, SetTimeFits, SpecialFileFits};
+ghost use Rattle.nfs_types.specs.Fits.{TextFits, VerifierFits};
 
 use limits::{MOST_HANDLE_BYTES, NANOSECONDS, RECORD_BYTES};
 use nfs_types::{
-    Call, CreateHow, DirectoryName, Handle, Moment, NewAttributes, Octets, SpecialFile, Verifier,
+    Call, CreateHow, DeviceNumber, DirectoryName, Handle, Moment, NewAttributes, Octets, SetTime,
+    SpecialFile, Verifier,
 };
 
-// Whether a moment has less than a second of nanoseconds.
+/// Whether a moment has less than a second of nanoseconds.
 pub(super) fn is_moment(moment: Moment) -> bool
     ensures { IsTrue result ↔ SoundTime moment }
 {
@@ -29,33 +31,42 @@ pub fn can_be_spelled(call: &Call) -> bool
             attributes,
             guard,
         } => {
-            fit_attributes(attributes);
-            if let Some(time) = guard {
-                fits_moment(time);
-            }
+            fit_attributes(*attributes);
+            fits_guard(*guard);
             fits_handle(object)
         }
         Call::Lookup { name } => fits_name(name),
-        Call::Access { object, bits: _ } => fits_handle(object),
+        Call::Access { object, bits } => {
+            has_32_bits(*bits);
+            fits_handle(object)
+        }
         Call::ReadLink { link } => fits_handle(link),
         Call::Read {
             file,
-            offset: _,
-            count: _,
-        } => fits_handle(file),
+            offset,
+            count,
+        } => {
+            has_64_bits(*offset);
+            has_32_bits(*count);
+            fits_handle(file)
+        }
         Call::Write {
             file,
-            offset: _,
-            count: _,
+            offset,
+            count,
             stability: _,
             bytes,
-        } => fits_handle(file) && fits_text(bytes),
+        } => {
+            has_64_bits(*offset);
+            has_32_bits(*count);
+            fits_handle(file) && fits_text(bytes)
+        }
         Call::Create { name, how } => {
-            fits_how(how);
+            fits_how(*how);
             fits_name(name)
         }
         Call::MkDir { name, attributes } => {
-            fit_attributes(attributes);
+            fit_attributes(*attributes);
             fits_name(name)
         }
         Call::SymLink {
@@ -63,11 +74,11 @@ pub fn can_be_spelled(call: &Call) -> bool
             attributes,
             target,
         } => {
-            fit_attributes(attributes);
+            fit_attributes(*attributes);
             fits_name(name) && fits_text(target)
         }
         Call::MkNod { name, special } => {
-            fits_special(special);
+            fits_special(*special);
             fits_name(name)
         }
         Call::Remove { name } => fits_name(name),
@@ -76,21 +87,26 @@ pub fn can_be_spelled(call: &Call) -> bool
         Call::Link { file, name } => fits_handle(file) && fits_name(name),
         Call::ReadDir {
             directory,
-            cookie: _,
+            cookie,
             verifier,
-            count: _,
+            count,
         } => {
-            fits_verifier(verifier);
+            has_64_bits(*cookie);
+            fits_verifier(*verifier);
+            has_32_bits(*count);
             fits_handle(directory)
         }
         Call::ReadDirPlus {
             directory,
-            cookie: _,
+            cookie,
             verifier,
-            directory_count: _,
-            greatest_count: _,
+            directory_count,
+            greatest_count,
         } => {
-            fits_verifier(verifier);
+            has_64_bits(*cookie);
+            fits_verifier(*verifier);
+            has_32_bits(*directory_count);
+            has_32_bits(*greatest_count);
             fits_handle(directory)
         }
         Call::FsStat { object } => fits_handle(object),
@@ -98,22 +114,30 @@ pub fn can_be_spelled(call: &Call) -> bool
         Call::PathConf { object } => fits_handle(object),
         Call::Commit {
             file,
-            offset: _,
-            count: _,
-        } => fits_handle(file),
+            offset,
+            count,
+        } => {
+            has_64_bits(*offset);
+            has_32_bits(*count);
+            fits_handle(file)
+        }
     }
 }
 
 fn fits_handle(handle: &Handle) -> bool
     ensures { IsTrue result ↔ HandleFits handle.now }
 {
-    handle.bytes.as_slice().len() <= MOST_HANDLE_BYTES
+    let bytes = handle.bytes.as_slice();
+    are_bytes(bytes);
+    bytes.len() <= MOST_HANDLE_BYTES
 }
 
 fn fits_text(text: &Octets) -> bool
     ensures { IsTrue result ↔ TextFits text.now }
 {
-    text.as_slice().len() <= RECORD_BYTES
+    let bytes = text.as_slice();
+    are_bytes(bytes);
+    bytes.len() <= RECORD_BYTES
 }
 
 fn fits_name(place: &DirectoryName) -> bool
@@ -122,44 +146,102 @@ fn fits_name(place: &DirectoryName) -> bool
     fits_handle(&place.directory) && fits_text(&place.name)
 }
 
-// Of these each value can be spelled.
+// Each value of these can be spelled: for proofs alone.
 
-fn fit_attributes(wanted: &NewAttributes)
-    ensures { NewAttributesFit wanted.now }
+fn are_bytes(bytes: &[u8])
+    ensures { AreBytes bytes.now }
+{}
+
+fn has_32_bits(number: u32)
+    ensures { number < 2 ^ 32 }
+{}
+
+fn has_64_bits(number: u64)
+    ensures { number < 2 ^ 64 }
+{}
+
+fn some_has_32_bits(number: Option<u32>)
+    ensures { IfSome number (λ n. n < 2 ^ 32) }
 {
-    let _ = *wanted;
+    if let Some(number) = number {
+        has_32_bits(number);
+    }
 }
 
-fn fits_moment(time: &Moment)
-    ensures { MomentFits time.now }
+fn some_has_64_bits(number: Option<u64>)
+    ensures { IfSome number (λ n. n < 2 ^ 64) }
 {
-    let _ = *time;
+    if let Some(number) = number {
+        has_64_bits(number);
+    }
 }
 
-fn fits_verifier(verifier: &Verifier)
-    ensures { VerifierFits verifier.now }
+fn fits_moment(time: Moment)
+    ensures { MomentFits time }
 {
-    let _ = *verifier;
+    has_32_bits(time.seconds);
+    has_32_bits(time.nanoseconds);
 }
 
-fn fits_how(how: &CreateHow)
-    ensures { CreateHowFits how.now }
+fn fits_guard(guard: Option<Moment>)
+    ensures { IfSome guard MomentFits }
+{
+    if let Some(time) = guard {
+        fits_moment(time);
+    }
+}
+
+fn fits_set_time(time: SetTime)
+    ensures { SetTimeFits time }
+{
+    match time {
+        SetTime::Unchanged | SetTime::Server => {}
+        SetTime::Client(time) => fits_moment(time),
+    }
+}
+
+fn fit_attributes(wanted: NewAttributes)
+    ensures { NewAttributesFit wanted }
+{
+    some_has_32_bits(wanted.mode);
+    some_has_32_bits(wanted.uid);
+    some_has_32_bits(wanted.gid);
+    some_has_64_bits(wanted.size);
+    fits_set_time(wanted.atime);
+    fits_set_time(wanted.mtime);
+}
+
+fn fits_verifier(verifier: Verifier)
+    ensures { VerifierFits verifier }
+{
+    are_bytes(&verifier.bytes);
+}
+
+fn fits_how(how: CreateHow)
+    ensures { CreateHowFits how }
 {
     match how {
-        CreateHow::Unchecked(wanted) => fit_attributes(wanted),
-        CreateHow::Guarded(wanted) => fit_attributes(wanted),
+        CreateHow::Unchecked(wanted) | CreateHow::Guarded(wanted) => fit_attributes(wanted),
         CreateHow::Exclusive(verifier) => fits_verifier(verifier),
     }
 }
 
-fn fits_special(special: &SpecialFile)
-    ensures { SpecialFileFits special.now }
+fn fits_device(device: DeviceNumber)
+    ensures { DeviceNumberFits device }
+{
+    has_32_bits(device.major);
+    has_32_bits(device.minor);
+}
+
+fn fits_special(special: SpecialFile)
+    ensures { SpecialFileFits special }
 {
     match special {
-        SpecialFile::CharacterDevice(wanted, _) => fit_attributes(wanted),
-        SpecialFile::BlockDevice(wanted, _) => fit_attributes(wanted),
-        SpecialFile::Socket(wanted) => fit_attributes(wanted),
-        SpecialFile::Fifo(wanted) => fit_attributes(wanted),
+        SpecialFile::CharacterDevice(wanted, device) | SpecialFile::BlockDevice(wanted, device) => {
+            fit_attributes(wanted);
+            fits_device(device);
+        }
+        SpecialFile::Socket(wanted) | SpecialFile::Fifo(wanted) => fit_attributes(wanted),
         SpecialFile::Regular | SpecialFile::Directory | SpecialFile::Link => {}
     }
 }
