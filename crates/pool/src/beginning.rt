@@ -3,7 +3,7 @@ ghost use Rattle.std.specs.Prelude.{◌≡◌, ◌+◌, ◌<◌, length, IfOk, A
 
 use crate::{Locked, Seat, Shared};
 use log_seats::{Installer, Logger};
-use pool_calls::{Counter, IoSeat, Whole};
+use pool_calls::{IoSeat, Whole};
 use procs::Done;
 use std::alloc::{AllocError, Global};
 use std::sync::Mutex;
@@ -53,9 +53,10 @@ pub fn begin<L: Ledger, G: Whole, I: Whole>(
     requires commits { (ledgers.commits.name ≡ L.name) × (ledgers.commits.parts ≡ L.parts)
         × (ledgers.commits.parts ≡ workers + 1) }
     requires logged { (ledgers.logged.name ≡ G.name) × (ledgers.logged.parts ≡ G.parts)
-        × (G.all ≡ G.parts) × (ledgers.logged.parts ≡ 1) }
+        × (G.all ≡ G.parts) × (ledgers.logged.parts ≡ 1) × (G.first ≡ core.log_calls) }
     requires installed { (ledgers.installed.name ≡ I.name) × (ledgers.installed.parts ≡ I.parts)
-        × (I.all ≡ I.parts) × (ledgers.installed.parts ≡ 1) }
+        × (I.all ≡ I.parts) × (ledgers.installed.parts ≡ 1) × (I.first ≡ core.inst_calls) }
+    requires boot { core.boot ≡ G.boot }
     ensures seats { IfOk result (λ pool. length pool.seats.items ≡ workers) }
 {
     let Ledgers {
@@ -72,8 +73,8 @@ pub fn begin<L: Ledger, G: Whole, I: Whole>(
         shared: Shared::new(Locked {
             core,
             commits,
-            logged: Counter::new(logged),
-            installed: Counter::new(installed),
+            logged,
+            installed,
         }),
         seats,
         logger: IoSeat::new(logs),

@@ -66,6 +66,7 @@ impl Work {
     ghost use Rattle.std.specs.Prelude.{◌≡◌, ◌+◌, ◌↔◌, IsTrue, IsErr, IfErr, IfSome, OnOk, None, IsSomeAnd};
     ghost use Rattle.model.specs.Sound.{SoundTime};
     ghost use Rattle.pool.specs.Answers.{HandsOver};
+    ghost use Rattle.pool_calls.specs.Sides.{HandsOutNone};
     ghost use Rattle.pool.specs.Stepping.{HasStepped, IsFree, ReadsFrom, grown, seated, with_job};
     ghost use Rattle.store_workers.specs.SourceReads.{place_awaited};
     ghost use Rattle.store_workers.specs.Ended.{GivesAllBack};
@@ -153,6 +154,7 @@ impl Work {
     pub(crate) fn step(&mut self, alloc: Global, core: &mut Core<Done>) -> Turn
         ensures step { HasStepped self.old core.old result self.new core.new }
         ensures places { core.new.log.places ≡ core.old.log.places + grown self.new.told }
+        ensures calls { HandsOutNone core.old core.new }
     {
         let (made, given) = advance(alloc, core, &mut self.worker);
         let ready = self.answer.take();

@@ -74,9 +74,10 @@ where
     requires commits { (ledgers.commits.name ≡ L.name) × (ledgers.commits.parts ≡ L.parts)
         × (ledgers.commits.parts ≡ opened.workers + 1) }
     requires logged { (ledgers.logged.name ≡ G.name) × (ledgers.logged.parts ≡ G.parts)
-        × (G.all ≡ G.parts) × (ledgers.logged.parts ≡ 1) }
+        × (G.all ≡ G.parts) × (ledgers.logged.parts ≡ 1) × (G.first ≡ opened.core.log_calls) }
     requires installed { (ledgers.installed.name ≡ I.name) × (ledgers.installed.parts ≡ I.parts)
-        × (I.all ≡ I.parts) × (ledgers.installed.parts ≡ 1) }
+        × (I.all ≡ I.parts) × (ledgers.installed.parts ≡ 1) × (I.first ≡ opened.core.inst_calls) }
+    requires boot { opened.core.boot ≡ G.boot }
 {
     let Opened { core, workers } = opened;
     match begin::<L, G, I>(alloc, core, workers, ledgers) {
