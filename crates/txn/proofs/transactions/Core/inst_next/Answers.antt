@@ -1,4 +1,4 @@
-use Rattle.std.proofs.Common.{subst, ◌+◌}
+use Rattle.std.proofs.Common.{subst, ◌+◌, refl}
 use Rattle.txn_law.specs.Core.{CoreState, with_inst_call}
 use Rattle.txn_law.specs.CoreWindow.{KeepsHome, KeepsReads}
 use Rattle.std.proofs.Common.{IfSome}
