@@ -2,18 +2,18 @@
 //! one step of the core, and made on a port in between.
 #![tactic(auto)]
 
-mod caller;
 mod counter;
 mod gate;
 mod handed;
 mod seat;
+mod shown;
 mod steps;
 mod turn;
 
-pub use caller::{Caller, Shown};
 pub use counter::{Counter, Whole};
 pub use gate::{Gate, NoGate, Point};
 pub use handed::HandedOut;
 pub use seat::IoSeat;
+pub use shown::Shown;
 pub use steps::{give_up, make_call, step_calls};
 pub use turn::Turn;

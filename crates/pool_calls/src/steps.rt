@@ -1,11 +1,13 @@
 //! The steps of the logger and the installer on a core, and their device calls apart from it.
 ghost use Rattle.std.specs.Prelude.{◌≡◌, ◌+◌, ◌<◌, ◌∷◌, ◌++◌, [], length, None, Some, IsSome, IsTrue, ◌↔◌};
-ghost use Rattle.log_seats.specs.Steps.{HasEnded};
+ghost use Rattle.log_seats.specs.Steps.{comes_back, goes_out, HasEnded};
 ghost use Rattle.pool_calls.specs.Numbers.{IsTied, MakesCall, due, number_of, numbers, upto};
 ghost use Rattle.pool_calls.specs.Sides.{HasTurned};
+ghost use Rattle.wal.specs.Sides.{may_call};
 
-use crate::{Caller, Counter, Gate, HandedOut, IoSeat, Shown, Turn, Whole};
-use disk::{Failed, Port};
+use crate::shown::{point, shown};
+use crate::{Counter, Gate, HandedOut, IoSeat, Shown, Turn, Whole};
+use disk::{Failed, Port, Side};
 use http_server::Log;
 use log_seats::Stepped;
 use std::snapshot::Snapshot;
@@ -14,30 +16,31 @@ use txn::{Change, Core};
 
 /// One step of the logger or of the installer: one call of the core at most. A call that is handed out gets the next
 /// number.
-pub fn step_calls<C: Change, G: Whole, S: Caller>(
+pub fn step_calls<C: Change, G: Whole>(
+    side: Side,
     core: &mut Core<C>,
     counter: &mut Counter<G>,
-    seat: &mut IoSeat<G, S>,
+    seat: &mut IoSeat<G>,
 ) -> Turn
-    ensures step { HasTurned S.may S.goes S.comes core.old (S.out seat.old.side) (S.made seat.old.side) result
-        core.new (S.out seat.new.side) (S.made seat.new.side) }
-    ensures numbered { S.out seat.old.side ≡ None → IsSome (S.out seat.new.side)
+    ensures step { HasTurned (may_call side) (goes_out side) (comes_back side) core.old seat.old.caller.io seat.old.caller.made result
+        core.new seat.new.caller.io seat.new.caller.made }
+    ensures numbered { seat.old.caller.io ≡ None → IsSome seat.new.caller.io
         → length seat.new.number.items ≡ seat.old.calls.amount + 1 }
     ensures counted { G.all ≡ G.parts → (length counter.old.count.items ≡ seat.old.calls.amount)
         × (length counter.new.count.items ≡ seat.new.calls.amount) }
     ensures taken { seat.new.taken ≡ seat.old.taken }
 {
     let IoSeat {
-        side,
+        caller,
         calls,
         taken: _,
         number,
     } = seat;
     counter.book.audit(calls);
-    if !side.is_out() && core.broken() {
+    if caller.out().is_none() && core.broken() {
         return Turn::Broken;
     }
-    match side.step(core) {
+    match caller.step(side, core) {
         None => Turn::Idle,
         Some(Stepped::Next(_)) => {
             counter.add(calls);
@@ -49,44 +52,45 @@ pub fn step_calls<C: Change, G: Whole, S: Caller>(
 }
 
 /// Ends a seat: a call that is out is given back with its port's answer, or as failed where it wasn't made.
-pub fn give_up<C: Change, G: Whole, S: Caller>(core: &mut Core<C>, seat: IoSeat<G, S>)
-    ensures back { HasEnded S.comes core.old (S.out seat.side) (S.made seat.side) core.new }
+pub fn give_up<C: Change, G: Whole>(side: Side, core: &mut Core<C>, seat: IoSeat<G>)
+    ensures back { HasEnded (comes_back side) core.old seat.caller.io seat.caller.made core.new }
     ensures places { core.new.log.places ≡ core.old.log.places }
 {
     let IoSeat {
-        side,
+        caller,
         calls: _,
         taken: _,
         number: _,
     } = seat;
-    side.end(core);
+    caller.end(side, core);
 }
 
 /// Makes the device call that is out, where it wasn't made, on a port, and leaves the port's answer in the seat.
 /// It answers whether there was one.
-pub fn make_call<G: Whole, S: Caller, P: Port, T: Gate>(
-    seat: &mut IoSeat<G, S>,
+pub fn make_call<G: Whole, P: Port, T: Gate>(
+    side: Side,
+    seat: &mut IoSeat<G>,
     port: &mut P,
     gate: &T,
 ) -> bool
-    ensures made { MakesCall (S.out seat.old.side) (S.made seat.old.side) (S.made seat.new.side)
+    ensures made { MakesCall seat.old.caller.io seat.old.caller.made seat.new.caller.made
         (P.calls port.old) (P.calls port.new) }
-    ensures was_due { IsTrue result ↔ (due (S.out seat.old.side) (S.made seat.old.side) ≡ 1) }
-    ensures out { S.out seat.new.side ≡ S.out seat.old.side }
+    ensures was_due { IsTrue result ↔ (due seat.old.caller.io seat.old.caller.made ≡ 1) }
+    ensures out { seat.new.caller.io ≡ seat.old.caller.io }
     ensures tied { IsTied (P.calls port.old) seat.old.taken.items
         → IsTied (P.calls port.new) seat.new.taken.items }
 {
     let IoSeat {
-        side,
+        caller,
         calls: _,
         taken,
         number,
     } = seat;
-    let Some(shown) = side.due() else {
+    let Some(shown) = shown(caller) else {
         return false;
     };
-    gate.pass(side.point(shown.call));
-    let Some(made) = side.make_on(port) else {
+    gate.pass(point(side, shown.call));
+    let Some(made) = caller.make_on(port) else {
         unreachable!();
     };
     let Shown { call, content } = shown;

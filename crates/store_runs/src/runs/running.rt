@@ -19,7 +19,7 @@ ghost use Rattle.store_workers.specs.WorkerSteps.{side};
 
 use super::going::{a_log_event_leaves_a_run_going, a_work_event_leaves_a_run_going};
 use super::going_workers::{a_call_leaves_a_run_going, a_read_leaves_a_run_going};
-use disk::CrashDisk;
+use disk::{CrashDisk, Side};
 use log_seats::{Installer, Logger, Stepped};
 use nfs_types::{Call, Credential, Moment};
 use procs::Done;
@@ -257,7 +257,7 @@ impl<D: CrashDisk> Running<D> {
         a_device_counts_the_calls_of_its_steps();
         what_was_read_is_at_home();
         self.store.core.lawful();
-        let stepped = self.calls.logger.step(&mut self.store.core);
+        let stepped = self.calls.logger.step(Side::Log, &mut self.store.core);
         self.store.core.lawful();
         match stepped {
             Some(Stepped::Next(call)) => Some(Step::LogNext(call)),
@@ -305,7 +305,7 @@ impl<D: CrashDisk> Running<D> {
         a_device_counts_the_calls_of_its_steps();
         what_was_read_is_at_home();
         self.store.core.lawful();
-        let stepped = self.calls.installer.step(&mut self.store.core);
+        let stepped = self.calls.installer.step(Side::Home, &mut self.store.core);
         self.store.core.lawful();
         match stepped {
             Some(Stepped::Next(call)) => Some(Step::InstNext(call)),
@@ -424,8 +424,8 @@ impl Calls {
         ensures inodes { core.new.inodes ≡ core.old.inodes }
     {
         let Calls { logger, installer } = self;
-        logger.end(core);
-        installer.end(core);
+        logger.end(Side::Log, core);
+        installer.end(Side::Home, core);
     }
 }
 
