@@ -78,6 +78,7 @@ build_unproved() {
     wait "$child" || true
     child=
     mkdir -p "${program%/*}"
+    chmod 755 "$room/program"
     mv -f "$room/program" "$program"
     rm -rf "$room"
     end_stamp

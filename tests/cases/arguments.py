@@ -108,6 +108,12 @@ def test_arguments_without_a_meaning_have_status_2(place):
     same("what was made", os.listdir(place.folder), [])
 
 
+def test_the_version_is_told_as_help_is(place):
+    ran = place.run(["--version"])
+    same("status and standard output", (ran.status, ran.output), (2, b""))
+    is_so(f"it tells no version: {ran.errors}", re.fullmatch(rb"nfsd \d+\.\d+\.\d+\n", ran.errors))
+
+
 def test_memory_that_runs_out_before_the_arguments_are_read_is_the_fault_memory(place):
     # Arguments that take megabytes, under each limit from none that the loader can do with to one that suffices.
     arguments, seen = ["once"] + ["x" * 131_000] * 14, set()

@@ -1,11 +1,8 @@
-"""A reader of whole images, from docs/FORMAT.md alone: which fault one has, or which tree. The cases hold it to what `images`
-writes, and to images with one fault, or several.
-
-What a checker of images has to tell is held to this: the faults come in one order, whatever else is wrong.
-"""
+"""A reader of whole images, from docs/FORMAT.md alone: which fault one has, in the order in which a checker looks for them,
+or which tree. The cases hold it to what `images` writes, and to images with one fault, or several."""
 
 import collections
-import contextlib
+import errno
 import os
 import struct
 
@@ -237,14 +234,20 @@ class HoledFile:
 
     def __init__(self, path):
         self.file, self.length, self.held = os.open(path, os.O_RDONLY), os.path.getsize(path), set()
-        at = 0
-        with contextlib.suppress(OSError):
-            # (no data behind the last is told as an error)
-            while at < self.length:
-                at = os.lseek(self.file, at, os.SEEK_DATA)
-                end = os.lseek(self.file, at, os.SEEK_HOLE)
-                self.held.update(range(at // BLOCK_BYTES, -(-end // BLOCK_BYTES)))
-                at = end
+        at = self.seek(0, os.SEEK_DATA)
+        while at < self.length:
+            end = self.seek(at, os.SEEK_HOLE)
+            self.held.update(range(at // BLOCK_BYTES, -(-end // BLOCK_BYTES)))
+            at = self.seek(end, os.SEEK_DATA)
+
+    def seek(self, at, whence):
+        try:
+            return os.lseek(self.file, at, whence)
+        except OSError as error:
+            # No data lies behind.
+            if error.errno != errno.ENXIO:
+                raise
+            return self.length
 
     def __enter__(self):
         return self
@@ -451,8 +454,9 @@ def test_the_faults_that_one_file_shows_by_itself(place):
         assert_faults(it, RANGE, {f"{what}: {name}": [(at + offset, value)] for name, offset, value in (
             ("kind 3", 0, four(3)), ("kind 0", 0, four(0)), ("kind 257", 0, four(257)), ("mode 010000", 4, four(0o10000)),
             ("no links", 16, four(0)), ("32001 links", 16, four(32_001)), ("a gap", 20, four(1)),
-            ("the last gap", 124, four(1)), ("a size past the largest", 24, eight(LARGEST_FILE + 4096)), ("atime", 36, four(10**9)),
-            ("mtime", 44, four(10**9)), ("ctime", 52, four(2**32 - 1)), ("flags", 76, four(2)), ("a verifier", 80, b"v"),
+            ("the last gap", 124, four(1)), ("a size past the largest", 24, eight(LARGEST_FILE + 4096)),
+            ("atime", 36, four(10**9)), ("mtime", 44, four(10**9)), ("ctime", 52, four(2**32 - 1)),
+            ("flags", 76, four(2)), ("a verifier", 80, b"v"),
             ("a block before the data", 88, four(data - 1)), ("a block behind the last", 88, four(1030)),
             ("an indirect block before the data", 120, four(1)), ("an indirect block behind the last", 120, four(1030)),
         )})
@@ -593,10 +597,12 @@ def test_the_log_counts_where_it_lies_over_a_fault(place):
         same(f"without the last {fewer}", fault_of(whole[:end] + eight(509 - fewer) + whole[end + 8 :]), fault)
 
 
-# Which fault a fresh image has where one of these bytes is 255, by the tables of docs/FORMAT.md; None is a good one. In the
-# table of inodes the root is the second: its link count may be one, but is another, and its stamp is not the root's.
+# Which fault a fresh image has where one of these bytes is 255, by the tables of docs/FORMAT.md; None is a good one. Block 516
+# has the root behind inode 0. Its mode, owner, group, seconds and lower nanoseconds may be others; 255 links are lawful, but
+# not for the directories that it has; and a root has no stamp.
 ONES = {
-    0: [(range(8), MAGIC), (range(8, 12), VERSION), (range(12, 24), RANGE), (range(24, 32), None), (range(32, 4096), RANGE)],
+    0: [(range(8), MAGIC), (range(8, 12), VERSION), (range(12, 24), RANGE), (range(24, 32), None),
+        (range(32, 4096), RANGE)],
     513: [(range(8), LOG), (range(8, 4096), None)],
     516: [(range(132), RANGE), (range(132, 133), None), (range(133, 136), RANGE), (range(136, 144), None),
           (range(144, 145), TREE), (range(145, 160), RANGE), (range(160, 167), None), (range(167, 168), RANGE),

@@ -2,7 +2,7 @@
 
 import struct
 
-from cases import images, nfs, wire
+from cases import checking, images, nfs, wire
 from cases.running import MADE, NEW_MODE, contents, expect, same
 
 BLOCK_BYTES = 4096
@@ -168,6 +168,27 @@ def test_a_root_that_is_no_inode_is_told_as_io(place):
         image = place.image()
         put(image, TABLE, ROOT_AT + at, bytes([value]))
         expect(f"{value} at {at}", place.once(image, wire.getattr_call(7)), 0, wire.getattr_failed(7), b"")
+
+
+def test_each_byte_of_the_root_at_255_is_told_as_it_is(place):
+    """IO where the inode is out of range, STALE where it has another stamp than the handle, and else what it has then."""
+    image = place.image()
+    for at in range(ROOT_AT):
+        before = put(image, TABLE, ROOT_AT + at, b"\xff")
+        fault = checking.fault_of(contents(image))
+        result = wire.words(nfs.IO if fault == checking.RANGE else nfs.STALE)
+        if at in range(16, 20) and fault != checking.RANGE:
+            same(f"byte {at}: the fault of 255 links", fault, checking.TREE)
+            result = nfs.GETATTR.done(fresh_root()._replace(nlink=255))
+        elif fault is None:
+            result = nfs.GETATTR.done(checking.tree_of(image).attributes())
+        expect(f"byte {at}", place.once(image, wire.getattr_call(7)), 0, wire.reply(7, result), b"")
+        put(image, TABLE, ROOT_AT + at, before)
+    place.attributes(image, NEW_MODE, MADE, "the fresh root")
+
+
+def fresh_root():
+    return images.Image(images.new_root()).root.attributes()
 
 
 def test_other_inodes_are_not_looked_at(place):

@@ -173,6 +173,16 @@ def test_a_try_in_a_checkout_that_cannot_be_written_says_so(place):
         close(checkout.top, True)
 
 
+def test_who_may_not_write_the_checkout_may_try_what_is_built(place):
+    checkout = Checkout(place)
+    assert_builds(checkout, "the first try")
+    close(checkout.top, False)
+    try:
+        assert_at_once(checkout, **AS_NOBODY)
+    finally:
+        close(checkout.top, True)
+
+
 def test_a_try_on_a_full_disk_says_so(place):
     checkout = Checkout(place)
     os.mkdir(checkout.path("out"))

@@ -5,8 +5,12 @@ good, and the client that was there first is served still.
 """
 
 import collections
+import contextlib
+import random
 import socket
 import struct
+import threading
+import time
 
 from cases import checking, images, nfs, wire
 from cases.conversing import ROOT
@@ -86,11 +90,11 @@ def is_caller(flavor, body):
     return count <= MOST_GROUPS and len(body) == at + 12 + 4 * count
 
 
-def handle_status(handle, right):
-    """What a handle is refused with in the place of the right one (section 2.6), or 0."""
+def handle_status(handle, known):
+    """What a handle is refused with that was never any file's (RFC 1813, section 2.6), or None for a known one."""
     if len(handle) != 20 or not 0 < struct.unpack_from(">I", handle)[0] < INODES:
         return nfs.BADHANDLE
-    return 0 if handle == right else nfs.STALE
+    return None if handle in known else nfs.STALE
 
 
 def nothing_told(procedure):
@@ -98,16 +102,16 @@ def nothing_told(procedure):
     return [None if it in ("attributes", "directory") else nfs.Change(None, None) for it in procedure.failed._fields]
 
 
-def assert_answered(what, message, asked, right):
-    """A call that was done is answered in the form of its procedure; and as its handles ask for, where one isn't right."""
+def assert_answered(what, message, asked, known):
+    """A call that was done is answered in the form of its procedure, and refused where it has a handle that isn't known."""
     result = nfs.result_of(message)
     is_so(f"{what}: no call that was done: {message!r:.80}", result is not None)
     status, fields = asked.procedure.read_result(result)
     is_so(f"{what}: status {status}", status in nfs.STATUSES - {nfs.IO, nfs.SERVERFAULT})
     names = [it for it in asked.arguments._fields if it in HANDLES]
     for at, name in enumerate(names):
-        wanted = handle_status(getattr(asked.arguments, name), getattr(right, name))
-        if not wanted:
+        wanted = handle_status(getattr(asked.arguments, name), known)
+        if wanted is None:
             continue
         same(f"{what}: status by its {name}", status, wanted)
         if at == 0:
@@ -122,12 +126,13 @@ class Hostile:
     """A server, to send messages to: those that are answered one behind the other over one connection, and each of the
     others over one of its own."""
 
-    def __init__(self, place, arguments):
-        self.place, self.right = place, arguments
-        self.image = tree().write(place.path("image"))
+    def __init__(self, place):
+        image = tree()
+        self.place, self.image = place, image.write(place.path("image"))
+        self.known = {it.handle() for it in image.files}
         self.server = Server(place, self.image)
-        self.first = self.server.client()
-        self.sent, self.closing = {}, 0
+        # (both are open before many others have ended, of which the server may not know at once)
+        self.first, self.stream = self.server.client(), self.server.connect()
 
     def send(self, messages):
         """Has each of these answered as it is judged: pairs of what it is and its bytes."""
@@ -138,26 +143,33 @@ class Hostile:
                 self.is_closed(what, wire.record(message))
             else:
                 answered.append((what, message, asked))
-        with self.server.connect() as stream:
-            stream.sendall(b"".join(wire.record(it) for _, it, _ in answered))
-            found = replies(stream, len(answered))
+        # (a server whose replies nobody takes reads no further)
+        data = b"".join(wire.record(it) for _, it, _ in answered)
+        sender = threading.Thread(target=self.stream.sendall, args=[data], daemon=True)
+        sender.start()
+        found = replies(self.stream, len(answered))
+        sender.join()
         for what, message, asked in answered:
             reply = found[struct.unpack_from(">I", message)[0]]
             if asked.procedure is None:
                 same(what, reply, asked.message)
             else:
-                assert_answered(what, reply, asked, self.right)
+                assert_answered(what, reply, asked, self.known)
 
     def is_closed(self, what, data):
         """The connection that these bytes come over is closed without an answer."""
         with self.server.connect() as stream:
             stream.sendall(data)
-            stream.shutdown(socket.SHUT_WR)
+            with contextlib.suppress(OSError):
+                # (it may be closed already)
+                stream.shutdown(socket.SHUT_WR)
             is_so(f"{what}: it was answered", is_closed(stream))
 
     def end(self):
         """The client that was there first is served, and a kill leaves a good image, which the next server opens."""
         same("a later call's status", self.first.ask(nfs.GETATTR, ROOT)[0], nfs.OK)
+        self.first.close()
+        self.stream.close()
         self.server.kill()
         same("why the image is bad", checking.why_bad(self.image), None)
         expect("once", self.place.once(self.image, wire.null_call(1)), 0, wire.null_reply(1), b"")
@@ -251,7 +263,7 @@ def bytes_at_255(call):
 
 def case_of(call):
     def is_hostile(place):
-        hostile = Hostile(place, call[2])
+        hostile = Hostile(place)
         hostile.send(handles_of_each_length(call))
         hostile.send(beginnings(call))
         hostile.send(bytes_at_255(call))
@@ -277,9 +289,41 @@ def test_each_procedure_has_its_hostile_bytes(place):
 
 def test_a_connection_that_ends_anywhere_in_a_call_leaves_all_as_it_was(place):
     call = CALLS["WRITE"]
-    hostile, record = Hostile(place, call[2]), wire.record(spelled(1, *call)[0])
+    hostile, record = Hostile(place), wire.record(spelled(1, *call)[0])
     before = hostile.first.tree()
     for length in range(len(record)):
         hostile.is_closed(f"{length} bytes of a record", record[:length])
     same("the files", hostile.first.tree(), before)
+    hostile.end()
+
+
+def drawn_damage(call, xid, drawn):
+    """The message of a call with other bytes, more of them or fewer, here and there."""
+    message = bytearray(spelled(xid, *call)[0])
+    for _ in range(drawn.choice([1, 1, 1, 2, 3])):
+        at, kind = drawn.randrange(4, len(message)), drawn.randrange(5)
+        if kind == 0:
+            message[at] = drawn.choice([0, 1, 2, 127, 128, drawn.randrange(256)])
+        elif kind == 1:
+            word = drawn.choice([0, 1, 2, 3, 5, 8, 16, 17, 20, 22, 64, 65, 256, 400, 401, 1025, 2**31, 2**32 - 1])
+            message[at // 4 * 4 : at // 4 * 4 + 4] = wire.words(word)
+        elif kind == 2:
+            message[at:at] = bytes(drawn.choice([1, 3, 4, 8]))
+        elif kind == 3:
+            del message[at : at + drawn.choice([1, 3, 4, 8])]
+        else:
+            message += drawn.randbytes(drawn.choice([1, 4, 5, 100]))
+    return wire.words(xid) + bytes(message[4:])
+
+
+def test_drawn_damage_is_answered_as_it_is_judged(place):
+    seed, hostile = time.time_ns(), Hostile(place)
+    drawn, xid = random.Random(seed), 0
+    for name, call in CALLS.items():
+        messages = []
+        for _ in range(40):
+            xid += 1
+            message = drawn_damage(call, xid, drawn)
+            messages.append((f"{name} by seed {seed}: {message.hex()}", message))
+        hostile.send(messages)
     hostile.end()

@@ -69,7 +69,7 @@ def test_what_is_not_proved_is_not_installed(place):
     checkout.run(ARGUMENTS, DATA, name="try")
     assert_refused("only ./try has built")
     checkout.run([])
-    put(checkout.files("proofs/*.antt")[0] if checkout.files("proofs/*.antt") else checkout.files("src/lib.rt")[0], b"-- more\n")
+    put(checkout.files("src/lib.rt")[0], b"// more\n")
     assert_refused("something has changed since")
 
 

@@ -1,5 +1,5 @@
-"""Images of the greatest sizes, empty, half full and full, and a directory of many names: what is new is found and kept behind
-all that is there. An image is written with holes where blocks are zeros, so it takes little of the disk."""
+"""Images of the greatest sizes, empty, half full and full, and a directory of many names: what is new is found and kept
+behind all that is there. An image is written with holes where blocks are zeros, so it takes little of the disk."""
 
 import os
 
@@ -16,18 +16,15 @@ NAMES = 10_000
 
 
 def filled(blocks, inodes, share):
-    """The image of a tree whose files use this share of the data blocks, from the first on. The last ones are those of a file
-    with bytes, `last`, which is found behind all others."""
-    data = os.urandom(9 * BLOCK)
-
-    def of(count):
-        files = {b"%d" % it: images.regular(size=images.LARGEST_FILE, mapped=range(SPAN)) for it in range(count)}
-        return images.directory({**files, b"last": images.regular((0, data))}, span=-(-(count + 8) // images.SLOTS))
-
-    few = images.Image(of(0), 1024, 32)
-    # Room for the names, `last`, what the case writes, and as many largest files as fit then.
-    room = blocks - few.data - inodes // images.INODES_PER_BLOCK - blocks // images.BITS - inodes // images.BITS - 64
-    return images.Image(of(int(room * share / LARGEST_COST)), blocks, inodes), data
+    """The image of a tree whose files use this share of the data blocks, from the first on, and the bytes of its file
+    `last`, whose blocks lie behind those of all others."""
+    data, bits, table = os.urandom(9 * BLOCK), images.BITS, inodes // images.INODES_PER_BLOCK
+    # What isn't for files, and some blocks for names, for `last`, and for what a case writes.
+    rest = images.BITMAP + -(-blocks // bits) + -(-inodes // bits) + table + 128
+    count = int((blocks - rest) * share) // LARGEST_COST
+    files = {b"%d" % it: images.regular(size=images.LARGEST_FILE, mapped=range(SPAN)) for it in range(count)}
+    root = images.directory({**files, b"last": images.regular((0, data))}, span=(count + 1) // images.SLOTS + 1)
+    return images.Image(root, blocks, inodes), data
 
 
 def free(client):
@@ -55,13 +52,13 @@ def assert_served(place, image, data):
         same("what is free at the end", free(client)[0], image.free_blocks - 11 + LARGEST_COST)
     server.kill()
     read = checking.reader_of(path)
-    root = read.files[images.ROOT]
+    root, (files, blocks) = read.files[images.ROOT], read.counts()
     for name, content in wanted.items():
         same(f"{name} of the image", root.below(name).bytes(), content)
     server = Server(place, path, connections=1)
     client = server.client()
     same("the bytes of the new file", client.read(client.find(ROOT, b"new")), new)
-    same("what is free", free(client), (image.blocks - image.data - read.counts()[1], image.inodes - 1 - read.counts()[0]))
+    same("what is free", free(client), (image.blocks - image.data - blocks, image.inodes - 1 - files))
     client.close()
     server.end()
 

@@ -62,10 +62,10 @@ serve_command = with_rule
     (with_rule first_of_serve (workers_rule (codes "workers") (codes "4")))
     (default_rule (codes "connections") (codes "0"))
 
--- the program before its commands
+-- the program before its commands, one of which must be there; it has a version
 abbrev pub bare_program : App
 bare_program = record (new_app (codes "nfsd")) {
-  top = record (new_app (codes "nfsd")).top { subcommand_required = true };
+  top = record (new_app (codes "nfsd")).top { subcommand_required = true; has_version = true };
 }
 
 -- the program with the first of its commands

@@ -15,6 +15,9 @@ use clap::error::ErrorKind;
 use clap::{Arg, ArgMatches, Command, Error, value_parser};
 use std::alloc::{AllocError, Global};
 
+// What `--version` tells.
+const VERSION: &str = "0.1.0";
+
 // What the help tells of each argument.
 const NEW_FILE: &str = "The file, which is made where there is none, or the block device";
 
@@ -145,6 +148,7 @@ fn program_up_to_format<'a>(alloc: Global) -> Result<Command<'a>, AllocError>
 {
     Command::new(alloc, "nfsd")
         .about("Keeps files in an image of blocks, and serves them by NFS version 3")
+        .version(VERSION)
         .subcommand_required(true)
         .subcommand(format_words(alloc)?)
 }

@@ -1,7 +1,7 @@
 -- A step of a worker takes a place just where it is told that its change was committed.
 use Rattle.std.proofs.Common.{arith, ◌≡◌, ◌∙◌, refl, sym, ap, subst, ℕ, ◌+◌, Bool, true, false, Option, Some, None}
 use Rattle.objects.specs.declared.addr.Addr.{Addr}
-use Rattle.objects.specs.declared.mode.Mode.TheVariants as modes
+use Rattle.objects.specs.declared.mode.Mode.{Mode}
 use Rattle.procs.specs.Outcome.{Outcome}
 use Rattle.store_promise.specs.declared.events.Ending.TheVariants as ending
 use Rattle.store_promise.specs.declared.events.Step.{Step}
@@ -30,14 +30,14 @@ same : (old new : CoreState) → new ≡ old → places new ≡ places old + 0
 same old new is = none old new (ap places is)
 
 module _ (old new : CoreState) where
-  wanted : (tx : ℕ) (addr : Addr) (answer : Want) → IsWanted old tx addr modes.Exclusive answer new
+  wanted : (tx : ℕ) (addr : Addr) (mode : Mode) (answer : Want) → IsWanted old tx addr mode answer new
       → places new ≡ places old + grown (told_wish (wish_of answer))
-  wanted tx addr (want.Held back bytes) is = none old new (ap places is.2.only)
-  wanted tx addr (want.Fetch back io) is = none old new (ap places is.2.only)
-  wanted tx addr (want.Busy back) is = same old new is.2
-  wanted tx addr (want.Loading back) is = same old new is.2
-  wanted tx addr (want.Outside back) is = same old new is.2
-  wanted tx addr (want.NoMemory back) is = same old new is.2
+  wanted tx addr mode (want.Held back bytes) is = none old new (ap places is.2.only)
+  wanted tx addr mode (want.Fetch back io) is = none old new (ap places is.2.only)
+  wanted tx addr mode (want.Busy back) is = same old new is.2
+  wanted tx addr mode (want.Loading back) is = same old new is.2
+  wanted tx addr mode (want.Outside back) is = same old new is.2
+  wanted tx addr mode (want.NoMemory back) is = same old new is.2
 
   claimed : (tx : ℕ) (addr : Addr) (answer : Claim) → IsClaimed old tx addr answer new
       → places new ≡ places old + grown (told_wish (claim_wish answer))
@@ -72,7 +72,7 @@ cases old new = record {
   begun = λ job number job_is served has. none old.core new.core (ap places has.core);
   not_begun = λ job why job_is served no core worker. same old.core new.core core;
   replied = λ job job_is served core worker. same old.core new.core core;
-  wanted = λ tx addr made tx_is next has. wanted old.core new.core tx addr has.answer has.core;
+  wanted = λ tx addr mode made tx_is next has. wanted old.core new.core tx addr mode has.answer has.core;
   claimed = λ tx block made tx_is next has. claimed old.core new.core tx has.core.0 has.answer has.core.2;
   committed = λ job tx done made tx_is next left job_is has. committed old.core new.core tx done has.answer has.core;
   lacked = λ tx made tx_is left has. none old.core new.core (ap places has.core.only);

@@ -9,6 +9,7 @@ use Rattle.nfs_types.specs.declared.reply.Reply.{Reply}
 use Rattle.nfs_types.specs.declared.reply.Reply.TheVariants.{Null}
 use Rattle.nfs_types.specs.declared.status.Status.TheVariants as status
 use Rattle.objects.specs.declared.addr.Addr.{Addr}
+use Rattle.objects.specs.declared.mode.Mode.{Mode}
 use Rattle.objects.specs.declared.mode.Mode.TheVariants as modes
 use Rattle.procs.specs.Outcome.{Outcome}
 use Rattle.procs.specs.Steps.{IsStepOf}
@@ -24,10 +25,10 @@ use Rattle.store_promise.specs.declared.events.Step.{Step}
 use Rattle.store_promise.specs.declared.events.Step.TheVariants as step
 use Rattle.store_workers.proofs.WorkCases.{Cases, by_cases}
 use Rattle.store_workers.specs.Telling.{told}
-use Rattle.store_promise.specs.Aims.{is_above}
+use Rattle.store_promise.specs.Aims.{is_barred}
 use Rattle.store_promise.specs.declared.aims.Aim.TheVariants as aim
 use Rattle.store_workers.specs.WorkerAnswers.{after_commit, asked_wanted, begun_claimed, begun_wanted}
-use Rattle.store_workers.specs.WorkerAnswers.{known_claimed, known_wanted, object, phase_claimed, phase_wanted}
+use Rattle.store_workers.specs.WorkerAnswers.{known_claimed, known_wanted, phase_claimed, phase_wanted}
 use Rattle.store_workers.specs.WorkerAnswers.{told_of, with_answer, with_entry}
 use Rattle.store_workers.specs.WorkerSteps.{GoesOn, HasBegun, HasClaimed, HasCommitted, HasGivenBack}
 use Rattle.store_workers.specs.WorkerSteps.{HasWanted, IsNext, IsTold, Side, Waits, none_begun, numbered}
@@ -121,20 +122,20 @@ module _ (job : Job) (old new : Side) (none : old.worker.work.answer ≡ None) w
   kept_off true state call = call
   kept_off false state call = call
 
-  wants : (tx : ℕ) (addr : Addr) (made : Step) (has : HasWanted tx addr old made new) → HasCall old.worker job
+  wants : (tx : ℕ) (addr : Addr) (mode : Mode) (made : Step) (has : HasWanted tx addr mode old made new) → HasCall old.worker job
       → Leaves job new.worker
-  wants tx addr made has call = so _ has.worker (by has.answer)
+  wants tx addr mode made has call = so _ has.worker (by has.answer)
     where
       by : (answer : Want) → Leaves job (record (with_snap new.worker old.worker) {
-        phase = phase_wanted addr answer old.worker.known;
+        phase = phase_wanted addr mode answer old.worker.known;
         begun = begun_wanted answer;
-        asked = asked_wanted addr answer old.worker.asked;
-        known = known_wanted addr answer (with_snap new.worker old.worker).known;
+        asked = asked_wanted addr mode answer old.worker.asked;
+        known = known_wanted addr mode answer (with_snap new.worker old.worker).known;
       })
       by (want.Held back bytes) = stays _ none call
       by (want.Fetch back io) = stays _ none call
-      by (want.Busy back) = stays _ none (kept_off (is_above (object addr) old.worker.known.taken) _ call)
-      by (want.Loading back) = stays _ none (kept_off (is_above (object addr) old.worker.known.taken) _ call)
+      by (want.Busy back) = stays _ none (kept_off (is_barred (aim.Object addr mode) old.worker.known.taken) _ call)
+      by (want.Loading back) = stays _ none (kept_off (is_barred (aim.Object addr mode) old.worker.known.taken) _ call)
       by (want.Outside back) = stays _ none call
       by (want.NoMemory back) = stays _ none call
 
@@ -148,8 +149,8 @@ module _ (job : Job) (old new : Side) (none : old.worker.work.answer ≡ None) w
         known = known_claimed block answer (with_snap new.worker old.worker).known;
       })
       by (claim.Held back) = stays _ none call
-      by (claim.Busy back) = stays _ none (kept_off (is_above (aim.Claim block) old.worker.known.taken) _ call)
-      by (claim.Loading back) = stays _ none (kept_off (is_above (aim.Claim block) old.worker.known.taken) _ call)
+      by (claim.Busy back) = stays _ none (kept_off (is_barred (aim.Claim block) old.worker.known.taken) _ call)
+      by (claim.Loading back) = stays _ none (kept_off (is_barred (aim.Claim block) old.worker.known.taken) _ call)
       by (claim.Outside back) = stays _ none call
       by (claim.NoMemory back) = stays _ none call
 
@@ -260,7 +261,7 @@ module _ (job : Job) (old new : Side) (none : old.worker.work.answer ≡ None) w
         refuses old.worker mine (cause_of why) (at_some (IsOf job) old.worker.work.job mine mine_is stands) worker;
     replied = λ mine mine_is served core worker phase_is stands.
         replies mine (at_some (IsOf job) old.worker.work.job mine mine_is stands) served worker;
-    wanted = λ tx addr made tx_is next has phase_is stands. wants tx addr made has stands;
+    wanted = λ tx addr mode made tx_is next has phase_is stands. wants tx addr mode made has stands;
     claimed = λ tx block made tx_is next has phase_is stands. claims tx block made has stands;
     committed = λ mine tx done made tx_is next left mine_is has phase_is stands.
         so _ has.worker (commits_by mine mine_is (at_some (IsOf job) old.worker.work.job mine mine_is stands) tx

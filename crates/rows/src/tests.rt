@@ -10,4 +10,5 @@ mod records;
 mod runs;
 mod served;
 mod settling;
+mod whole_blocks;
 mod worker;

@@ -13,7 +13,8 @@ use Rattle.store_promise.specs.declared.events.Step.{Step}
 use Rattle.store_promise.specs.declared.events.Step.TheVariants as step
 use Rattle.store_promise.specs.declared.transcript.Answer.{Answer}
 use Rattle.store_promise.specs.Progress.{Called, Planning, Refused, Stage, Waiting, is_idle}
-use Rattle.store_promise.specs.Schedule.{IsTaken, Schedule, Setting, Told, progress_before, told_after}
+use Rattle.store_promise.specs.Schedule.{Schedule, Setting, Told, progress_before, told_after}
+use Rattle.store_promise.specs.EventSteps.{IsTaken}
 use Rattle.store_promise.specs.Schedule.{worker_of}
 use Rattle.store_promise.specs.Transcript.{Transcript, device_calls, step_at}
 use Rattle.store_promise.specs.Verdicts.{AreAnswers, HasVerdict, IsAnswer, IsReplyAt}

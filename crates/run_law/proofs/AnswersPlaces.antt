@@ -1,8 +1,9 @@
 -- A place that is waited for was taken, nobody else waits for it, and no answer has it.
 use Rattle.std.proofs.Common.{◌≡◌, ◌⊎◌, inl, inr, ℕ, ◌+◌, ◌≤◌, ap, sym, ◌∙◌, refl, subst, arith, true, false}
-use Rattle.std.proofs.Common.{length, length-append, slice_get, Option, Some, None, Err}
+use Rattle.std.proofs.Common.{List, length, length-append, slice_get, Option, Some, None, Err}
 use Rattle.nfs_types.specs.declared.call.Call.{Call}
 use Rattle.wal_law.specs.declared.outcomes.Seq.{Seq}
+use Rattle.disk.specs.declared.block.BlockNo.{BlockNo}
 use Rattle.store_promise.specs.declared.answers.Verdict.{Verdict}
 use Rattle.store_promise.specs.declared.events.Committing.TheVariants as committing
 use Rattle.store_promise.specs.declared.events.Ending.TheVariants as ending
@@ -13,7 +14,8 @@ use Rattle.store_promise.specs.declared.events.Step.TheVariants as step
 use Rattle.store_promise.specs.declared.transcript.Answer.{Answer}
 use Rattle.store_promise.specs.Progress.{At, Begun, Called, Idle, Job, Planning, Progress}
 use Rattle.store_promise.specs.Progress.{Refused, Stage, Waiting, is_idle}
-use Rattle.store_promise.specs.Schedule.{IsStepOf, IsStepOfRead, IsStepOfWork, IsTaken, Schedule, Setting, Told}
+use Rattle.store_promise.specs.Schedule.{IsStepOf, IsStepOfRead, IsStepOfWork, Schedule, Setting, Told}
+use Rattle.store_promise.specs.EventSteps.{IsTaken}
 use Rattle.store_promise.specs.Schedule.{told_after}
 use Rattle.store_promise.specs.Transcript.{Transcript}
 use Rattle.store_promise.specs.Verdicts.{HasVerdict, IsOfNone}
@@ -31,7 +33,7 @@ use Rattle.run_law.proofs.ToldStages.{PlaceComes, commits, place_comes, was_wait
 -- it is that of the procedure that is committed with it, or the one that was waited for
 pub data AnswersAt (stage : Stage) (made : Step) (place : ℕ) : Type 0 where
   waited : stage ≡ Waiting place → AnswersAt stage made place
-  commits_now : (begun : Begun) (blocks : ℕ) → stage ≡ Planning begun → made ≡ commit_of blocks place
+  commits_now : (begun : Begun) (blocks : List BlockNo) → stage ≡ Planning begun → made ≡ commit_of blocks place
       → AnswersAt stage made place
 
 no_place : (told : Verdict) (a : Answer) (place : ℕ) → IsOfNone told a → a.place ≡ Some (seq place) → ⊥
@@ -86,13 +88,13 @@ answer_comes events t now noted tells index a is = by_either (either t.answers n
 -- the worker takes the next place with the event
 pub record Takes (told : Told) (now : Event) (made : Option Step) (worker place : ℕ) : Type 0 where
   pub own : now ≡ event.Work worker
-  pub blocks : ℕ
+  pub blocks : List BlockNo
   pub is : made ≡ Some (commit_of blocks place)
   pub place_is : place ≡ told.log.places + 1
 
 module _ (o : Setting) (workers : ℕ) (told : Told) (now : Event) (made : Option Step)
     (is_taken : IsTaken o workers told now made) where
-  pub takes_now : (worker place blocks : ℕ) (job : Job) (begun : Begun) → made ≡ Some (commit_of blocks place)
+  pub takes_now : (worker place : ℕ) (blocks : List BlockNo) (job : Job) (begun : Begun) → made ≡ Some (commit_of blocks place)
       → IsOwn worker now → told.workers worker ≡ At job (Planning begun) → Takes told now made worker place
   takes_now worker place blocks job begun is own at = by_event own
     where

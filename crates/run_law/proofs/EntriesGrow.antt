@@ -1,7 +1,8 @@
 -- The history is that of the events, with a procedure more or without.
 use Rattle.std.proofs.Common.{◌≡◌, ◌⊎◌, inl, inr, ℕ, ◌+◌, ◌<◌, ◌≤◌, ap, sym, ◌∙◌, refl, subst, arith, length}
-use Rattle.std.proofs.Common.{slice_get, Option, Some, None, false, true}
+use Rattle.std.proofs.Common.{slice_get, List, Option, Some, None, false, true}
 use Rattle.std.proofs.lemmas.Option.{slice_get_within}
+use Rattle.disk.specs.declared.block.BlockNo.{BlockNo}
 use Rattle.nfs_types.specs.declared.ctx.Ctx.{Ctx}
 use Rattle.store_promise.specs.declared.events.Event.{Event}
 use Rattle.store_promise.specs.declared.events.Step.{Step}
@@ -97,7 +98,8 @@ module _ (events : Schedule) (t : Transcript) (now : Event) (noted : Noted)
   HasEntry at place = (c : Committed) × (committed_at grown place ≡ Some c) × (c.event ≡ at)
 
   entry_now : (entry : Option Committed) → noted.entry ≡ entry → IsEntryOf events t now noted.made entry
-      → (place blocks : ℕ) → noted.made ≡ Some (commit_of blocks place) → HasEntry (length t.steps) place
+      → (place : ℕ) (blocks : List BlockNo) → noted.made ≡ Some (commit_of blocks place)
+      → HasEntry (length t.steps) place
   entry_now None is never place blocks committed =
       let commit : commits noted.made ≡ true = ap commits committed in
       let both : false ≡ true = sym never ∙ commit in
@@ -106,7 +108,7 @@ module _ (events : Schedule) (t : Transcript) (now : Event) (noted : Noted)
       let place_is = same_place of.blocks blocks (length t.history + 1) place (sym of.made_is ∙ committed) in
       (c, ap (committed_at grown) (sym place_is) ∙ committed_now t noted c is, of.event)
 
-  has_entry : (at place blocks : ℕ) → (slice_get t.steps at ≡ Some (Some (commit_of blocks place)))
+  has_entry : (at place : ℕ) (blocks : List BlockNo) → (slice_get t.steps at ≡ Some (Some (commit_of blocks place)))
       ⊎ ((at ≡ length t.steps) × (Some noted.made ≡ Some (Some (commit_of blocks place)))) → HasEntry at place
   has_entry at place blocks (inl old) =
       let found = history.whole at place blocks (ap made old) in

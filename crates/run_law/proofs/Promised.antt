@@ -14,6 +14,8 @@ use Rattle.model.specs.Refused.{refused}
 use Rattle.procedures.specs.Step as procedures
 use Rattle.model.specs.Tree.{Tree}
 use Rattle.wal_law.specs.declared.outcomes.Seq.{Seq}
+use Rattle.disk.specs.declared.block.BlockNo.{BlockNo}
+use Rattle.store_promise.proofs.RulesAre.{own_step}
 use Rattle.store_promise.specs.declared.answers.Verdict.TheVariants as verdict
 use Rattle.store_promise.specs.declared.events.Committing.TheVariants as committing
 use Rattle.store_promise.specs.declared.events.Ending.TheVariants as ending
@@ -26,7 +28,8 @@ use Rattle.store_promise.specs.Headline.{WasPromised, by_answer, by_commit, by_s
 use Rattle.store_promise.specs.History.{IsHistory}
 use Rattle.store_promise.specs.LogTold.{settled_told}
 use Rattle.store_promise.specs.Progress.{Again, At, Called, Planning, Read, Reading, Refused, Stage, Waiting}
-use Rattle.store_promise.specs.Schedule.{AreTaken, IsStepOfWork, Schedule, Setting, told_before}
+use Rattle.store_promise.specs.Schedule.{IsStepOfWork, Schedule, Setting, told_before}
+use Rattle.store_promise.specs.EventSteps.{AreTaken}
 use Rattle.store_promise.specs.Transcript.{Transcript, committed_at, entries_of, entry_of}
 use Rattle.store_promise.specs.Verdicts.{AreAnswers, HasVerdict, IsAnswer, IsReplyAt, IsStableAnswer}
 use Rattle.store_promise.specs.Verdicts.{IsUnsettledAt}
@@ -39,7 +42,7 @@ use Rattle.run_law.proofs.Waited.{waits_for_its_own}
 
 data Told (t : Transcript) (asked : Call) (a : Answer) (stage : Stage) (made : Step) : Type 0 where
   of_none : a.place ≡ None → Told t asked a stage made
-  at_commit : (blocks : ℕ) (place : Seq) → made ≡ step.Commit blocks (committing.Committed place)
+  at_commit : (blocks : List BlockNo) (place : Seq) → made ≡ step.Commit blocks (committing.Committed place)
       → IsReplyAt t place a → Told t asked a stage made
   settled : (place : ℕ) (seq : Seq) → stage ≡ Waiting place → made ≡ step.Stable seq true
       → IsReplyAt t (record { 0 = place }) a → Told t asked a stage made
@@ -134,8 +137,8 @@ module _ (o : Setting) (workers : ℕ) (events : Schedule) (t : Transcript) (tre
     by_step waited seq stage_is step_is_stable same =
         let there = only_of_some o workers events t.steps taken a.event a.worker answer.step
         answer.event step_there in
-        let own = (taken.each a.event (event.Work a.worker) (Some answer.step) answer.event
-        step_there).own there in
+        let own = own_step o workers _ _ _ (taken.each a.event (event.Work a.worker) (Some answer.step) answer.event
+        step_there) there in
         let so_far = answer.so_far ∙ ap (At answer.job) stage_is in
         let may = subst (λ p. IsStepOfWork o (told_before events t.steps a.event) a.worker p
         (Some answer.step)) so_far own in

@@ -2,16 +2,18 @@
 use Rattle.std.proofs.Common.{◌≡◌, ℕ, zero, suc, ◌+◌, ◌-◌, ◌<◌, ◌≤◌, refl, ap, arith}
 use Rattle.std.proofs.Common.{Bool, true, false, if◌then◌else◌, nat_eq, nat_lt, List, [], ◌∷◌, Option, Some}
 use Rattle.std.proofs.Common.{None}
-use Rattle.std.proofs.Common.{take}
+use Rattle.std.proofs.Common.{take, length-append}
+use Rattle.wal_law.specs.Log.{new_blocks}
 use Rattle.std.proofs.lemmas.Bool.Decides.{nat_tests}
 use Rattle.std.specs.List.{zip}
 use Rattle.wal_law.specs.declared.calls.IoCall.{IoCall}
 use Rattle.wal_law.specs.declared.calls.IoCall.TheVariants.{Write, Barrier}
+use Rattle.disk.specs.declared.block.BlockNo.{BlockNo}
 use Rattle.store_promise.specs.declared.events.Committing.TheVariants as committing
 use Rattle.store_promise.specs.declared.events.Event.{Event}
 use Rattle.store_promise.specs.declared.events.Step.{Step}
 use Rattle.store_promise.specs.declared.events.Step.TheVariants as step
-use Rattle.store_promise.specs.LogTold.{CallTold, LogTold, idle, log_moved, out, settled_told, was_made}
+use Rattle.store_promise.specs.LogTold.{CallTold, LogTold, idle, log_moved, out, settled_told, tail_told, was_made}
 use Rattle.store_promise.specs.LogTold.{with_commit, with_inst_behind, with_inst_done, with_inst_given}
 use Rattle.store_promise.specs.LogTold.{with_inst_taken}
 use Rattle.store_promise.specs.LogTold.{with_log_done, with_log_given, with_log_taken}
@@ -20,8 +22,8 @@ use Rattle.store_promise.specs.Schedule.{Schedule, Told, at_first, told_after, t
 -- the first commits of the group and of the tail were made, and that of the group no later
 pub record IsOrdered (log : LogTold) : Type 0 where
   pub taken : 0 < log.taken → log.taken_first ≤ log.places
-  pub tail : 0 < log.tail → log.tail_first ≤ log.places
-  pub both : 0 < log.taken → 0 < log.tail → log.taken_first ≤ log.tail_first
+  pub tail : 0 < tail_told log → log.tail_first ≤ log.places
+  pub both : 0 < log.taken → 0 < tail_told log → log.taken_first ≤ log.tail_first
 
 -- what is told as settled, by its parts
 abbrev settled_of : ℕ → ℕ → ℕ → ℕ → ℕ → ℕ
@@ -38,7 +40,7 @@ record SameParts (old new : LogTold) : Type 0 where
   places : new.places ≡ old.places
   taken : new.taken ≡ old.taken
   taken_first : new.taken_first ≡ old.taken_first
-  tail : new.tail ≡ old.tail
+  tail : tail_told new ≡ tail_told old
   tail_first : new.tail_first ≡ old.tail_first
 
 same_parts : (old new : LogTold) → IsOrdered old → SameParts old new → Rises old new
@@ -64,18 +66,19 @@ same_parts old new is same =
 
 -- ---- a commit
 
-commit_rises : (log : LogTold) (blocks : ℕ) → IsOrdered log → Rises log (with_commit log blocks)
+commit_rises : (log : LogTold) (blocks : List BlockNo) → IsOrdered log → Rises log (with_commit log blocks)
 commit_rises log blocks is =
     let a = is.taken in
     let b = is.tail in
     let c = is.both in
+    let long = length-append log.tail (new_blocks log.tail blocks) in
     record {
       ordered = record {
         taken = λ has. (let f = a has in omega (arith, f));
-        tail = λ has. grind (arith, nat_tests, b, has);
-        both = λ has more. (let f = a has in let g = c has in grind (arith, nat_tests, f, g, has, more));
+        tail = λ has. grind (arith, nat_tests, b, has, long);
+        both = λ has more. (let f = a has in let g = c has in grind (arith, nat_tests, f, g, has, more, long));
       };
-      settled = grind (arith, nat_tests, a, b, c);
+      settled = grind (arith, nat_tests, a, b, c, long);
     }
 
 -- ---- the logger
@@ -94,7 +97,7 @@ parts_of log new same is = same_parts log new is (record {
   places = ap (λ (l : LogTold). l.places) same;
   taken = ap (λ (l : LogTold). l.taken) same;
   taken_first = ap (λ (l : LogTold). l.taken_first) same;
-  tail = ap (λ (l : LogTold). l.tail) same;
+  tail = ap tail_told same;
   tail_first = ap (λ (l : LogTold). l.tail_first) same;
 })
 
@@ -103,9 +106,9 @@ taken_rises log call is = by_group (nat_lt 0 log.taken) refl
   where
     by_group : (t : Bool) → nat_lt 0 log.taken ≡ t → Rises log (if t then record log { log_call = out call }
         else record log {
-          taken = log.tail;
+          taken = tail_told log;
           taken_first = log.tail_first;
-          tail = 0;
+          tail = [];
           tail_first = 0;
           log_call = out call;
         })

@@ -4,6 +4,7 @@ use Rattle.std.proofs.Common.{not, ◌&&◌, Option, Some, None}
 use Rattle.std.proofs.lemmas.Bool.{cases_lt}
 use Rattle.disk.specs.declared.block.BlockNo.{BlockNo}
 use Rattle.wal_law.specs.declared.calls.IoCall.{IoCall}
+use Rattle.store_promise.proofs.RulesAre.{own_step}
 use Rattle.store_promise.specs.declared.events.Event.{Event}
 use Rattle.store_promise.specs.declared.events.Event.TheVariants as event
 use Rattle.store_promise.specs.declared.events.Step.{Step}
@@ -16,7 +17,8 @@ use Rattle.store_promise.specs.Schedule.{IsNextOfInstaller, IsNextOfLog, IsOfOne
 use Rattle.store_promise.specs.Schedule.{IsStepOfCall}
 use Rattle.store_promise.specs.Schedule.{IsStepOfInstIo, IsStepOfInstaller, IsStepOfLog, IsStepOfLogIo}
 use Rattle.store_promise.specs.Schedule.{IsStepOfRead}
-use Rattle.store_promise.specs.Schedule.{IsTaken, Setting, Told, told_after, worker_of}
+use Rattle.store_promise.specs.Schedule.{Setting, Told, told_after, worker_of}
+use Rattle.store_promise.specs.EventSteps.{IsTaken}
 use Rattle.run_law.specs.Noting.{commits, ends, ends_of}
 use Rattle.run_law.proofs.ToldMoves.{own_read}
 
@@ -147,9 +149,9 @@ module _ (o : Setting) (workers : ℕ) (told : Told) where
   quiet e made other taken = by_worker (worker_of e) refl
     where
       by_worker : (of : Option ℕ) → worker_of e ≡ of → IsQuiet told e made
-      by_worker None is = quiet_step e made other (taken.own (subst (IsOfOne workers) (sym is) tt))
+      by_worker None is = quiet_step e made other (own_step o workers told e made taken (subst (IsOfOne workers) (sym is) tt))
       by_worker (Some number) is = elim (cases_lt number workers) [
-        | inl less ↦ quiet_step e made other (taken.own (subst (IsOfOne workers) (sym is) less))
+        | inl less ↦ quiet_step e made other (own_step o workers told e made taken (subst (IsOfOne workers) (sym is) less))
         | inr past ↦ without_step told e made (taken.others (λ its.
             let less : number < workers = subst (IsOfOne workers) is its in omega (arith, less, past)))
       ]

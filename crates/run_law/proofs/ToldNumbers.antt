@@ -11,7 +11,8 @@ use Rattle.store_promise.specs.declared.events.Step.{Step}
 use Rattle.store_promise.specs.declared.events.Step.TheVariants as step
 use Rattle.store_promise.specs.declared.transcript.Committed.{Committed}
 use Rattle.store_promise.specs.Progress.{At, Called, Job, Progress, Waiting, going_on, progressed}
-use Rattle.store_promise.specs.Schedule.{IsStepOf, IsStepOfCalled, IsStepOfRead, IsStepOfWork, IsTaken}
+use Rattle.store_promise.specs.Schedule.{IsStepOf, IsStepOfCalled, IsStepOfRead, IsStepOfWork}
+use Rattle.store_promise.specs.EventSteps.{IsTaken}
 use Rattle.store_promise.specs.Schedule.{Schedule}
 use Rattle.store_promise.specs.Schedule.{Setting, Told, told_after}
 use Rattle.store_promise.specs.Transcript.{Transcript}

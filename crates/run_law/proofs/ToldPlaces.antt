@@ -5,6 +5,7 @@ use Rattle.std.proofs.Common.{[], ◌∷◌, ◌++◌, append-nil, List, length,
 use Rattle.std.proofs.Common.{Some, None}
 use Rattle.std.proofs.lemmas.List.{take-take}
 use Rattle.wal_law.specs.declared.calls.IoCall.TheVariants.{Write, Barrier}
+use Rattle.disk.specs.declared.block.BlockNo.{BlockNo}
 use Rattle.store_promise.specs.declared.events.Committing.TheVariants as committing
 use Rattle.store_promise.specs.declared.events.Event.{Event}
 use Rattle.store_promise.specs.declared.events.Step.{Step}
@@ -92,7 +93,7 @@ no_commit : (told : Told) (e : Event) (made : Option Step) → commits made ≡ 
 no_commit told e None never = refl
 no_commit told e (Some made) never = places_stay told.log made never
 
-pub one_place : (told : Told) (e : Event) (made : Option Step) (blocks place : ℕ)
+pub one_place : (told : Told) (e : Event) (made : Option Step) (blocks : List BlockNo) (place : ℕ)
     → made ≡ Some (commit_of blocks place) → (told_after told e made).log.places ≡ told.log.places + 1
 one_place told e made blocks place is = ap (λ (m : Option Step). (told_after told e m).log.places) is
 

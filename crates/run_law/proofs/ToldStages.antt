@@ -174,9 +174,9 @@ number_comes broken made (At job stage) number is =
 module _ (place : ℕ) where
   abbrev Commits : Stage → Step → Type 0
   Commits stage made =
-      (begun : Begun) × (blocks : ℕ) × (stage ≡ Planning begun) × (made ≡ commit_of blocks place)
+      (begun : Begun) × (blocks : List BlockNo) × (stage ≡ Planning begun) × (made ≡ commit_of blocks place)
 
-  by_commit : (stable : Bool) (begun : Begun) (blocks : ℕ) (answer : Committing)
+  by_commit : (stable : Bool) (begun : Begun) (blocks : List BlockNo) (answer : Committing)
       → next_place (after_commit stable begun answer) ≡ Some place
       → Commits (Planning begun) (step.Commit blocks answer)
   by_commit true begun blocks (committing.Committed seq) is =
@@ -232,7 +232,7 @@ module _ (place : ℕ) where
 
 pub data PlaceComes (so_far : Progress) (made : Step) (place : ℕ) : Type 0 where
   was_waited : place_waited so_far ≡ Some place → PlaceComes so_far made place
-  commits : (job : Job) (begun : Begun) (blocks : ℕ) → so_far ≡ At job (Planning begun)
+  commits : (job : Job) (begun : Begun) (blocks : List BlockNo) → so_far ≡ At job (Planning begun)
       → made ≡ commit_of blocks place → PlaceComes so_far made place
 
 going_place : (job : Job) (next : Option Stage) → place_waited (going_on job next) ≡ next_place next

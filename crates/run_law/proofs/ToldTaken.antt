@@ -5,7 +5,8 @@ use Rattle.std.proofs.lemmas.Option.{slice_get_within}
 use Rattle.disk.specs.Crash.{Image}
 use Rattle.store_promise.specs.declared.events.Event.{Event}
 use Rattle.store_promise.specs.declared.events.Step.{Step}
-use Rattle.store_promise.specs.Schedule.{AreTaken, IsTaken, Schedule, Setting, Told, told_before}
+use Rattle.store_promise.specs.Schedule.{Schedule, Setting, Told, told_before}
+use Rattle.store_promise.specs.EventSteps.{AreTaken, IsTaken}
 use Rattle.store_promise.specs.Transcript.{Transcript}
 use Rattle.run_law.specs.Noting.{Noted, told_now, with_noted}
 use Rattle.run_law.proofs.ToldGrows.{either, one_longer, told_earlier}

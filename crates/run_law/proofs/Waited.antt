@@ -6,6 +6,7 @@ use Rattle.std.proofs.lemmas.Bool.{cases_lt}
 use Rattle.std.proofs.lemmas.Bool.Decides.{nat_tests}
 use Rattle.disk.specs.declared.block.BlockNo.{BlockNo}
 use Rattle.model.specs.Calls.{is_answered_stable}
+use Rattle.store_promise.proofs.RulesAre.{own_step}
 use Rattle.store_promise.specs.declared.events.Committing.{Committing}
 use Rattle.store_promise.specs.declared.events.Committing.TheVariants as committing
 use Rattle.store_promise.specs.declared.events.Event.{Event}
@@ -23,7 +24,8 @@ use Rattle.store_promise.specs.Progress.{after_planning, aim_of, kept_off}
 use Rattle.store_promise.specs.declared.aims.Aim.{Aim}
 use Rattle.store_promise.specs.declared.aims.Aim.TheVariants as aim
 use Rattle.store_promise.specs.Progress.{after_waiting, after_wanted, going_on, progressed, stage_after}
-use Rattle.store_promise.specs.Schedule.{AreTaken, IsStepOfRead, IsTaken, Schedule, Setting, Told}
+use Rattle.store_promise.specs.Schedule.{IsStepOfRead, Schedule, Setting, Told}
+use Rattle.store_promise.specs.EventSteps.{AreTaken, IsTaken}
 use Rattle.store_promise.specs.Schedule.{progress_before}
 use Rattle.store_promise.specs.Schedule.{told_after, told_before}
 use Rattle.store_promise.specs.Transcript.{Transcript, committed_at, made, step_at}
@@ -34,7 +36,7 @@ use Rattle.store_promise.proofs.Told.{get_within, told_next}
 -- it waited for the place before, or its step has committed there
 data Waits (stage : Stage) (made : Step) (place : ℕ) : Type 0 where
   still : stage ≡ Waiting place → Waits stage made place
-  since : (begun : Begun) (blocks : ℕ) → stage ≡ Planning begun
+  since : (begun : Begun) (blocks : List BlockNo) → stage ≡ Planning begun
       → made ≡ step.Commit blocks (committing.Committed (record { 0 = place })) → Waits stage made place
 
 module _ (place : ℕ) where
@@ -66,7 +68,7 @@ module _ (place : ℕ) where
   by_claimed begun block wish.Outside is = cc
   by_claimed begun block wish.NoMemory is = cc
 
-  by_commit : (stable : Bool) (begun : Begun) (blocks : ℕ) (answer : Committing)
+  by_commit : (stable : Bool) (begun : Begun) (blocks : List BlockNo) (answer : Committing)
       → after_commit stable begun answer ≡ there → Waits (Planning begun) (step.Commit blocks answer) place
   by_commit true begun blocks (committing.Committed seq) is =
       let same : seq.0 ≡ place = cc in
@@ -131,7 +133,7 @@ module _ (place : ℕ) where
   -- so it is with a job
   pub data WaitsWith (so_far : Progress) (made : Step) (job : Job) : Type 0 where
     waited : so_far ≡ At job (Waiting place) → WaitsWith so_far made job
-    commits : (begun : Begun) (blocks : ℕ) → so_far ≡ At job (Planning begun)
+    commits : (begun : Begun) (blocks : List BlockNo) → so_far ≡ At job (Planning begun)
         → made ≡ step.Commit blocks (committing.Committed (record { 0 = place })) → WaitsWith so_far made job
 
   by_progress : (broken : Bool) (made : Step) (so_far : Progress) (job : Job)
@@ -149,7 +151,7 @@ module _ (place : ℕ) where
 
   pub data Came (told : Told) (now : Event) (m : Option Step) (worker : ℕ) (job : Job) : Type 0 where
     before : told.workers worker ≡ At job (Waiting place) → Came told now m worker job
-    with_it : (begun : Begun) (blocks : ℕ) → now ≡ event.Work worker
+    with_it : (begun : Begun) (blocks : List BlockNo) → now ≡ event.Work worker
         → told.workers worker ≡ At job (Planning begun)
         → m ≡ Some (step.Commit blocks (committing.Committed (record { 0 = place })))
         → Came told now m worker job
@@ -185,7 +187,7 @@ module _ (place : ℕ) where
     no_read number one begun o workers taken numbers planning = elim (cases_lt number workers) [
       | inl less ↦
           let none = subst (λ p. IsStepOfRead p (Some one)) (ap told.workers numbers ∙ planning)
-          (taken.own less) in cc
+          (own_step o workers told (event.Read number) (Some one) taken less) in cc
       | inr far ↦ let none = taken.others (λ less. omega (arith, less, far)) in cc
     ]
 
@@ -246,7 +248,7 @@ module _ (o : Setting) (workers : ℕ) (events : Schedule) (t : Transcript)
   abbrev pub IsItsOwn : Type 0
   IsItsOwn = (c : Committed) × (committed_at t place ≡ Some c) × (c.call ≡ job.call)
 
-  by_entry : (index blocks : ℕ) (begun : Begun) → slice_get events index ≡ Some (event.Work worker)
+  by_entry : (index : ℕ) (blocks : List BlockNo) (begun : Begun) → slice_get events index ≡ Some (event.Work worker)
       → step_at t index ≡ Some (step.Commit blocks (committing.Committed (record { 0 = place })))
       → progress_before events t.steps worker index ≡ At job (Planning begun) → IsItsOwn
   by_entry index blocks begun is_event is_step planning =

@@ -2,6 +2,7 @@
 -- where there is one.
 use Rattle.std.specs.Prelude.{◌≡◌, ℕ, ◌+◌, Bool, true, false, not, ◌&&◌, length, List, [], ◌∷◌, ◌++◌}
 use Rattle.std.specs.Prelude.{Option, Some, None}
+use Rattle.disk.specs.declared.block.BlockNo.{BlockNo}
 use Rattle.store_promise.specs.declared.events.Committing.TheVariants as committing
 use Rattle.store_promise.specs.declared.events.Event.{Event}
 use Rattle.store_promise.specs.declared.events.Event.TheVariants as event
@@ -57,7 +58,7 @@ commits _ = false
 pub record IsCommitOf (events : Schedule) (t : Transcript) (now : Event) (made : Option Step) (c : Committed)
     : Type 0 where
   pub event_is : now ≡ event.Work c.worker
-  pub blocks : ℕ
+  pub blocks : List BlockNo
   pub made_is : made
       ≡ Some (step.Commit blocks (committing.Committed (record { 0 = length t.history + 1 })))
   pub job : Job

@@ -14,7 +14,8 @@ use Rattle.store_promise.specs.History.{IsHistory}
 use Rattle.store_promise.specs.Openings.{IsOpened}
 use Rattle.store_promise.specs.Progress.{At, Begun, Job, Planning}
 use Rattle.store_promise.specs.Running.{IsMovedAlong, IsMovedBy, IsRunningOver, IsTold, StoreSide}
-use Rattle.store_promise.specs.Schedule.{AreTaken, IsTaken, Schedule, Setting, told_after}
+use Rattle.store_promise.specs.Schedule.{Schedule, Setting, told_after}
+use Rattle.store_promise.specs.EventSteps.{AreTaken, IsTaken}
 use Rattle.store_promise.specs.Transcript.{Transcript, entries_of}
 use Rattle.store_promise.specs.Verdicts.{AreAnswers}
 use Rattle.run_law.specs.Ledger.{HasLedger}

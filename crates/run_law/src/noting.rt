@@ -2,7 +2,8 @@
 ghost use Rattle.store_promise.specs.declared.events.Event.{Event};
 ghost use Rattle.store_promise.specs.declared.events.Event.TheVariants as event;
 ghost use Rattle.store_promise.specs.declared.events.Step.{Step};
-ghost use Rattle.store_promise.specs.Schedule.{IsTaken, Schedule, Setting, told_after};
+ghost use Rattle.store_promise.specs.Schedule.{Schedule, Setting, told_after};
+ghost use Rattle.store_promise.specs.EventSteps.{IsTaken};
 ghost use Rattle.run_law.specs.Noting.{Noted, TellsOfEvent, told_now, with_noted};
 ghost use Rattle.run_law.specs.Run.{Beginning, IsToldWell};
 ghost use Rattle.std.specs.Prelude.{◌≡◌, ◌≢◌, ◌≤◌, ◌+◌, ℕ, length, slice_get, Option, Some, None};

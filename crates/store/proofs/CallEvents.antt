@@ -98,6 +98,7 @@ begins o worker sound idle is with opened = record {
     alone = starts_alone (handed_to o) o.store.core o.store.boot
         (ctx_of o.asked.credential o.asked.moment o.store.boot) o.asked.call refl idle.out idle.fetches;
     loads = tt;
+    notes = tt;
   });
   so_far = subst (λ (w : State). IsSoFar o None o.store (progress_of w)) (sym is)
       (refl, (refl, λ unserved. refl));
@@ -419,6 +420,7 @@ again_goes o now worker stepped planning with =
             plans = tt;
           };
           loads = tt;
+          notes = tt;
         };
         so_far = so_far_again o now was.entry worker.work.job
             (begun_of worker.begun.tx (seen_in worker.work.snap) worker.known)

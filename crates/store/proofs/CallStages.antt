@@ -214,7 +214,7 @@ pub record IsStepFrom (o : Outset) (now : Opened) (s : Setting) (t : Told) : Typ
   pub begun_is : t.begun ≡ now.core.begun
   pub more_begun : o.store.core.begun ≤ now.core.begun
   pub settled_is : settled_told t.log ≡ settled_place now.core.log
-  pub numbers : (blocks : ℕ) → blocks ≤ CHANGED_BLOCKS → (HasNumbers s t.log blocks → ⊥)
+  pub numbers : (blocks : List BlockNo) → length blocks ≤ CHANGED_BLOCKS → (HasNumbers s t.log blocks → ⊥)
       → IsSpent now.core
   pub past : IsLater o.store.device now.device
   pub broke : now.core.log.broken ≡ true → HasBroken o.store.core.log o.store.device now.device
@@ -337,8 +337,8 @@ module _ (o : Outset) (now new : Opened) (s : Setting) (t : Told) (from : IsStep
         → answer ≡ wish.Outside → ⊥
     never_claimed_outside begun block answer is same = subst (IsClaimWish t 0 begun block) same is
 
-    commit_ok : (begun : Begun) (blocks : ℕ) (answer : Committing) → NoneIn begun
-        → has_committed (Some (step.Commit blocks answer)) ≡ false → blocks ≤ CHANGED_BLOCKS
+    commit_ok : (begun : Begun) (blocks : List BlockNo) (answer : Committing) → NoneIn begun
+        → has_committed (Some (step.Commit blocks answer)) ≡ false → length blocks ≤ CHANGED_BLOCKS
         → IsCommitting s t.log blocks answer → StageOk (after_commit stable begun answer)
     commit_ok begun blocks (committing.Committed place) none not few may = absurd (true≢false not)
     commit_ok begun blocks committing.Full none not few may = none
@@ -369,7 +369,7 @@ module _ (o : Outset) (now new : Opened) (s : Setting) (t : Told) (from : IsStep
     planning_ok [] begun (step.Claimed block answer) not none may =
         claimed_ok begun block answer none (never_claimed_outside begun block answer may.1)
     planning_ok [] begun (step.Commit blocks answer) not none may =
-        commit_ok begun blocks answer none not may.0 may.1
+        commit_ok begun blocks answer none not may.0.few may.1
     planning_ok [] begun (step.Ended why) not none may = tt
     planning_ok [] begun _ not none may = none
     planning_ok (next ∷ later) begun (step.Wanted addr mode answer) not none may =

@@ -17,9 +17,11 @@ use Rattle.model.specs.Tree.{Tree}
 use Rattle.txn_law.specs.Fetch.{Fetch}
 use Rattle.wal_law.specs.Calls.{idle}
 use Rattle.wal_law.specs.Grows.{GrowsBy}
-use Rattle.wal_law.specs.Log.{Log, installed_place, place_before, settled_place}
+use Rattle.wal_law.proofs.Tail.{few_new}
+use Rattle.wal_law.specs.Log.{Log, installed_place, place_before, settled_place, tail_blocks}
 use Rattle.wal_law.specs.declared.change.LogChange.{LogChange}
 use Rattle.wal_law.specs.declared.outcomes.Seq.{Seq}
+use Rattle.store_promise.specs.LogTold.{added_told}
 use Rattle.store_promise.specs.History.{ctx_of}
 use Rattle.store_promise.specs.OpenSince.{HasKeptFiles, StandsBeside, blocks_after, file_blocks}
 use Rattle.store_promise.specs.Progress.{Begun, Job, Progress, Stage, Taken, At, Called, Planning, going_on}
@@ -156,7 +158,7 @@ no_entry boot places progress None entry not is = is
 no_entry boot places progress (Some _) entry not is = is
 
 pub record IsCommitStep (made : Option Step) : Type 0 where
-  pub added : ℕ
+  pub added : List BlockNo
   pub place : Seq
   pub made_is : made ≡ Some (step.Commit added (committing.Committed place))
 
@@ -303,7 +305,8 @@ module _ (o : Outset) (now : Opened) (worker : State) (new : Side) (made : Optio
     settled_is = settled_is 0 now.core.log idle idle calling.opened.since.over.lawful;
     numbers = λ blocks few none. inr (λ left. none (record {
       place = left.0;
-      positions = let within = left.1 in omega (arith, few, within);
+      positions = let within = left.1 in let lacked = few_new (tail_blocks now.core.log) blocks in
+          omega (arith, few, lacked, within);
     }));
     past = calling.past;
     broke = calling.broken;
@@ -520,7 +523,7 @@ module _ (o : Outset) (now : Opened) (worker : State) (new : Side) (made : Optio
         broken_is = ap (λ l. l.broken) (sym told_then.log)
             ∙ ap (λ (m : Option Step). (told_after t (event.Work 0) m).log.broken) commit.made_is
 
-        longer : end_of new.core.log - 0 ≡ end_of now.core.log - 0 + commit.added
+        longer : end_of new.core.log - 0 ≡ end_of now.core.log - 0 + added_told t.log commit.added
         longer = ap (λ l. l.appended) (sym told_then.log)
             ∙ ap (λ (m : Option Step). (told_after t (event.Work 0) m).log.appended) commit.made_is
 

@@ -417,7 +417,7 @@ module _ (old new : Side) (tx : ℕ) (job : Job) (done : Outcome) (job_is : old.
         (grind (arith)));
   }
 
-  refused_so : (made : Step) (why : Cause) (added : ℕ) (answer : Commit Outcome)
+  refused_so : (made : Step) (why : Cause) (added : List BlockNo) (answer : Commit Outcome)
       → made ≡ step.Commit added (committing_of answer)
       → is_full (Some (step.Commit added (committing_of answer))) ≡ false
       → waits_for_log (Some (step.Commit added (committing_of answer))) ≡ false
@@ -426,7 +426,7 @@ module _ (old new : Side) (tx : ℕ) (job : Job) (done : Outcome) (job_is : old.
       goes_by Planning old made (step.Commit added (committing_of answer)) new
       (nearer left_then new.worker new.core (Refused why) phase tt (grind (arith))) made_is unkept none
 
-  committed_so : (made : Step) (base : State) (answer : Commit Outcome) (added : ℕ)
+  committed_so : (made : Step) (base : State) (answer : Commit Outcome) (added : List BlockNo)
       → base.work.job ≡ old.worker.work.job → is_kept_off (Some made) ≡ false
       → made ≡ step.Commit added (committing_of answer)
       → IsCommit old.core tx (planned_of done) done answer new.core

@@ -5,8 +5,9 @@ use Rattle.std.proofs.lemmas.Bool.Decides.{nat_tests}
 use Rattle.std.proofs.lemmas.List.{length-drop}
 use Rattle.std.proofs.lemmas.List.Elements.{All-head}
 use Rattle.limits.specs.declared.TheConstants.{CHANGED_BLOCKS, LOG_SLOTS}
-use Rattle.wal_law.specs.Log.{IsCommitted, IsLawful, IsRising, Log, first_place, place_before, settled_place}
-use Rattle.wal_law.specs.Log.{tail_count}
+use Rattle.wal_law.specs.Log.{IsCommitted, IsLawful, IsRising, Log, added_blocks, first_place, place_before}
+use Rattle.wal_law.specs.Log.{settled_place, tail_blocks, tail_count}
+use Rattle.wal_law.proofs.Tail.{few_new}
 use Rattle.wal_law.specs.declared.change.LogChange.{LogChange}
 use Rattle.wal_law.specs.declared.outcomes.Room.TheVariants as room
 use Rattle.wal_law.proofs.Places.{rising-drop}
@@ -63,7 +64,9 @@ pub no_room : (core : CoreState) (tx : ℕ) (plan : Planned) → IsTried core tx
     → length (blocks_of plan.written) ≤ CHANGED_BLOCKS → has_room core.log ≡ false
 no_room core tx plan tried few =
     ap (λ b. b || nat_le (tail_count core.log + CHANGED_BLOCKS) LOG_SLOTS) tried.sound
-    ∙ too_many (tail_count core.log) (length (blocks_of plan.written)) few tried.room.1
+    ∙ too_many (tail_count core.log) (added_blocks core.log (blocks_of plan.written))
+    (let fewer = few_new (tail_blocks core.log) (blocks_of plan.written) in omega (arith, few, fewer))
+    tried.room.1
   where
     too_many : (tail more : ℕ) → more ≤ CHANGED_BLOCKS → LOG_SLOTS < tail + more
         → nat_le (tail + CHANGED_BLOCKS) LOG_SLOTS ≡ false

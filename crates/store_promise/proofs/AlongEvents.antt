@@ -3,7 +3,8 @@ use Rattle.std.proofs.Common.{◌≡◌, ℕ, zero, suc, refl, sym, subst, Optio
 use Rattle.std.specs.List.{zip}
 use Rattle.store_promise.specs.declared.events.Event.{Event}
 use Rattle.store_promise.specs.declared.events.Step.{Step}
-use Rattle.store_promise.specs.Schedule.{AreTaken, IsTaken, Schedule, Setting, Told, at_first, told_after}
+use Rattle.store_promise.specs.Schedule.{Schedule, Setting, Told, at_first, told_after}
+use Rattle.store_promise.specs.EventSteps.{AreTaken, IsTaken}
 use Rattle.store_promise.specs.Schedule.{told_along, told_before}
 use Rattle.store_promise.proofs.Told.{no_event, no_step, told_next}
 

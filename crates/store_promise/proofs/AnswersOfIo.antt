@@ -35,7 +35,8 @@ use Rattle.store_promise.specs.CauseOfIo.{IsOfLog, IsReadFor, is_io, tells_io}
 use Rattle.store_promise.specs.Progress.{At, Begun, Called, Idle, Job, Planning, Progress, Refused, Stage}
 use Rattle.store_promise.specs.Progress.{Waiting, going_on}
 use Rattle.store_promise.specs.Progress.{is_idle, progressed}
-use Rattle.store_promise.specs.Schedule.{AreTaken, IsStepOfCalled, IsStepOfWork, Schedule, Setting, Told}
+use Rattle.store_promise.specs.Schedule.{IsStepOfCalled, IsStepOfWork, Schedule, Setting, Told}
+use Rattle.store_promise.specs.EventSteps.{AreTaken}
 use Rattle.store_promise.specs.Schedule.{progress_before}
 use Rattle.store_promise.specs.Schedule.{told_after, told_before}
 use Rattle.store_promise.specs.Transcript.{Transcript, calls_device, committed_at, entry_of, fails, made}

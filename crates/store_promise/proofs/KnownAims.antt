@@ -32,8 +32,10 @@ use Rattle.store_promise.specs.Progress.{Refused, Stage, Taken, Waiting, after_c
 use Rattle.store_promise.specs.Progress.{after_planning, after_waiting, after_wanted, aim_of, is_told, raised_told}
 use Rattle.store_promise.specs.Progress.{claimed_by, fresh, going_on, kept_off, known_then, progressed, told_by}
 use Rattle.store_promise.specs.Progress.{with_claimed, with_held, with_taken, with_told}
-use Rattle.store_promise.specs.Schedule.{AreTaken, IsRetaking, IsStepBeside, IsStepByPlan, IsStepOfRead}
-use Rattle.store_promise.specs.Schedule.{IsStepOfWork, IsStepWithin, IsTaken, Schedule, Setting, Told}
+use Rattle.store_promise.specs.Schedule.{IsRetaking, IsStepBeside, IsStepByPlan, IsStepOfRead}
+use Rattle.store_promise.specs.EventSteps.{AreTaken}
+use Rattle.store_promise.specs.Schedule.{IsStepOfWork, IsStepWithin, Schedule, Setting, Told}
+use Rattle.store_promise.specs.EventSteps.{IsTaken}
 use Rattle.store_promise.specs.Schedule.{progress_before, told_after}
 use Rattle.store_promise.specs.Waiting.{AreAims, AreTakenAt, AreTakenBy, HasTakenWell, IsAim}
 use Rattle.store_promise.proofs.AlongEvents.{along}

@@ -1,4 +1,5 @@
 pub mod Stopped
+pub mod RulesAre
 pub mod Told
 pub mod RisingAims
 pub mod AlongEvents

@@ -1,6 +1,7 @@
 -- The step that commits a call which is answered once it is stable doesn't end the call.
 use Rattle.std.proofs.Common.{◌≡◌, ℕ, zero, suc, ◌+◌, true, false, Option, Some, None, ap, sym, ◌∙◌, refl}
-use Rattle.std.proofs.Common.{Bool, arith}
+use Rattle.std.proofs.Common.{Bool, List, arith}
+use Rattle.disk.specs.declared.block.BlockNo.{BlockNo}
 use Rattle.std.proofs.Common.{subst, slice_get, if◌then◌else◌}
 use Rattle.nfs_types.specs.declared.call.Call.{Call}
 use Rattle.model.specs.Calls.{is_answered_stable}
@@ -23,11 +24,11 @@ use Rattle.store_promise.proofs.Told.{own_next, step_is}
 pub one_more : (n : ℕ) → n + 1 ≡ suc n
 one_more n = omega arith
 
-abbrev committing_at : ℕ → ℕ → Step
+abbrev committing_at : List BlockNo → ℕ → Step
 committing_at blocks place = step.Commit blocks (committing.Committed (record { 0 = place }))
 
 -- an answer that comes with a commit is given while planning
-is_planning : (t : Transcript) (asked : Call) (stage : Stage) (a : Answer) (blocks place : ℕ)
+is_planning : (t : Transcript) (asked : Call) (stage : Stage) (a : Answer) (blocks : List BlockNo) (place : ℕ)
     → HasVerdict t asked stage (committing_at blocks place) a → (begun : Begun) × (stage ≡ Planning begun)
 is_planning t asked (Called known) a blocks place has = absurd has
 is_planning t asked (Planning begun) a blocks place has = (begun, refl)
@@ -55,7 +56,7 @@ same_job one other stage at progress is so =
     let same : At one stage ≡ At other at = sym is ∙ so in
     cc
 
-module _ (events : Schedule) (t : Transcript) (a : Answer) (place blocks : ℕ) (answer : IsAnswer events t a)
+module _ (events : Schedule) (t : Transcript) (a : Answer) (place : ℕ) (blocks : List BlockNo) (answer : IsAnswer events t a)
     (made : step_at t a.event ≡ Some (committing_at blocks place)) where
   commits : answer.step ≡ committing_at blocks place
   commits =
@@ -106,7 +107,7 @@ same_entry t place one other is so =
     cc
 
 -- so no stable answer comes with the commit of its own procedure
-pub comes_later : (events : Schedule) (t : Transcript) (a : Answer) (place blocks : ℕ) → IsHistory events t
+pub comes_later : (events : Schedule) (t : Transcript) (a : Answer) (place : ℕ) (blocks : List BlockNo) → IsHistory events t
     → IsAnswer events t a → IsStableAnswer t a place
     → step_at t a.event ≡ Some (step.Commit blocks (committing.Committed (record { 0 = place }))) → ⊥
 comes_later events t a place blocks history answer stable made =

@@ -7,7 +7,6 @@ use Rattle.std.proofs.Common.{◌⊎◌, inl, inr}
 use Rattle.std.specs.List.{zip}
 use Rattle.std.specs.Option.{option_map}
 use Rattle.std.proofs.lemmas.Bool.Decides.{nat_tests}
-use Rattle.limits.specs.declared.TheConstants.{CHANGED_BLOCKS}
 use Rattle.disk.specs.declared.block.BlockNo.{BlockNo}
 use Rattle.objects.specs.declared.addr.Addr.{Addr}
 use Rattle.objects.specs.declared.mode.Mode.{Mode}
@@ -21,10 +20,13 @@ use Rattle.store_promise.specs.declared.events.Step.TheVariants as step
 use Rattle.store_promise.specs.Progress.{Begun, Job, Progress, Idle, At, Stage, Called, Planning}
 use Rattle.store_promise.specs.Progress.{going_on, progressed}
 use Rattle.store_promise.specs.Schedule.{Schedule, Setting, Told, at_first, told_after, told_along, told_before}
-use Rattle.store_promise.specs.Schedule.{AreTaken, IsClaimWish, IsCommitting, IsOfOne, IsStepBeside, IsStepOf}
-use Rattle.store_promise.specs.Schedule.{IsStepOfWork, IsStepWithin, IsTaken, IsWish, wish_of}
+use Rattle.store_promise.specs.Schedule.{AreChanged, IsClaimWish, IsCommitting, IsOfOne, IsStepBeside, IsStepOf}
+use Rattle.store_promise.specs.EventSteps.{AreTaken}
+use Rattle.store_promise.specs.Schedule.{IsStepOfWork, IsStepWithin, IsWish, wish_of}
+use Rattle.store_promise.specs.EventSteps.{IsTaken}
 use Rattle.store_promise.specs.Schedule.{progress_before, worker_of}
 use Rattle.store_promise.specs.Transcript.{Transcript, made, step_at}
+use Rattle.store_promise.proofs.RulesAre.{own_step}
 
 abbrev pub Pairs : Type 0
 Pairs = List (Event × Option Step)
@@ -225,9 +227,9 @@ module _ (o : Setting) (told : Told) (worker : ℕ) (begun : Begun) where
   claim_wish_is [] block answer is = is.1
   claim_wish_is (next ∷ later) block answer is = is.1
 
-  pub commit_is : (left : List Aim) (blocks : ℕ) (answer : Committing)
+  pub commit_is : (left : List Aim) (blocks : List BlockNo) (answer : Committing)
       → IsStepBeside left o told worker begun (step.Commit blocks answer)
-      → (blocks ≤ CHANGED_BLOCKS) × IsCommitting o told.log blocks answer
+      → AreChanged begun blocks × IsCommitting o told.log blocks answer
   commit_is [] blocks answer is = is
   commit_is (next ∷ later) blocks answer is = absurd is
 
@@ -243,7 +245,7 @@ module _ (o : Setting) (workers : ℕ) (events : Schedule) (steps : List (Option
       → IsStepWithin o (told_before events steps index) worker begun one
   planned_step index worker job begun one is_event less is_step planning =
       subst (λ p. IsStepOfWork o (told_before events steps index) worker p (Some one)) planning
-      ((taken.each index (event.Work worker) (Some one) is_event is_step).own less)
+      (own_step o workers _ _ _ (taken.each index (event.Work worker) (Some one) is_event is_step) less)
 
   -- a step is made only of a worker that is there
   pub only_of_some : (index worker : ℕ) (one : Step) → slice_get events index ≡ Some (event.Work worker)
@@ -319,9 +321,9 @@ module _ (o : Setting) (workers : ℕ) (events : Schedule) (steps : List (Option
 module _ (o : Setting) (workers : ℕ) (told : Told) (e : Event) (one : Step)
     (taken : IsTaken o workers told e (Some one)) where
   by_number : (of : Option ℕ) → worker_of e ≡ of → IsStepOf o told e (Some one)
-  by_number None is = taken.own (subst (IsOfOne workers) (sym is) tt)
+  by_number None is = own_step o workers told e (Some one) taken (subst (IsOfOne workers) (sym is) tt)
   by_number (Some number) is = elim (cases_lt number workers) [
-    | inl less ↦ taken.own (subst (IsOfOne workers) (sym is) less)
+    | inl less ↦ own_step o workers told e (Some one) taken (subst (IsOfOne workers) (sym is) less)
     | inr past ↦
         let none : Some one ≡ None = taken.others (λ its.
         let less : number < workers = subst (IsOfOne workers) is its in omega (arith, less, past)) in

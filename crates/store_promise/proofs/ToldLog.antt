@@ -17,10 +17,11 @@ use Rattle.wal_law.specs.Installer.{IsNextInstCall, may_install, next_home, pass
 use Rattle.wal_law.specs.Installer.{with_inst_out, with_installed}
 use Rattle.wal_law.specs.Io.{Io}
 use Rattle.wal_law.specs.Log.{IsHomeOn, IsLawful, Log, newest_of, place_before, settled_place}
-use Rattle.wal_law.specs.Log.{tail_count}
+use Rattle.wal_law.specs.Log.{tail_blocks}
 use Rattle.wal_law.specs.Logger.{IsNextLogCall, group_size, has_group, may_log, slot_block, with_log_back}
 use Rattle.wal_law.specs.Logger.{with_log_out}
 use Rattle.wal_law.specs.Room.{HasPlaces}
+use Rattle.wal_law.proofs.Tail.{tail_length}
 use Rattle.wal_law.specs.Grows.{GrowsBy}
 use Rattle.txn_law.specs.Steps.{StandsStill}
 use Rattle.store_promise.specs.LogTold.{LogTold, may_install_told, may_log_told, settled_told}
@@ -56,8 +57,10 @@ module _ (position : ℕ) (log : Log) (logging installing : Pending) (lawful : I
   settled_is =
       let long = behind_logged in
       let within = lawful.taken_within in
+      let held = tail_length log in
       settled_by (drop log.logged log.changes) (drop (log.logged + log.taken) log.changes) log.taken
-      (tail_count log) log.places none_taken (omega (arith, long, within)) (omega (arith, long, within))
+      (length (tail_blocks log)) log.places none_taken (omega (arith, long, within, held))
+      (omega (arith, long, within))
     where
       none_taken : log.taken ≡ 0 → drop (log.logged + log.taken) log.changes ≡ drop log.logged log.changes
       none_taken none =
@@ -87,17 +90,18 @@ module _ (position : ℕ) (log : Log) (installing : Pending) (lawful : IsLawful 
 
   pub may_log_is : log.log_out ≡ false → may_log_told told ≡ may_log log
   may_log_is free =
-      (λ i. not log.broken && (group_by log.logged log.taken (length log.changes) (tail_count log) refl
-      lawful.taken_within ∙ sym (and_true (has_group log))) i)
+      (λ i. not log.broken && (group_by log.logged log.taken (length log.changes) (length (tail_blocks log))
+      (tail_length log) lawful.taken_within ∙ sym (and_true (has_group log))) i)
       ∙ (λ i. not log.broken && (has_group log && not (sym free i)))
 
   group_by_taken : (has : Bool) → nat_lt 0 log.taken ≡ has
-      → (if has then log.taken else tail_count log)
+      → (if has then log.taken else length (tail_blocks log))
       ≡ (if has then log.taken else length log.changes - log.logged)
   group_by_taken true is = refl
   group_by_taken false is =
       let none : log.taken ≡ 0 = grind (arith, nat_tests) in
-      omega (arith, none)
+      let held = tail_length log in
+      omega (arith, none, held)
 
   group_is : group_told told ≡ group_size log
   group_is = group_by_taken (nat_lt 0 log.taken) refl
@@ -124,7 +128,8 @@ module _ (position : ℕ) (log : Log) (installing : Pending) (lawful : IsLawful 
   module _ (io : Io) (from : position ≤ log.start + length log.changes)
       (next : IsNextLogCall (with_log_out log) io) where
     begins : log.start + log.logged ≡ group_begins position told
-    begins = let within = lawful.taken_within in omega (arith, from, within)
+    begins = let within = lawful.taken_within in let held = tail_length log in
+        omega (arith, from, within, held)
 
     -- a block goes to its slot
     to_slot : log.log_step < group_size log → io.call
@@ -365,7 +370,7 @@ stands_given_back log true lawful stands =
 pub numbers_are : (o : Setting) (log : Log) (logging installing : Pending) (blocks : List BlockNo)
     → IsLawful log
     → o.position ≤ log.start + length log.changes
-    → HasNumbers o (log_told o.position log logging installing) (length blocks) ↔ HasPlaces log blocks
+    → HasNumbers o (log_told o.position log logging installing) blocks ↔ HasPlaces log blocks
 numbers_are o log logging installing blocks lawful from =
     let within = lawful.taken_within in (
       λ has. let less = has.positions in record {

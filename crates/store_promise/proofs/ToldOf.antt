@@ -3,7 +3,8 @@ use Rattle.std.proofs.Common.{◌≡◌, ℕ, zero, suc, ◌+◌, ◌-◌, ◌<�
 use Rattle.std.proofs.Common.{arith}
 use Rattle.std.proofs.Common.{Bool, true, false, if◌then◌else◌, ◌&&◌, List, [], ◌∷◌, Some, length, take, drop}
 use Rattle.std.proofs.Common.{nat_eq, nat_lt, slice_get, Result, is_ok, is_some, All}
-use Rattle.std.proofs.lemmas.List.{length-drop}
+use Rattle.std.proofs.lemmas.List.{length-drop, length-map}
+use Rattle.std.proofs.Common.{length-append, ◌++◌}
 use Rattle.std.proofs.lemmas.List.{drop_all, length-take-le, take_rest}
 use Rattle.std.proofs.lemmas.Option.{get_or_from_slice_get, slice_get_within}
 use Rattle.std.proofs.lemmas.Bool.{cases_lt}
@@ -21,12 +22,14 @@ use Rattle.wal_law.specs.declared.calls.IoCall.TheVariants.{Write, Barrier}
 use Rattle.wal_law.specs.Installer.{IsNextInstCall, next_home, passed_over, with_inst_out, with_inst_back}
 use Rattle.wal_law.specs.Installer.{with_installed}
 use Rattle.wal_law.specs.Log.{IsCommitted, IsHomeOn, IsLawful, Log, newest_of, place_before, tail_count}
+use Rattle.wal_law.specs.Log.{blocks_of, changed_blocks, new_blocks, tail_blocks}
+use Rattle.wal_law.proofs.Tail.{few_new, tail_length}
 use Rattle.wal_law.specs.Logger.{with_log_back, with_log_out}
 use Rattle.wal_law.specs.Grows.{GrowsBy}
 use Rattle.txn_law.specs.Steps.{StandsStill}
 use Rattle.std.proofs.lemmas.List.{drop-drop, drop-take}
 use Rattle.std.proofs.lemmas.List.Elements.{All-drop, All-head}
-use Rattle.store_promise.specs.LogTold.{LogTold, idle, out, was_made, with_commit, with_log_given}
+use Rattle.store_promise.specs.LogTold.{LogTold, idle, out, tail_told, was_made, with_commit, with_log_given}
 use Rattle.store_promise.specs.LogTold.{with_inst_behind, with_inst_done, with_inst_given, with_inst_taken}
 use Rattle.store_promise.specs.LogTold.{with_log_taken}
 use Rattle.store_promise.specs.ToldOf.{StandsAtHome, call_told, first_of, log_told, newest_among}
@@ -36,10 +39,28 @@ use Rattle.store_promise.specs.ToldOf.{StandsAtHome, call_told, first_of, log_to
 pub some_more : (n : ℕ) → nat_lt 0 (suc n) ≡ true
 some_more n = grind (arith, nat_tests)
 
-module _ (position : ℕ) (old new : Log) (group : List (BlockNo × Content)) (blocks : ℕ) (lawful : IsLawful old)
+module _ (position : ℕ) (old new : Log) (group : List (BlockNo × Content)) (lawful : IsLawful old)
     (later : IsLawful new) (grown : GrowsBy old group new) (still : StandsStill old new)
-    (longer : tail_count new ≡ tail_count old + blocks) (few : blocks ≤ length group)
+    (tail_is : tail_blocks new ≡ tail_blocks old ++ new_blocks (tail_blocks old) (blocks_of group))
     (from : position ≤ old.start + length old.changes) where
+  -- how many blocks more the tail has
+  abbrev blocks : ℕ
+  blocks = length (new_blocks (tail_blocks old) (blocks_of group))
+
+  longer : tail_count new ≡ tail_count old + blocks
+  longer =
+      let a = tail_length new in
+      let b = tail_length old in
+      let c = ap length tail_is in
+      let d = length-append (tail_blocks old) (new_blocks (tail_blocks old) (blocks_of group)) in
+      omega (arith, a, b, c, d)
+
+  few : blocks ≤ length group
+  few =
+      let a = few_new (tail_blocks old) (blocks_of group) in
+      let b = length-map group (λ (change : BlockNo × Content). change.0) in
+      omega (arith, a, b)
+
   -- where the open tails begin
   abbrev ahead : ℕ
   ahead = old.logged + old.taken
@@ -73,10 +94,12 @@ module _ (position : ℕ) (old new : Log) (group : List (BlockNo × Content)) (b
   )
 
   first_is : first_of (drop ahead new.changes)
-      ≡ (if nat_lt 0 (tail_count old) then first_of (drop ahead old.changes)
+      ≡ (if nat_lt 0 (length (tail_blocks old)) then first_of (drop ahead old.changes)
       else if nat_lt 0 blocks then old.places + 1 else 0)
   first_is = by_tails (drop ahead old.changes) (drop ahead new.changes) sizes.0 sizes.1 made_old made_new
       (grown.place ahead (omega arith))
+      ∙ ap (λ n. if nat_lt 0 n then first_of (drop ahead old.changes)
+      else if nat_lt 0 blocks then old.places + 1 else 0) (sym (tail_length old))
     where
       by_tails : (xs ys : List LogChange) → length xs ≡ tail_count old → length ys ≡ tail_count old + blocks
           → All IsCommitted xs → All IsCommitted ys
@@ -92,7 +115,7 @@ module _ (position : ℕ) (old new : Log) (group : List (BlockNo × Content)) (b
       by_tails [] (y ∷ ys) one other made made' place =
           let none : tail_count old ≡ 0 = sym one in
           let some : 0 < blocks = omega (arith, one, other) in
-          let nonempty : nat_eq (length group) 0 ≡ false = grind (arith, nat_tests) in
+          let nonempty : nat_eq (length group) 0 ≡ false = grind (arith, nat_tests, few, some) in
           let before : y.place - 1 ≡ old.places = place
           ∙ ap (λ (b : Bool). if b then old.places + 1 else old.places) nonempty in
           let committed : 0 < y.place = All-head IsCommitted y ys made' in
@@ -128,11 +151,11 @@ module _ (position : ℕ) (old new : Log) (group : List (BlockNo × Content)) (b
       (grown.front old.installing (omega (arith, few)))
 
   pub commit_told : (logging installing : Pending) → log_told position new logging installing
-      ≡ with_commit (log_told position old logging installing) blocks
+      ≡ with_commit (log_told position old logging installing) (blocks_of group)
   commit_told logging installing = λ i. record {
     places = grown.places i;
     appended = appended_is i;
-    tail = longer i;
+    tail = tail_is i;
     tail_first = (ap (λ n. first_of (drop n new.changes)) same_ahead ∙ first_is) i;
     taken = grown.taken i;
     taken_first = (ap (λ (p : ℕ × ℕ). first_of (take p.0 (drop p.1 new.changes)))
@@ -158,9 +181,9 @@ module _ (position : ℕ) (log : Log) (io : Io) (installing : Pending) (lawful :
       (record log { taken = if has then log.taken else length log.changes - log.logged; log_out = true })
       (pending.out io) installing
       ≡ (if has then record told { log_call = out io.call } else record told {
-        taken = told.tail;
+        taken = tail_told told;
         taken_first = told.tail_first;
-        tail = 0;
+        tail = [];
         tail_first = 0;
         log_call = out io.call;
       })
@@ -172,16 +195,13 @@ module _ (position : ℕ) (log : Log) (io : Io) (installing : Pending) (lawful :
       let all : length log.changes ≤ log.logged + (length log.changes - log.logged) = omega arith in
       let same : log.logged ≡ log.logged + log.taken = omega (arith, none) in
       λ i. record told {
-        taken = size i;
+        taken = (size ∙ sym (tail_length log)) i;
         taken_first = (ap first_of (take_rest log.changes log.logged)
             ∙ ap (λ n. first_of (drop n log.changes)) same) i;
-        tail = (nothing_left (length log.changes) log.logged (omega (arith, within))) i;
+        tail = ap changed_blocks (drop_all (log.logged + (length log.changes - log.logged)) log.changes all) i;
         tail_first = ap first_of (drop_all (log.logged + (length log.changes - log.logged)) log.changes all) i;
         log_call = out io.call;
       }
-    where
-      nothing_left : (all some : ℕ) → some ≤ all → all - (some + (all - some)) ≡ 0
-      nothing_left all some less = omega (arith, less)
 
   pub log_taken_told : log_told position (with_log_out log) (pending.out io) installing
       ≡ with_log_taken told io.call
@@ -205,7 +225,7 @@ module _ (position : ℕ) (log : Log) (io : Io) (answer : Result Unit Failed) (i
   by_last true =
       let same : log.logged + log.taken + 0 ≡ log.logged + log.taken = omega arith in
       λ i. record made {
-        tail = length log.changes - same i;
+        tail = changed_blocks (drop (same i) log.changes);
         tail_first = first_of (drop (same i) log.changes);
         logged = log.logged + log.taken;
         taken = 0;
@@ -261,11 +281,6 @@ all_of xs k x blocks is all =
 installed_appended : (start installing all position rest : ℕ) → rest ≡ all - installing → installing ≤ all
     → start + installing + rest - position ≡ start + all - position
 installed_appended start installing all position rest is less = omega (arith, is, less)
-
-installed_tail : (installing logged taken all rest : ℕ) → rest ≡ all - installing → installing ≤ logged
-    → logged + taken ≤ all
-    → rest - (logged - installing + taken) ≡ all - (logged + taken)
-installed_tail installing logged taken all rest is few within = omega (arith, is, few, within)
 
 none_left : (n : ℕ) → drop {A = LogChange} n [] ≡ []
 none_left zero = refl
@@ -525,8 +540,9 @@ module _ (position : ℕ) (log : Log) (io : Io) (answer : Result Unit Failed) (l
       (λ i. record given {
         appended = (installed_appended log.start log.installing (length log.changes) position
             (length (drop log.installing log.changes)) long within_changes) i;
-        tail = (installed_tail log.installing log.logged log.taken (length log.changes)
-            (length (drop log.installing log.changes)) long few within) i;
+        tail = (ap changed_blocks (drop_more log.changes log.installing
+            (log.logged - log.installing + log.taken))
+            ∙ ap (λ n. changed_blocks (drop n log.changes)) behind) i;
         tail_first = (ap first_of (drop_more log.changes log.installing
             (log.logged - log.installing + log.taken))
             ∙ ap (λ n. first_of (drop n log.changes)) behind) i;

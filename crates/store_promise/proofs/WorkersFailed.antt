@@ -27,7 +27,8 @@ use Rattle.store_promise.specs.declared.aims.Aim.{Aim}
 use Rattle.store_promise.specs.declared.aims.Aim.TheVariants as aim
 use Rattle.store_promise.specs.Schedule.{IsBeginning, IsClaimWish, IsCommitting, IsRetaking, IsStepBeside}
 use Rattle.store_promise.specs.Schedule.{IsStepByPlan, IsStepOfCall, IsWish, wish_of}
-use Rattle.store_promise.specs.Schedule.{IsStepOfCalled, IsStepOfRead, IsStepOfWaiting, IsStepOfWork, IsTaken}
+use Rattle.store_promise.specs.Schedule.{IsStepOfCalled, IsStepOfRead, IsStepOfWaiting, IsStepOfWork}
+use Rattle.store_promise.specs.EventSteps.{IsTaken}
 use Rattle.store_promise.specs.Schedule.{Setting}
 use Rattle.store_promise.specs.Schedule.{Told, told_after}
 use Rattle.store_promise.specs.Transcript.{fails}
@@ -162,7 +163,7 @@ module _ (o : Setting) (told : Told) (worker : ℕ) (job : Job) where
     committed true place so = cc
     committed false place so = cc
 
-    by_commit : (stable : Bool) (blocks : ℕ) (answer : Committing) → IsCommitting o told.log blocks answer
+    by_commit : (stable : Bool) (blocks : List BlockNo) (answer : Committing) → IsCommitting o told.log blocks answer
         → shows (going_on job (after_commit stable begun answer)) ≡ true → told.log.broken ≡ true
     by_commit stable blocks (committing.Committed place) is so = absurd (committed stable place.0 so)
     by_commit stable blocks committing.Full is so = cc

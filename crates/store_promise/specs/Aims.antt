@@ -5,8 +5,6 @@ use Rattle.std.specs.List.{list_any}
 use Rattle.limits.specs.declared.TheConstants.{BLOCK_BYTES}
 use Rattle.inode.specs.Snap.{same_addr}
 use Rattle.objects.specs.Mode.{covers, is_exclusive, raised}
-use Rattle.objects.specs.declared.mode.Mode.{Mode}
-use Rattle.objects.specs.declared.mode.Mode.TheVariants as modes
 use Rattle.store_promise.specs.declared.aims.Aim.{Aim}
 use Rattle.store_promise.specs.declared.aims.Aim.TheVariants as aim
 

@@ -20,7 +20,8 @@ use Rattle.store_promise.specs.History.{IsHistory}
 use Rattle.store_promise.specs.LogTold.{settled_told}
 use Rattle.store_promise.specs.Openings.{AtEachStop, IsBootOf, IsLater, IsOpened, IsRefused, LeavesImages}
 use Rattle.store_promise.specs.Prefix.{HasPrefix}
-use Rattle.store_promise.specs.Schedule.{Schedule, Setting, AreTaken, SoundEvents, told_before}
+use Rattle.store_promise.specs.Schedule.{Schedule, Setting, SoundEvents, told_before}
+use Rattle.store_promise.specs.EventSteps.{AreTaken}
 use Rattle.store_promise.specs.Transcript.{Transcript, Report, entries_of, device_calls, commits_by, fails}
 use Rattle.store_promise.specs.Verdicts.{IsStableAnswer, IsCoveredWrite, AreAnswers}
 
@@ -90,10 +91,10 @@ pub record KeepsPromise (before later : Device) (tree : Tree) (first workers : �
   pub boot : t.boot ≡ first + 1
   pub history : IsHistory events t
   pub answers : AreAnswers events t
-  -- events are taken, from the first on,
+  -- events are taken, from the first on
   pub taken : AreTaken setting workers events t.steps
-  -- by what the files are after the procedures that were committed by then, each of which changed only what its
-  -- transaction had taken
+  -- there are blocks that stand for the files after each procedure, which changed only what its transaction had
+  -- taken
   pub files : (place : ℕ) → StandsAfter setting.geometry tree (take place (entries_of t)) (setting.blocks place)
   pub changes : ChangeTheirOwn later.size events t setting.blocks
 

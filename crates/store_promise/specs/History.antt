@@ -1,5 +1,6 @@
 -- Which procedures a run may say were committed.
-use Rattle.std.specs.Prelude.{◌≡◌, ℕ, ◌+◌, ◌<◌, slice_get, Some}
+use Rattle.std.specs.Prelude.{◌≡◌, ℕ, ◌+◌, ◌<◌, List, slice_get, Some}
+use Rattle.disk.specs.declared.block.BlockNo.{BlockNo}
 use Rattle.nfs_types.specs.declared.ctx.Ctx.{Ctx}
 use Rattle.store_promise.specs.declared.events.Committing.TheVariants as committing
 use Rattle.store_promise.specs.declared.events.Event.TheVariants as event
@@ -23,7 +24,7 @@ ctx_of boot job begun = record {
 -- worker was last handed, and at the clock of the device calls made by then.
 pub record WasCommitted (events : Schedule) (t : Transcript) (place : ℕ) (c : Committed) : Type 0 where
   pub event : slice_get events c.event ≡ Some (event.Work c.worker)
-  pub blocks : ℕ
+  pub blocks : List BlockNo
   pub step : step_at t c.event ≡ Some (step.Commit blocks (committing.Committed (record { 0 = place })))
   pub job : Job
   pub begun : Begun
@@ -37,7 +38,7 @@ pub record WasCommitted (events : Schedule) (t : Transcript) (place : ℕ) (c : 
 pub record IsHistory (events : Schedule) (t : Transcript) : Type 0 where
   pub each : (index : ℕ) (c : Committed) → slice_get t.history index ≡ Some c
       → WasCommitted events t (index + 1) c
-  pub whole : (at place blocks : ℕ)
+  pub whole : (at place : ℕ) (blocks : List BlockNo)
       → step_at t at ≡ Some (step.Commit blocks (committing.Committed (record { 0 = place })))
       → (c : Committed) × (committed_at t place ≡ Some c) × (c.event ≡ at)
   pub ordered : (one other : ℕ) (a b : Committed) → slice_get t.history one ≡ Some a

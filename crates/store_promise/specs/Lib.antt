@@ -7,6 +7,8 @@ pub mod NextCall
 pub mod Openings
 pub mod FailedCalls
 pub mod Schedule
+pub mod Rules
+pub mod EventSteps
 pub mod Waiting
 pub mod DeviceCalls
 pub mod History

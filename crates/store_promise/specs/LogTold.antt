@@ -1,8 +1,10 @@
 -- How far the log and the installer are, told from the steps alone. Fields and calls bear the names that they
 -- have in the memory log.
 use Rattle.std.specs.Prelude.{ℕ, ◌+◌, ◌-◌, Bool, true, false, not, ◌&&◌, ◌||◌, if◌then◌else◌, nat_eq, nat_lt}
-use Rattle.std.specs.Prelude.{nat_le}
+use Rattle.std.specs.Prelude.{nat_le, List, [], ◌++◌, length}
 use Rattle.limits.specs.declared.TheConstants.{LOG_SLOTS}
+use Rattle.disk.specs.declared.block.BlockNo.{BlockNo}
+use Rattle.wal_law.specs.Log.{new_blocks}
 use Rattle.wal_law.specs.declared.calls.IoCall.{IoCall}
 use Rattle.wal_law.specs.declared.calls.IoCall.TheVariants.{Write, Barrier}
 use Rattle.store_promise.specs.declared.events.Committing.TheVariants as committing
@@ -22,7 +24,7 @@ pub record LogTold : Type 0 where
   pub appended : ℕ
   -- the blocks that the tail holds, and the place of the first commit that changed one of them, 0 where it is
   -- empty
-  pub tail : ℕ
+  pub tail : List BlockNo
   pub tail_first : ℕ
   -- the blocks of the group that the logger has taken, 0 where it has none, the place of its first commit,
   -- and how many of its calls were given back
@@ -45,7 +47,7 @@ abbrev pub empty_log : LogTold
 empty_log = record {
   places = 0;
   appended = 0;
-  tail = 0;
+  tail = [];
   tail_first = 0;
   taken = 0;
   taken_first = 0;
@@ -59,32 +61,44 @@ empty_log = record {
   inst_call = idle;
 }
 
+-- how many blocks the tail holds
+abbrev pub tail_told : LogTold → ℕ
+tail_told log = length log.tail
+
+-- how many blocks more it holds by a commit that changes these, and how many then
+abbrev pub added_told : LogTold → List BlockNo → ℕ
+added_told log blocks = length (new_blocks log.tail blocks)
+
+abbrev pub tail_told_after : LogTold → List BlockNo → ℕ
+tail_told_after log blocks = tail_told log + added_told log blocks
+
 -- the greatest place such that each change at or before it is settled
 abbrev pub settled_told : LogTold → ℕ
-settled_told log = if nat_lt 0 log.taken then log.taken_first - 1 else if nat_lt 0 log.tail
+settled_told log = if nat_lt 0 log.taken then log.taken_first - 1 else if nat_lt 0 (tail_told log)
     then log.tail_first - 1 else log.places
 
 -- the log has a call to hand out, where none is out: of its group, or the tail's first, where the tail fits
 -- behind the start
 abbrev pub may_log_told : LogTold → Bool
 may_log_told log =
-    not log.broken && (nat_lt 0 log.taken || (nat_lt 0 log.tail && nat_le (log.logged + log.tail) LOG_SLOTS))
+    not log.broken && (nat_lt 0 log.taken
+    || (nat_lt 0 (tail_told log) && nat_le (log.logged + tail_told log) LOG_SLOTS))
 
 -- the installer has one
 abbrev pub may_install_told : LogTold → Bool
 may_install_told log = not log.broken && (nat_lt 0 log.installing || nat_lt 0 log.logged)
 
--- the place of the first commit that changed a block of the tail, once the next commit adds so many
-abbrev pub first_with : LogTold → ℕ → ℕ
-first_with log blocks = if nat_lt 0 log.tail then log.tail_first else if nat_lt 0 blocks
-    then log.places + 1 else 0
+-- the place of the first commit that changed a block of the tail, once the next commit changes these
+abbrev pub first_with : LogTold → List BlockNo → ℕ
+first_with log blocks = if nat_lt 0 (tail_told log) then log.tail_first
+    else if nat_lt 0 (added_told log blocks) then log.places + 1 else 0
 
--- a commit, by which the tail holds so many blocks more
-abbrev pub with_commit : LogTold → ℕ → LogTold
+-- a commit that changes these blocks: the tail holds those that it lacked, and takes a position for each
+abbrev pub with_commit : LogTold → List BlockNo → LogTold
 with_commit log blocks = record log {
   places = log.places + 1;
-  appended = log.appended + blocks;
-  tail = log.tail + blocks;
+  appended = log.appended + added_told log blocks;
+  tail = log.tail ++ new_blocks log.tail blocks;
   tail_first = first_with log blocks;
 }
 
@@ -94,9 +108,9 @@ with_log_taken log call =
     if nat_lt 0 log.taken
     then record log { log_call = out call }
     else record log {
-      taken = log.tail;
+      taken = tail_told log;
       taken_first = log.tail_first;
-      tail = 0;
+      tail = [];
       tail_first = 0;
       log_call = out call;
     }

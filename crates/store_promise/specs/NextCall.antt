@@ -7,15 +7,15 @@ use Rattle.wal_law.specs.declared.calls.IoCall.{IoCall}
 use Rattle.wal_law.specs.declared.calls.IoCall.TheVariants.{Write, Barrier}
 use Rattle.wal_law.specs.Log.{IsHomeOn}
 use Rattle.wal_law.specs.Logger.{slot_block}
-use Rattle.store_promise.specs.LogTold.{LogTold}
+use Rattle.store_promise.specs.LogTold.{LogTold, tail_told}
 
 -- the blocks of the log's group: where it has none, it takes the whole tail
 abbrev pub group_told : LogTold → ℕ
-group_told log = if nat_lt 0 log.taken then log.taken else log.tail
+group_told log = if nat_lt 0 log.taken then log.taken else tail_told log
 
 -- where the group's positions begin, of a log that was opened at a position
 abbrev pub group_begins : ℕ → LogTold → ℕ
-group_begins position log = position + log.appended - (log.taken + log.tail)
+group_begins position log = position + log.appended - (log.taken + tail_told log)
 
 -- the call of the log: its group's blocks to their slots, a barrier, the header, a barrier
 abbrev pub next_log_call : ℕ → LogTold → IoCall

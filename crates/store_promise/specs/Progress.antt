@@ -258,3 +258,12 @@ is_object_in block (aim.Claim claimed) = false
 
 abbrev pub is_loaded : BlockNo → Begun → Bool
 is_loaded block begun = list_any (is_object_in block) begun.taken
+
+-- a part of the block, or the whole, is taken alone
+abbrev pub is_part_alone : BlockNo → Aim → Bool
+is_part_alone block (aim.Object addr mode) = nat_eq addr.block.0 block.0 && is_exclusive mode
+is_part_alone block (aim.Claim claimed) = nat_eq claimed.0 block.0
+
+-- its transaction has so taken one
+abbrev pub has_part_alone : BlockNo → Begun → Bool
+has_part_alone block begun = list_any (is_part_alone block) begun.taken

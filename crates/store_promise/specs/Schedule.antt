@@ -1,6 +1,6 @@
 -- Which events apply, and what step each may make, told from the events and steps before it alone.
 use Rattle.std.specs.Prelude.{◌≡◌, ◌≢◌, ℕ, ◌+◌, ◌^◌, ◌<◌, ◌≤◌, Bool, true, false, ◌&&◌, if◌then◌else◌, nat_eq}
-use Rattle.std.specs.Prelude.{nat_le, List, [], ◌∷◌, take, Option, Some, None, Ok, Err, length, slice_get}
+use Rattle.std.specs.Prelude.{nat_le, List, [], ◌∷◌, All, take, Option, Some, None, Ok, Err, length, slice_get}
 use Rattle.std.specs.List.{zip, list_any}
 use Rattle.limits.specs.declared.TheConstants.{BLOCK_BYTES, CHANGED_BLOCKS, LOG_SLOTS}
 use Rattle.disk.specs.Crash.{Image}
@@ -15,6 +15,7 @@ use Rattle.model.specs.Calls.{begins_transaction}
 use Rattle.procs.specs.Asks.{Asks, Claims}
 use Rattle.inode.specs.Snap.{is_claimed, same_addr}
 use Rattle.txn.specs.declared.outcomes.BeginFault.TheVariants as fault
+use Rattle.wal_law.specs.Log.{AreOnce}
 use Rattle.wal_law.specs.declared.calls.IoCall.{IoCall}
 use Rattle.procs.specs.SoundCalls.{SoundCall}
 use Rattle.store_promise.specs.declared.aims.Aim.{Aim}
@@ -29,11 +30,11 @@ use Rattle.store_promise.specs.declared.events.Step.TheVariants as step
 use Rattle.store_promise.specs.declared.events.Wish.{Wish}
 use Rattle.store_promise.specs.declared.events.Wish.TheVariants as wish
 use Rattle.store_promise.specs.LogTold.{CallTold, idle, out, was_made, LogTold, empty_log, log_moved}
-use Rattle.store_promise.specs.LogTold.{may_log_told, may_install_told, settled_told}
+use Rattle.store_promise.specs.LogTold.{added_told, may_log_told, may_install_told, settled_told, tail_told_after}
 use Rattle.store_promise.specs.NextCall.{IsNextOfInstalling, next_log_call}
 use Rattle.store_promise.specs.Progress.{Begun, Progress, Idle, At, Stage, Called, Planning, Reading, Read}
 use Rattle.store_promise.specs.Progress.{Refused, Again, Waiting, progressed, has_taken, is_fetching}
-use Rattle.store_promise.specs.Progress.{Taken, Wished, is_loaded}
+use Rattle.store_promise.specs.Progress.{Taken, Wished, has_part_alone, is_loaded}
 
 -- a schedule is any list of events
 abbrev pub Schedule : Type 0
@@ -178,24 +179,31 @@ abbrev pub IsClaimWish : Told → ℕ → Begun → BlockNo → Wish → Type 0
 IsClaimWish told worker begun block wish.Fetch = ⊥
 IsClaimWish told worker begun block other = IsWish told worker begun (whole_wish block) other
 
--- a place is left, and enough log positions for so many blocks
-pub record HasNumbers (o : Setting) (log : LogTold) (blocks : ℕ) : Type 0 where
+-- a place is left, and enough log positions for what the tail lacks of these blocks
+pub record HasNumbers (o : Setting) (log : LogTold) (blocks : List BlockNo) : Type 0 where
   pub place : log.places + 1 < 2 ^ 64
-  pub positions : o.position + log.appended + blocks < 2 ^ 64
+  pub positions : o.position + log.appended + added_told log blocks < 2 ^ 64
 
--- What a commit may be answered that brings the tail so many blocks: the next place; or why it is refused. What
--- was read stays as it was while it is held, so that no change is foreign.
-abbrev pub IsCommitting : Setting → LogTold → ℕ → Committing → Type 0
+-- What a commit may be answered that changes these blocks: the next place; or why it is refused. What was read
+-- stays as it was while it is held, so that no change is foreign.
+abbrev pub IsCommitting : Setting → LogTold → List BlockNo → Committing → Type 0
 IsCommitting o log blocks (committing.Committed place) =
     (log.broken ≡ false) × (place.0 ≡ log.places + 1) × HasNumbers o log blocks
-    × (log.tail + blocks ≤ LOG_SLOTS)
+    × (tail_told_after log blocks ≤ LOG_SLOTS)
 IsCommitting o log blocks committing.Broken = log.broken ≡ true
 IsCommitting o log blocks committing.Foreign = ⊥
 IsCommitting o log blocks committing.Spent = (log.broken ≡ false) × (HasNumbers o log blocks → ⊥)
 IsCommitting o log blocks committing.Full =
-    (log.broken ≡ false) × HasNumbers o log blocks × (LOG_SLOTS < log.tail + blocks)
+    (log.broken ≡ false) × HasNumbers o log blocks × (LOG_SLOTS < tail_told_after log blocks)
 IsCommitting o log blocks committing.NoMemory =
-    (log.broken ≡ false) × HasNumbers o log blocks × (log.tail + blocks ≤ LOG_SLOTS)
+    (log.broken ≡ false) × HasNumbers o log blocks × (tail_told_after log blocks ≤ LOG_SLOTS)
+
+-- The blocks that a commit of the transaction may name: each once, no more than a transaction may change, and each one
+-- of which it has taken a part alone. That they are those which its change writes is told of a worker alone.
+pub record AreChanged (begun : Begun) (blocks : List BlockNo) : Type 0 where
+  pub once : AreOnce blocks
+  pub few : length blocks ≤ CHANGED_BLOCKS
+  pub taken : All (λ (block : BlockNo). has_part_alone block begun ≡ true) blocks
 
 -- A worker goes by a plan: it asks for what plans may ask for, or commits a change of no more
 -- blocks than a transaction may change, or finds no memory.
@@ -205,7 +213,7 @@ IsStepByPlan o told worker begun (step.Wanted addr mode answer) =
 IsStepByPlan o told worker begun (step.Claimed block answer) =
     IsClaimAskedFor o begun block × IsClaimWish told worker begun block answer
 IsStepByPlan o told worker begun (step.Commit blocks answer) =
-    (blocks ≤ CHANGED_BLOCKS) × IsCommitting o told.log blocks answer
+    AreChanged begun blocks × IsCommitting o told.log blocks answer
 IsStepByPlan o told worker begun (step.Ended ending.NoMemory) = Unit {0}
 IsStepByPlan o told worker begun _ = ⊥
 
@@ -328,18 +336,3 @@ worker_of event.InstIo = None
 abbrev pub IsOfOne : ℕ → Option ℕ → Type 0
 IsOfOne workers None = Unit {0}
 IsOfOne workers (Some worker) = worker < workers
-
--- what the event of an index makes: the step that it may make, and none where it is of a worker that isn't
--- there
-pub record IsTaken (o : Setting) (workers : ℕ) (told : Told) (event : Event) (made : Option Step) : Type 0
-  where
-    pub own : IsOfOne workers (worker_of event) → IsStepOf o told event made
-    pub others : (IsOfOne workers (worker_of event) → ⊥) → made ≡ None
-
--- Events are taken from the first on, of so many workers, each once, after an opening.
-pub record AreTaken (o : Setting) (workers : ℕ) (events : Schedule) (steps : List (Option Step)) : Type 0
-  where
-    pub fewer : length steps ≤ length events
-    pub each : (index : ℕ) (event : Event) (made : Option Step) → slice_get events index ≡ Some event
-        → slice_get steps index ≡ Some made
-        → IsTaken o workers (told_before events steps index) event made

@@ -5,7 +5,7 @@ use Rattle.wal_law.specs.declared.change.LogChange.{LogChange}
 use Rattle.wal_law.specs.Calls.{Pending}
 use Rattle.wal_law.specs.Calls as pending
 use Rattle.wal_law.specs.Installer.{next_home}
-use Rattle.wal_law.specs.Log.{Log, newest_of, tail_count}
+use Rattle.wal_law.specs.Log.{Log, newest_of, tail_blocks}
 use Rattle.store_promise.specs.LogTold.{CallTold, LogTold, idle, out, was_made}
 
 abbrev pub call_told : Pending → CallTold
@@ -30,7 +30,7 @@ abbrev pub log_told : ℕ → Log → Pending → Pending → LogTold
 log_told position log logging installing = record {
   places = log.places;
   appended = log.start + length log.changes - position;
-  tail = tail_count log;
+  tail = tail_blocks log;
   tail_first = first_of (drop (log.logged + log.taken) log.changes);
   taken = log.taken;
   taken_first = first_of (take log.taken (drop log.logged log.changes));

@@ -1,8 +1,14 @@
 //! What may happen to a store, one step at a time.
 
+ghost use Rattle.std.specs.Prelude.{◌≡◌};
+
+use arrayvec::ArrayVec;
 use disk::BlockNo;
+use limits::CHANGED_BLOCKS;
 use nfs_types::{Call, Credential, Moment};
 use objects::{Addr, Mode};
+use std::marker::Model;
+use std::snapshot::Snapshot;
 use txn::{BeginFault, Seq};
 use wal::IoCall;
 
@@ -52,6 +58,32 @@ pub enum Committing {
     Spent,
 }
 
+/// The blocks that a change writes. They are told for proofs alone, and take no memory.
+#[derive(Drop)]
+pub struct Changed {
+    blocks: Snapshot<ArrayVec<BlockNo, CHANGED_BLOCKS>>,
+}
+
+impl Model for Changed {
+    ghost use Rattle.std.specs.Prelude.{List};
+    ghost use Rattle.disk.specs.declared.block.BlockNo.{BlockNo};
+
+    ghost Value = { List BlockNo };
+
+    ghost view = { λ changed. changed.blocks.value.items };
+}
+
+impl Changed {
+    /// These blocks.
+    pub fn of(blocks: &ArrayVec<BlockNo, CHANGED_BLOCKS>) -> Changed
+        ensures { result ≡ blocks.now.items }
+    {
+        Changed {
+            blocks: Snapshot::of(blocks),
+        }
+    }
+}
+
 /// Why a call is refused.
 #[derive(Clone, Copy, Debug, PartialEq, Eq)]
 pub enum Cause {
@@ -76,7 +108,7 @@ pub enum Ending {
 
 /// The step that an event made: a method of the core with what it was asked and answered, a device call with
 /// whether it was answered Ok, or what the worker did without either.
-#[derive(Clone, Copy, Debug, PartialEq, Eq)]
+#[derive(Drop)]
 pub enum Step {
     /// The worker was handed a call.
     Called,
@@ -89,8 +121,8 @@ pub enum Step {
     Claimed(BlockNo, Wish),
     Fetched(BlockNo),
     FetchFailed(BlockNo),
-    /// How many blocks the change would add to the open tail of the log, and what the commit was answered.
-    Commit(usize, Committing),
+    /// The blocks that the change writes, each once, and what the commit was answered.
+    Commit(Changed, Committing),
     /// The transaction was ended without a change.
     Ended(Ending),
     /// Whether the place is settled.

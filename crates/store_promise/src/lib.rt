@@ -13,6 +13,7 @@ mod open_steps;
 mod open_store;
 mod promises;
 mod refusals;
+mod rules;
 mod running;
 mod steps_made;
 mod told_log;
@@ -21,7 +22,7 @@ mod waiting;
 
 pub use aims::Aim;
 pub use answers::{CallAnswer, Entry, Verdict};
-pub use events::{Cause, Committing, Ending, Event, Step, Wish};
+pub use events::{Cause, Changed, Committing, Ending, Event, Step, Wish};
 pub use fault::OpenFault;
 pub use file_blocks::{
     earlier_files_keep_their_blocks, only_a_commit_changes_the_files,
@@ -51,17 +52,19 @@ pub use refusals::{
     a_good_image_is_refused_for_a_cause, a_good_image_shows_no_cause, an_image_shows_one_cause,
     what_shows_a_cause_is_not_opened,
 };
+pub use rules::the_rules_are_the_steps;
 pub use running::{
     a_device_counts_the_calls_of_its_steps, a_worker_keeps_the_run_going, an_opening_begins_a_run,
     what_was_read_is_at_home,
 };
 pub use steps_made::{
-    a_call_changes_no_more_than_it_may, a_call_that_is_out_is_made, a_full_log_is_full,
-    a_procedure_changes_only_what_it_took, a_worker_goes_by_its_plan,
-    a_worker_passes_over_no_event, no_call_begins_again_for_nothing, no_two_take_one_byte,
-    nothing_is_asked_for_twice, one_worker_is_never_busy, the_installer_comes_to_an_end,
-    the_log_passes_over_no_event, the_log_takes_its_next_call, what_was_known_is_taken_again_first,
-    what_was_made_stays, who_has_taken_more_above_does_not_wait,
+    a_call_changes_no_more_than_it_may, a_call_that_is_out_is_made,
+    a_commit_names_what_was_taken_alone, a_full_log_is_full, a_procedure_changes_only_what_it_took,
+    a_worker_goes_by_its_plan, a_worker_passes_over_no_event, no_call_begins_again_for_nothing,
+    no_two_take_one_byte, nothing_is_asked_for_twice, one_worker_is_never_busy,
+    the_installer_comes_to_an_end, the_log_passes_over_no_event, the_log_takes_its_next_call,
+    what_was_known_is_taken_again_first, what_was_made_stays,
+    who_has_taken_more_above_does_not_wait,
 };
 pub use told_log::{
     the_installer_stands_at_a_home, the_installers_next_call_is_told,

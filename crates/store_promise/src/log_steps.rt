@@ -1,6 +1,6 @@
 //! Laws on what is told of a log: each step of the memory log leads from what is told of it to what is told
 //! next.
-ghost use Rattle.std.specs.Prelude.{◌≡◌, ℕ, ◌+◌, ◌≤◌, Bool, List, Result, is_ok, length, true};
+ghost use Rattle.std.specs.Prelude.{◌≡◌, ℕ, ◌+◌, ◌++◌, ◌≤◌, Bool, List, Result, is_ok, length, true};
 ghost use Rattle.disk.specs.Device.{Content};
 ghost use Rattle.disk.specs.declared.block.BlockNo.{BlockNo};
 ghost use Rattle.disk.specs.declared.device.Failed.{Failed};
@@ -8,23 +8,22 @@ ghost use Rattle.wal_law.specs.Calls.{Pending, idle, out, was_made};
 ghost use Rattle.wal_law.specs.Installer.{IsNextInstCall, with_inst_back, with_inst_out};
 ghost use Rattle.wal_law.specs.Io.{Io};
 ghost use Rattle.wal_law.specs.Grows.{GrowsBy};
-ghost use Rattle.wal_law.specs.Log.{IsLawful, Log, tail_count};
+ghost use Rattle.wal_law.specs.Log.{IsLawful, Log, blocks_of, new_blocks, tail_blocks};
 ghost use Rattle.wal_law.specs.Logger.{with_log_back, with_log_out};
 ghost use Rattle.txn_law.specs.Steps.{StandsStill};
 ghost use Rattle.store_promise.specs.LogTold.{call_made, with_commit, with_inst_given, with_inst_taken};
 ghost use Rattle.store_promise.specs.LogTold.{with_log_given, with_log_taken};
 ghost use Rattle.store_promise.specs.ToldOf.{StandsAtHome, log_told};
 
-/// A commit adds to what is told the blocks by which it makes the tail longer. How the tail has them isn't
-/// asked.
+/// A commit adds to what is told the blocks that the tail lacked. How the tail has its contents isn't asked.
 pub fn a_commit_is_told()
-    ensures { (position : ℕ) (old new : Log) (group : List (BlockNo × Content)) (blocks : ℕ)
+    ensures { (position : ℕ) (old new : Log) (group : List (BlockNo × Content))
         (logging installing : Pending) → IsLawful old → IsLawful new
         → GrowsBy old group new → StandsStill old new
-        → tail_count new ≡ tail_count old + blocks → blocks ≤ length group
+        → tail_blocks new ≡ tail_blocks old ++ new_blocks (tail_blocks old) (blocks_of group)
         → position ≤ old.start + length old.changes
         → log_told position new logging installing
-        ≡ with_commit (log_told position old logging installing) blocks }
+        ≡ with_commit (log_told position old logging installing) (blocks_of group) }
 {}
 
 /// So do the calls of the logger: taken, made and given back.

@@ -119,8 +119,8 @@ pub fn half_a_group_breaks_the_promise()
 /// An answer with the reply of a procedure that is to be answered once it is stable, given with the commit,
 /// breaks the promise.
 pub fn no_stable_answer_comes_with_its_commit()
-    ensures { (before later : Device) (tree : Tree) (first workers index place blocks : ℕ) (events : Schedule)
-        (t : Transcript) (a : Answer)
+    ensures { (before later : Device) (tree : Tree) (first workers index place : ℕ) (events : Schedule)
+        (t : Transcript) (a : Answer) (blocks : List BlockNo)
         → slice_get t.answers index ≡ Some a → IsStableAnswer t a place
         → step_at t a.event ≡ Some (step.Commit blocks (committing.Committed (record { 0 = place })))
         → KeepsPromise before later tree first workers events t → ⊥ }

@@ -1,6 +1,6 @@
 //! Laws on the steps that events make, which the promise of a run pins.
 ghost use Rattle.std.specs.Prelude.{◌≡◌, ◌≢◌, ◌⊎◌, ◌+◌, ◌<◌, ◌≤◌, ◌∷◌, ℕ, Bool, List, Option};
-ghost use Rattle.std.specs.Prelude.{slice_get, Some, None};
+ghost use Rattle.std.specs.Prelude.{slice_get, Contains, Some, None, length};
 ghost use Rattle.std.specs.Prelude.{true};
 ghost use Rattle.std.specs.Prelude.{false};
 ghost use Rattle.limits.specs.declared.TheConstants.{CHANGED_BLOCKS, LOG_SLOTS, START_BLOCK};
@@ -14,6 +14,7 @@ ghost use Rattle.objects.specs.declared.mode.Mode.TheVariants as modes;
 ghost use Rattle.layout.specs.declared.geometry.Geometry.{Geometry};
 ghost use Rattle.procs.specs.Asks.{Asks};
 ghost use Rattle.txn_law.specs.Window.{object_at};
+ghost use Rattle.wal_law.specs.Log.{AreOnce};
 ghost use Rattle.wal_law.specs.declared.calls.IoCall.{IoCall};
 ghost use Rattle.wal_law.specs.declared.calls.IoCall.TheVariants.{Write};
 ghost use Rattle.store_promise.specs.declared.events.Committing.{Committing};
@@ -29,12 +30,13 @@ ghost use Rattle.store_promise.specs.declared.events.Wish.{Wish};
 ghost use Rattle.store_promise.specs.declared.events.Wish.TheVariants as wish;
 ghost use Rattle.store_promise.specs.declared.transcript.Committed.{Committed};
 ghost use Rattle.store_promise.specs.Headline.{KeepsPromise};
-ghost use Rattle.store_promise.specs.LogTold.{idle, may_install_told, may_log_told, out};
+ghost use Rattle.store_promise.specs.LogTold.{idle, may_install_told, may_log_told, out, tail_told_after};
 ghost use Rattle.store_promise.specs.NextCall.{next_log_call, taken_home};
 ghost use Rattle.store_promise.specs.Aims.{is_barred};
 ghost use Rattle.store_promise.specs.Progress.{Again, Begun, Called, Job, At, Planning, Reading, Stage};
-ghost use Rattle.store_promise.specs.Progress.{Taken, has_taken, is_fetching, known_then, takes};
-ghost use Rattle.store_promise.specs.Schedule.{IsTaken, Schedule, Setting, Told, is_held};
+ghost use Rattle.store_promise.specs.Progress.{Taken, has_part_alone, has_taken, is_fetching, known_then, takes};
+ghost use Rattle.store_promise.specs.Schedule.{Schedule, Setting, Told, is_held};
+ghost use Rattle.store_promise.specs.EventSteps.{IsTaken};
 ghost use Rattle.store_promise.specs.Schedule.{progress_before, told_before, whole_wish, wish_of};
 ghost use Rattle.store_promise.specs.Transcript.{Transcript};
 
@@ -187,23 +189,43 @@ pub fn no_two_take_one_byte()
 
 /// A commit that is told Full where the tail and the change together find room breaks the promise.
 pub fn a_full_log_is_full()
-    ensures { (before later : Device) (tree : Tree) (first workers index worker blocks : ℕ) (events : Schedule)
-        (t : Transcript) (job : Job) (begun : Begun)
+    ensures { (before later : Device) (tree : Tree) (first workers index worker : ℕ) (events : Schedule)
+        (t : Transcript) (job : Job) (begun : Begun) (blocks : List BlockNo)
         → slice_get events index ≡ Some (event.Work worker) → worker < workers
         → slice_get t.steps index ≡ Some (Some (step.Commit blocks committing.Full))
         → progress_before events t.steps worker index ≡ At job (Planning begun)
-        → (told_before events t.steps index).log.tail + blocks ≤ LOG_SLOTS
+        → tail_told_after (told_before events t.steps index).log blocks ≤ LOG_SLOTS
         → KeepsPromise before later tree first workers events t → ⊥ }
 {}
 
 /// A commit that is told to change more blocks than a transaction may breaks the promise.
 pub fn a_call_changes_no_more_than_it_may()
-    ensures { (before later : Device) (tree : Tree) (first workers index worker blocks : ℕ) (events : Schedule)
-        (t : Transcript) (job : Job) (begun : Begun) (answer : Committing)
+    ensures { (before later : Device) (tree : Tree) (first workers index worker : ℕ) (events : Schedule)
+        (t : Transcript) (job : Job) (begun : Begun) (blocks : List BlockNo) (answer : Committing)
         → slice_get events index ≡ Some (event.Work worker) → worker < workers
         → slice_get t.steps index ≡ Some (Some (step.Commit blocks answer))
         → progress_before events t.steps worker index ≡ At job (Planning begun)
-        → CHANGED_BLOCKS < blocks
+        → CHANGED_BLOCKS < length blocks
+        → KeepsPromise before later tree first workers events t → ⊥ }
+{}
+
+/// A commit that names a block twice breaks the promise, and so does one that names a block of which its transaction
+/// has taken no part alone.
+pub fn a_commit_names_what_was_taken_alone()
+    ensures once { (before later : Device) (tree : Tree) (first workers index worker : ℕ) (events : Schedule)
+        (t : Transcript) (job : Job) (begun : Begun) (blocks : List BlockNo) (answer : Committing)
+        → slice_get events index ≡ Some (event.Work worker) → worker < workers
+        → slice_get t.steps index ≡ Some (Some (step.Commit blocks answer))
+        → progress_before events t.steps worker index ≡ At job (Planning begun)
+        → (AreOnce blocks → ⊥)
+        → KeepsPromise before later tree first workers events t → ⊥ }
+    ensures taken { (before later : Device) (tree : Tree) (first workers index worker : ℕ) (events : Schedule)
+        (t : Transcript) (job : Job) (begun : Begun) (blocks : List BlockNo) (answer : Committing)
+        (block : BlockNo)
+        → slice_get events index ≡ Some (event.Work worker) → worker < workers
+        → slice_get t.steps index ≡ Some (Some (step.Commit blocks answer))
+        → progress_before events t.steps worker index ≡ At job (Planning begun)
+        → Contains blocks block → has_part_alone block begun ≡ false
         → KeepsPromise before later tree first workers events t → ⊥ }
 {}
 
@@ -238,9 +260,9 @@ pub fn what_was_known_is_taken_again_first()
         → progress_before events t.steps worker index ≡ At job (Planning begun)
         → begun.left ≡ next ∷ behind → aim.Claim block ≢ next
         → KeepsPromise before later tree first workers events t → ⊥ }
-    ensures commit { (before later : Device) (tree : Tree) (first workers index worker blocks : ℕ)
+    ensures commit { (before later : Device) (tree : Tree) (first workers index worker : ℕ)
         (events : Schedule) (t : Transcript) (job : Job) (begun : Begun) (next : Aim) (behind : List Aim)
-        (answer : Committing)
+        (blocks : List BlockNo) (answer : Committing)
         → slice_get events index ≡ Some (event.Work worker) → worker < workers
         → slice_get t.steps index ≡ Some (Some (step.Commit blocks answer))
         → progress_before events t.steps worker index ≡ At job (Planning begun)

@@ -10,7 +10,7 @@ ghost use Rattle.wal_law.specs.Logger.{IsNextLogCall, has_group, may_log, with_l
 ghost use Rattle.wal_law.specs.Room.{HasPlaces};
 ghost use Rattle.wal_law.specs.Grows.{GrowsBy};
 ghost use Rattle.txn_law.specs.Steps.{StandsStill};
-ghost use Rattle.store_promise.specs.LogTold.{may_install_told, may_log_told, settled_told};
+ghost use Rattle.store_promise.specs.LogTold.{may_install_told, may_log_told, settled_told, tail_told_after};
 ghost use Rattle.store_promise.specs.NextCall.{IsNextOfInstalling, next_log_call};
 ghost use Rattle.store_promise.specs.Schedule.{HasNumbers, Setting};
 ghost use Rattle.store_promise.specs.ToldOf.{StandsAtHome, log_told};
@@ -57,7 +57,7 @@ pub fn the_installer_stands_at_a_home()
 pub fn the_room_is_told()
     ensures numbers { (o : Setting) (log : Log) (logging installing : Pending) (blocks : List BlockNo)
         → IsLawful log → o.position ≤ log.start + length log.changes
-        → HasNumbers o (log_told o.position log logging installing) (length blocks) ↔ HasPlaces log blocks }
+        → HasNumbers o (log_told o.position log logging installing) blocks ↔ HasPlaces log blocks }
     ensures tail { (position : ℕ) (log : Log) (logging installing : Pending) (blocks : List BlockNo)
-        → (log_told position log logging installing).tail + length blocks ≡ tail_after log blocks }
+        → tail_told_after (log_told position log logging installing) blocks ≡ tail_after log blocks }
 {}

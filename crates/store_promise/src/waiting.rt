@@ -3,7 +3,8 @@ ghost use Rattle.std.specs.Prelude.{◌≡◌, ◌⊎◌, ℕ, false, List, ◌�
 ghost use Rattle.store_promise.specs.declared.events.Step.{Step};
 ghost use Rattle.store_promise.specs.declared.aims.Aim.{Aim};
 ghost use Rattle.store_promise.specs.Aims.{AreOfOne, IsCovered, Rises, inserted, is_barred, raised_by, rank_of};
-ghost use Rattle.store_promise.specs.Schedule.{AreTaken, Schedule, Setting, progress_before, told_before};
+ghost use Rattle.store_promise.specs.Schedule.{Schedule, Setting, progress_before, told_before};
+ghost use Rattle.store_promise.specs.EventSteps.{AreTaken};
 ghost use Rattle.store_promise.specs.Waiting.{AllWait, HasTakenWell, Waiter};
 
 /// Aims that rise do so with one more. Then each of them is there in its mode or in a higher one, and so is it; and

@@ -32,7 +32,7 @@ use Rattle.store_promise.specs.Schedule.{Setting, Told, told_after}
 use Rattle.store_promise.specs.declared.events.Event.TheVariants as event
 use Rattle.store_promise.specs.declared.events.Step.{Step}
 use Rattle.store_workers.specs.Alone.{IsOutAlone, LeavesNothing, PlansAlone}
-use Rattle.store_runs.specs.AtWork.{IsAtWork, IsCoreAtWork, Loads, LoadsFor, fetches_in, fetches_of}
+use Rattle.store_runs.specs.AtWork.{IsAtWork, IsCoreAtWork, Loads, LoadsFor, NotesFor, fetches_in, fetches_of}
 use Rattle.store_workers.specs.Beside.{NotesAll, NotesTaken}
 use Rattle.store_workers.specs.Phases.{has_transaction}
 use Rattle.store_images.specs.Fetches.{FetchesOnly}
@@ -57,6 +57,7 @@ call_core ctx call old new (Some made) core takes at with = record {
     plans = subst (λ (s : State). PlansAlone s.phase s core) (sym takes.2) tt;
   };
   loads = subst (λ (s : State). Loads s core) (sym takes.2) tt;
+  notes = subst (λ (s : State). NotesFor s.phase s core) (sym takes.2) tt;
 }
 
 -- so does a worker beside others
@@ -106,6 +107,7 @@ read_core ok io content old core phase_is io_is at with = record {
     plans = subst (λ (p : Phase). PlansAlone p old core) phase_is at.alone.plans;
   };
   loads = subst (λ (p : Phase). LoadsFor p old.begun.tx old.asked old.known core) phase_is at.loads;
+  notes = subst (λ (p : Phase). NotesFor p old core) phase_is at.notes;
 }
 
 pub read_work : (ok : Bool) (io : Fetch) (content : Content) (old : State) (core : CoreState)

@@ -14,7 +14,7 @@ use Rattle.procs.specs.Outcome.{Outcome}
 use Rattle.procs.specs.Steps.{IsStepOf}
 use Rattle.procs.specs.declared.next.Plan.TheVariants as plan
 use Rattle.inode.specs.declared.snap.Snap.{Snap}
-use Rattle.wal_law.specs.Log.{IsLawful, added_blocks}
+use Rattle.wal_law.specs.Log.{IsLawful}
 use Rattle.wal_law.specs.declared.outcomes.Seq.{Seq}
 use Rattle.txn.specs.Outcomes.{IsCommit}
 use Rattle.txn.specs.declared.outcomes.Commit.{Commit}
@@ -188,7 +188,7 @@ module _ (old new : Side) (boot number : ℕ) (entries : List Committed) where
   was_seen snap object (inl read) = inl read
   was_seen snap object (inr claimed) = inr claimed.0
 
-  place_taken : (job : Job) (tx : ℕ) (done : Outcome) (base : State) (answer : Commit Outcome) (added : ℕ)
+  place_taken : (job : Job) (tx : ℕ) (done : Outcome) (base : State) (answer : Commit Outcome) (added : List BlockNo)
       → IsNext old.worker (plan.Done done) → old.worker.work.job ≡ Some job
       → IsCommit old.core tx (planned_of done) done answer new.core
       → new.worker ≡ after_commit job done.reply answer base
@@ -232,7 +232,7 @@ module _ (old new : Side) (boot number : ℕ) (entries : List Committed) where
     wanted = λ tx addr mode made tx_is next was stands has. absurd (true≢false (sym has));
     claimed = λ tx block made tx_is next was stands has. absurd (true≢false (sym has));
     committed = λ job tx done made tx_is next none job_is was.
-        place_taken job tx done _ was.answer (added_blocks old.core.log (blocks_of done.written)) next
+        place_taken job tx done _ was.answer (blocks_of done.written) next
         job_is was.core was.worker;
     lacked = λ tx made tx_is none was stands has. absurd (true≢false (sym has));
     given = given_not;

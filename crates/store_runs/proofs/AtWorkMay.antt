@@ -42,11 +42,12 @@ use Rattle.txn_law.specs.Group.{blocks_of}
 use Rattle.txn_law.specs.Leaves.{in_memory}
 use Rattle.txn_law.specs.Object.{ObjectBytes}
 use Rattle.objects.proofs.Residents.{same_block}
-use Rattle.wal_law.specs.Log.{IsHomeOn, added_blocks, settled_place}
+use Rattle.wal_law.specs.Log.{IsHomeOn, settled_place, tail_after}
 use Rattle.wal_law.specs.Room.{HasPlaces}
 use Rattle.wal_law.specs.declared.outcomes.Seq.{Seq}
 use Rattle.store_promise.specs.LogTold.{LogTold, settled_told}
-use Rattle.store_promise.specs.Progress.{Begun, Progress, Wished, has_taken, is_fetching, is_loaded, is_object_in}
+use Rattle.store_promise.specs.Progress.{Begun, Progress, Wished, has_part_alone, has_taken, is_fetching}
+use Rattle.store_promise.specs.Progress.{is_object_in}
 use Rattle.store_promise.specs.declared.aims.Aim.{Aim}
 use Rattle.store_promise.specs.declared.aims.Aim.TheVariants as aim
 use Rattle.store_promise.specs.Progress as how
@@ -63,14 +64,18 @@ use Rattle.store_promise.specs.declared.events.Step.{Step}
 use Rattle.store_promise.specs.declared.events.Step.TheVariants as step
 use Rattle.store_promise.specs.declared.events.Wish.TheVariants as wish
 use Rattle.store_promise.proofs.ToldLog.{numbers_are, settled_is}
+use Rattle.wal_law.proofs.Tail.{tail_length}
+use Rattle.store_promise.specs.LogTold.{added_told, tail_told_after}
+use Rattle.txn_law.proofs.Once.{once_of}
 use Rattle.store_runs.proofs.AtWorkStays.{some_of}
 use Rattle.store_workers.proofs.LoneWorker.{has_of, never_kept_off, seen_of}
 use Rattle.store_workers.proofs.PlansStay.{wish_by}
 use Rattle.store_workers.proofs.WorkCases.{Cases, IsWished, by_cases}
 use Rattle.store_workers.specs.Alone.{HasOfCall, LeavesNothing, PlansAlone, is_kept_off}
-use Rattle.store_workers.specs.Beside.{IsLeftOf}
+use Rattle.store_workers.specs.Beside.{IsLeftOf, NotesAll, NotesTaken}
 use Rattle.store_workers.specs.Knowing.{Knowing, known_in}
-use Rattle.store_runs.specs.AtWork.{IsAimLoaded, IsCoreAtWork, Loads, LoadsFor}
+use Rattle.store_runs.specs.AtWork.{IsAimLoaded, IsCoreAtWork, Loads, LoadsFor, NotesFor}
+use Rattle.store_runs.proofs.NamedBlocks.{named_alone}
 use Rattle.store_runs.proofs.KeptOff.{IsCaused}
 use Rattle.store_workers.specs.Seen.{Seen, seen_in}
 use Rattle.store_workers.specs.Stages.{IsFetchOf, IsJobIn, IsWorkerAt, RunsIn, StandsAt, alone, at_fetch}
@@ -209,8 +214,12 @@ module _ (o : Setting) (base : Image) (store : StoreSide) (fetches : List Fetch)
   abbrev log : LogTold
   log = log_told o.position store.core.log store.logging store.installing
 
-  abbrev added : ℕ
-  added = added_blocks store.core.log (blocks_of plan.written)
+  abbrev added : List BlockNo
+  added = blocks_of plan.written
+
+  -- what is told of the tail is what it has
+  held : tail_told_after log added ≡ tail_after store.core.log added
+  held = ap (λ (n : ℕ). n + added_told log added) (tail_length store.core.log)
 
   numbers : HasNumbers o log added ↔ HasPlaces store.core.log (blocks_of plan.written)
   numbers = numbers_are o store.core.log store.logging store.installing (blocks_of plan.written)
@@ -221,23 +230,24 @@ module _ (o : Setting) (base : Image) (store : StoreSide) (fetches : List Fetch)
       → IsCaused told worker (Some (step.Commit added (committing_of answer)))
       → IsCommitting o log added (committing_of answer)
   by_answer told worker change (commit.Committed place) new is caused =
-      (is.tried.sound, is.next, numbers.1 is.tried.room.0, is.tried.room.1)
+      (is.tried.sound, is.next, numbers.1 is.tried.room.0, let fits = is.tried.room.1 in omega (arith, held, fits))
   by_answer told worker change (commit.Full back same) new is caused =
-      (is.1.sound, numbers.1 is.1.room.0, is.1.room.1)
+      (is.1.sound, numbers.1 is.1.room.0, let fits = is.1.room.1 in omega (arith, held, fits))
   by_answer told worker change (commit.Foreign back same) new is caused = absurd caused
   by_answer told worker change (commit.NoMemory back same) new is caused =
-      (is.1.sound, numbers.1 is.1.room.0, is.1.room.1)
+      (is.1.sound, numbers.1 is.1.room.0, let fits = is.1.room.1 in omega (arith, held, fits))
   by_answer told worker change (commit.Broken back same) new is caused = is.1
   by_answer told worker change (commit.Spent back same) new is caused = (is.1.sound, λ has. is.1.room (numbers.0 has))
 
   pub commit_may : {C : Type 0} (told : Told) (worker : ℕ) (far : Begun) (change : C)
       (answer : Commit C) (new : CoreState) → IsTold o told store
       → length (blocks_of plan.written) ≤ CHANGED_BLOCKS
+      → All (λ (block : BlockNo). has_part_alone block far ≡ true) added
       → IsCommit store.core tx plan change answer new
       → IsCaused told worker (Some (step.Commit added (committing_of answer)))
       → IsStepByPlan o told worker far (step.Commit added (committing_of answer))
-  commit_may told worker far change answer new is_told few is caused = (
-    few,
+  commit_may told worker far change answer new is_told few taken is caused = (
+    record { once = once_of plan.written; few = few; taken = taken },
     subst (λ (l : LogTold). IsCommitting o l added (committing_of answer)) (sym is_told.log)
         (by_answer told worker change answer new is caused),
   )
@@ -276,7 +286,8 @@ module _ (o : Setting) (told : Told) (number : ℕ) (base : Image) (store : Stor
     (worker : State) (new : Side)
     (one_geometry : (g h : Geometry) → g.blocks ≡ h.blocks → g.inodes ≡ h.inodes → g ≡ h)
     (is_out : IfSome worker.begun.tx (IsOut store.core))
-    (left_of : worker.phase ≡ Planning → IsLeftOf worker) where
+    (left_of : worker.phase ≡ Planning → IsLeftOf worker)
+    (notes : worker.phase ≡ Planning → NotesAll worker store.core) where
   abbrev old : Side
   old = side worker store.core
 
@@ -406,13 +417,18 @@ module _ (o : Setting) (told : Told) (number : ℕ) (base : Image) (store : Stor
   committed_so : (job : Job) (tx : ℕ) (done : Outcome) (made : Step) → worker.begun.tx ≡ Some tx
       → IsNext worker (plan.Done done) → worker.known.left ≡ [] → worker.work.job ≡ Some job
       → (has : HasCommitted job tx done old made new)
-      → May Planning (Some (step.Commit (added_blocks store.core.log (blocks_of done.written))
+      → May Planning (Some (step.Commit (blocks_of done.written)
       (committing_of has.answer)))
   committed_so job tx done made tx_is is none job_is has at plans loads stands caused =
       from_plan is.job tx (seen_of is.snap) _ is.job_is tx_is is.snap_is none
       (commit_may o base store fetches boot first last entries run tx (planned_of done) told number
       (begun_of (Some tx) (Some (seen_of is.snap)) worker.known) done has.answer new.core
-      is_told is.plan.1 has.core caused)
+      is_told is.plan.1
+      (named_alone store.core tx worker.known.taken (subst (λ (found : Option ℕ).
+      IfSome found (λ (n : ℕ). NotesTaken store.core n worker.known.taken)) tx_is (notes at)) is.snap
+      run.since.over.tidy (out_in tx tx_is)
+      (has_of worker store.core is.job tx (seen_of is.snap) is.job_is tx_is is.snap_is plans) done is.plan.0)
+      has.core caused)
 
   lacked_so : (tx : ℕ) (made : Step) → worker.begun.tx ≡ Some tx → worker.known.left ≡ []
       → HasLacked tx old made new
@@ -545,7 +561,9 @@ pub step_may : (o : Setting) (told : Told) (number : ℕ) (base : Image) (store 
 step_may o told number base store fetches boot first last entries run is_told idle inodes worker new one_geometry
     made goes at worker_at =
     step_may_by o told number base store fetches boot first last entries run is_told inodes worker new
-    one_geometry at.with.core_of.out (none_left_of worker at.alone.left) made goes at.alone.plans at.loads worker_at
+    one_geometry at.with.core_of.out (none_left_of worker at.alone.left)
+    (λ (planning : worker.phase ≡ Planning). subst (λ (p : Phase). NotesFor p worker store.core) planning at.notes)
+    made goes at.alone.plans at.loads worker_at
     (not_caused told number idle made
     (never_kept_off (side worker store.core) new run.since.over.tidy at.alone.out at.alone.fetches worker.phase made
     at.with.sound.fetch at.alone.plans at.alone.left goes))

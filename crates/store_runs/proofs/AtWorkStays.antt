@@ -1,11 +1,12 @@
 -- A core stays at work for its worker by each step: what was fetched is in memory while the worker goes by
 -- its plans.
-use Rattle.std.proofs.Common.{◌≡◌, ◌∙◌, refl, sym, ap, subst, true≢false, ℕ, Bool, true, false, Option, Some}
+use Rattle.std.proofs.Common.{◌+◌, ◌≡◌, ◌∙◌, refl, sym, ap, subst, true≢false, ℕ, Bool, true, false, Option, Some}
 use Rattle.std.proofs.Common.{None, inl, inr, if◌then◌else◌}
 use Rattle.std.proofs.Common.{List, [], All}
-use Rattle.std.specs.Prelude.{IsSomeAnd}
+use Rattle.std.specs.Prelude.{IfSome, IsSomeAnd, is_some, nat_eq, option_to_list}
+use Rattle.std.specs.List.{list_any}
 use Rattle.std.proofs.lemmas.Bool.{eq-eqb}
-use Rattle.std.proofs.lemmas.List.Elements.{All-nil, All-weaker}
+use Rattle.std.proofs.lemmas.List.Elements.{All-contains, All-nil, All-weaker}
 use Rattle.disk.specs.declared.block.BlockNo.{BlockNo}
 use Rattle.model.specs.Entry.{Entry}
 use Rattle.model.specs.Calls.{is_answered_stable}
@@ -14,7 +15,6 @@ use Rattle.objects.specs.declared.addr.Addr.{Addr}
 use Rattle.objects.specs.Mode.{raised}
 use Rattle.objects.specs.declared.mode.Mode.{Mode}
 use Rattle.procs.specs.Outcome.{Outcome}
-use Rattle.wal_law.specs.Log.{added_blocks}
 use Rattle.wal_law.specs.declared.outcomes.Seq.{Seq}
 use Rattle.txn.specs.Outcomes.{IsClaimed, IsCommit, IsWanted}
 use Rattle.txn.specs.declared.outcomes.Claim.{Claim}
@@ -27,7 +27,9 @@ use Rattle.txn_law.specs.Core.{CoreState}
 use Rattle.txn_law.specs.Fetch.{Fetch}
 use Rattle.txn_law.specs.Group.{blocks_of}
 use Rattle.txn_law.specs.Leaves.{Leaves, is_fetching, taken_by, without_fetch}
-use Rattle.txn_law.specs.Tidy.{AreTidy}
+use Rattle.txn_law.specs.Holds.{is_hold_of}
+use Rattle.txn_law.specs.Tidy.{AreTidy, IsOfOne}
+use Rattle.txn_law.proofs.Claims.{found_by}
 use Rattle.store_promise.specs.declared.answers.Verdict.TheVariants as verdict
 use Rattle.store_promise.specs.declared.events.Step.{Step}
 use Rattle.store_promise.specs.declared.events.Step.TheVariants as step
@@ -41,11 +43,12 @@ use Rattle.store_workers.proofs.NotesAll.{notes_still}
 use Rattle.store_workers.proofs.PlansStay.{plans_stay}
 use Rattle.store_workers.proofs.StaysAlone.{stays_alone}
 use Rattle.store_workers.proofs.WorkCases.{Cases, by_cases}
-use Rattle.store_workers.specs.Alone.{HasOfCall, HasTaken, PlansAlone, StaysAlone, is_full}
+use Rattle.store_workers.specs.Alone.{HasOfCall, HasTaken, IsOutAlone, PlansAlone, StaysAlone, is_full}
 use Rattle.store_images.specs.Fetches.{FetchesOnly}
-use Rattle.store_workers.specs.Beside.{IsFetchedBy, IsLeftOf, NoneTakenBeyond}
+use Rattle.store_workers.specs.Beside.{IsFetchedBy, IsLeftOf, NoneTakenBeyond, NotesAll, NotesTaken}
+use Rattle.store_workers.specs.Phases.{has_transaction}
 use Rattle.store_runs.specs.AtWork.{FetchesFor, IsAimLoaded, IsAtWork, IsCoreAtWork, IsLoadedBut, IsLoadedFor, Loads}
-use Rattle.store_runs.specs.AtWork.{LoadsFor, has_taken}
+use Rattle.store_runs.specs.AtWork.{LoadsFor, NotesFor, has_taken}
 use Rattle.store_workers.specs.Asked.{Asking}
 use Rattle.store_workers.specs.Knowing.{with_off}
 use Rattle.store_workers.specs.Seen.{Seen, seen_in}
@@ -299,7 +302,7 @@ module _ (old new : Side) where
   no_room : (one : Bool) → one ≡ false → one ≡ true → ⊥
   no_room one is room = true≢false (sym room ∙ is)
 
-  full_so : (tx : ℕ) (job : Job) (done : Outcome) (base : State) (answer : Commit Outcome) (added : ℕ)
+  full_so : (tx : ℕ) (job : Job) (done : Outcome) (base : State) (answer : Commit Outcome) (added : List BlockNo)
       → old.worker.begun.tx ≡ Some tx → base.work.job ≡ old.worker.work.job
       → base.work.snap ≡ new.worker.work.snap
       → IsCommit old.core tx (planned_of done) done answer new.core
@@ -338,7 +341,7 @@ module _ (old new : Side) where
     wanted = λ tx addr mode made tx_is next has room plans. absurd (true≢false (sym room));
     claimed = λ tx block made tx_is next has room plans. absurd (true≢false (sym room));
     committed = λ job tx done made tx_is next none job_is has.
-        full_so tx job done _ has.answer (added_blocks old.core.log (blocks_of done.written)) tx_is
+        full_so tx job done _ has.answer (blocks_of done.written) tx_is
         refl refl has.core has.worker has.seen;
     lacked = λ tx made tx_is none has room plans. absurd (true≢false (sym room));
     given = given_not_full;
@@ -377,6 +380,82 @@ fetched_only : (io : Option Fetch) (core : CoreState) → FetchesOnly io core �
 fetched_only None core only = tt
 fetched_only (Some io) core only = only io.block ∙ eq-eqb io.block.0 io.block.0 refl
 
+-- where no transaction is out, nothing is taken
+none_alone : (core : CoreState) → AreTidy core → core.out ≡ [] → NoneTakenBeyond core
+none_alone core tidy out addr hold taken =
+    let found = found_by (is_hold_of (core.begun + 1) addr) core.holds hold taken in
+    let owned = (All-contains (IsOfOne core) core.holds hold tidy.owned found.1).0 in
+    true≢false (sym owned ∙ ap (λ (ts : List ℕ). list_any (λ other. nat_eq other hold.transaction) ts) out)
+
+-- noted is what the worker's transaction has taken then, if it has one
+module _ (old new : Side) (made : Option Step) (tidy : AreTidy old.core) (out : IsOutAlone old.worker old.core)
+    (tx : is_some old.worker.begun.tx ≡ has_transaction old.worker.phase) (goes : GoesOn old.worker.phase old made new)
+  where
+    still_noted : NotesAll old.worker old.core → NotesAll new.worker new.core
+    still_noted notes = notes_still old new
+        (λ none. none_alone old.core tidy (out ∙ ap (λ (found : Option ℕ). option_to_list found) none)) notes made tx goes
+
+    none_noted : (found : Option ℕ) → is_some found ≡ false
+        → IfSome found (λ n. NotesTaken old.core n old.worker.known.taken)
+    none_noted None none = tt
+    none_noted (Some n) some = absurd (true≢false some)
+
+    without : (phase : Phase) → old.worker.phase ≡ phase → has_transaction phase ≡ false
+        → NotesAll new.worker new.core
+    without phase is none = still_noted (none_noted old.worker.begun.tx (tx ∙ ap has_transaction is ∙ none))
+
+    abbrev is_ended : Phase → Bool
+    is_ended (Refused why) = true
+    is_ended Again = true
+    is_ended _ = false
+
+    abbrev Ended : Phase → Option Step → Type 0
+    Ended phase made = is_ended phase ≡ true → NotesAll new.worker new.core
+
+    of_state : (state : State) → new.worker ≡ state → NotesAll state new.core → NotesAll new.worker new.core
+    of_state state is = subst (λ (s : State). NotesAll s new.core) (sym is)
+
+    ended : Cases old new Ended
+    ended = record {
+      idle = λ is ends. absurd (true≢false (sym ends));
+      reading = λ is ends. absurd (true≢false (sym ends));
+      begun = λ job number job_is served has ends. absurd (true≢false (sym ends));
+      not_begun = λ job why job_is served none core is ends. absurd (true≢false (sym ends));
+      replied = λ job job_is served core is ends. absurd (true≢false (sym ends));
+      wanted = λ tx addr mode made tx_is next has ends. absurd (true≢false (sym ends));
+      claimed = λ tx block made tx_is next has ends. absurd (true≢false (sym ends));
+      committed = λ job tx done made tx_is next none job_is has ends. absurd (true≢false (sym ends));
+      lacked = λ tx made tx_is none has ends. absurd (true≢false (sym ends));
+      given = λ ok io made io_is has ends. absurd (true≢false (sym ends));
+      refused = λ why job tx made job_is tx_is has ends. of_state _ has.worker tt;
+      left = λ tx made tx_is has ends. of_state _ has.worker tt;
+      waited = λ place made has ends. absurd (true≢false (sym ends));
+    }
+
+    pub notes_alone : NotesFor old.worker.phase old.worker old.core → NotesAll new.worker new.core
+    notes_alone notes = by old.worker.phase refl notes
+      where
+        by : (phase : Phase) → old.worker.phase ≡ phase → NotesFor phase old.worker old.core
+            → NotesAll new.worker new.core
+        by Idle is notes = without Idle is refl
+        by Called is notes = without Called is refl
+        by Planning is notes = still_noted notes
+        by Reading is notes = still_noted notes
+        by (Read ok) is notes = still_noted notes
+        by (Refused why) is notes = by_cases old new Ended ended old.worker.phase made goes (ap is_ended is)
+        by Again is notes = by_cases old new Ended ended old.worker.phase made goes (ap is_ended is)
+        by (Waiting place) is notes = without (Waiting place) is refl
+
+notes_for : (phase : Phase) (worker : State) (core : CoreState) → NotesAll worker core → NotesFor phase worker core
+notes_for Idle worker core notes = tt
+notes_for Called worker core notes = tt
+notes_for Planning worker core notes = notes
+notes_for Reading worker core notes = notes
+notes_for (Read ok) worker core notes = notes
+notes_for (Refused why) worker core notes = tt
+notes_for Again worker core notes = tt
+notes_for (Waiting place) worker core notes = tt
+
 pub at_work_still : (old new : Side) (made : Option Step) (boot : ℕ) (entries : List Entry)
     → IsCoreAtWork old.worker old.core → IsWorkerAt boot entries old.worker → AreTidy old.core
     → KeepsReadsOf old new
@@ -397,6 +476,8 @@ at_work_still old new made boot entries at worker_at tidy reads goes with =
       };
       loads = loads_still old new (fetched_only old.worker.begun.io old.core at.alone.fetches) boot entries made goes
           at.loads worker_at;
+      notes = notes_for new.worker.phase (told new.worker) new.core
+          (notes_alone old new made tidy at.alone.out at.with.sound.transaction goes at.notes);
     }
 
 -- So does a worker beside others: it has of its call what it took, and has noted it.
@@ -410,5 +491,5 @@ at_work_on old new made boot entries at worker_at beyond left pending reads goes
   with = with;
   plans = plans_told new.worker.phase new.worker new.core (plans_stay old new reads beyond left made goes at.plans);
   loads = loads_still old new pending boot entries made goes at.loads worker_at;
-  notes = notes_still old new beyond at.notes made at.with.sound.transaction goes;
+  notes = notes_still old new (λ none. beyond) at.notes made at.with.sound.transaction goes;
 }

@@ -1,5 +1,6 @@
 -- What is told after a worker's step is what the store then has, and only a commit moves the log.
-use Rattle.std.proofs.Common.{◌≡◌, ◌∙◌, refl, sym, ap, true≢false, ℕ, ◌+◌, ◌≤◌, Bool, true, false, Option}
+use Rattle.disk.specs.declared.block.BlockNo.{BlockNo}
+use Rattle.std.proofs.Common.{List, ◌≡◌, ◌∙◌, refl, sym, ap, true≢false, ℕ, ◌+◌, ◌≤◌, Bool, true, false, Option}
 use Rattle.std.proofs.Common.{Some, None}
 use Rattle.std.proofs.Common.{Ok, Err, length}
 use Rattle.objects.specs.declared.addr.Addr.{Addr}
@@ -17,7 +18,7 @@ use Rattle.txn_law.specs.Core.{CoreState}
 use Rattle.txn_law.specs.Fetch.{Fetch}
 use Rattle.txn_law.specs.Group.{blocks_of}
 use Rattle.txn_law.specs.Wishes.{TakesOnly}
-use Rattle.wal_law.specs.Log.{IsLawful, Log, added_blocks}
+use Rattle.wal_law.specs.Log.{IsLawful, Log}
 use Rattle.store_promise.specs.LogTold.{LogTold, with_commit}
 use Rattle.store_promise.specs.OpenSince.{StandsBeside}
 use Rattle.store_promise.specs.Running.{IsTold, StoreSide}
@@ -29,7 +30,6 @@ use Rattle.store_promise.specs.declared.events.Event.TheVariants as event
 use Rattle.store_promise.specs.declared.events.Step.{Step}
 use Rattle.store_promise.specs.declared.events.Step.TheVariants as step
 use Rattle.store_promise.proofs.ToldOf.{commit_told}
-use Rattle.store_runs.proofs.CommitTold.{few_blocks, longer}
 use Rattle.store_workers.proofs.WorkCases.{Cases, by_cases}
 use Rattle.store_runs.specs.AtWork.{has_committed, with_core}
 use Rattle.store_workers.specs.WorkerAnswers.{claim_wish, committing_of, wish_of}
@@ -121,37 +121,37 @@ module _ (o : Setting) (told : Told) (number : ℕ) (store : StoreSide) (is_told
   module _ (before : IsLawful store.core.log) (after : IsLawful new.core.log)
       (from : o.position ≤ store.core.log.start + length store.core.log.changes) where
     placed_told : (tx : ℕ) (what : Planned) (place : ℕ) → TakesPlace store.core tx what place new.core
-        → with_commit told.log (added_blocks store.core.log (blocks_of what.written))
+        → with_commit told.log (blocks_of what.written)
         ≡ log_told o.position new.core.log store.logging store.installing
     placed_told tx what place took =
-        ap (λ (l : LogTold). with_commit l (added_blocks store.core.log (blocks_of what.written))) is_told.log
+        ap (λ (l : LogTold). with_commit l (blocks_of what.written)) is_told.log
         ∙ sym (commit_told o.position store.core.log new.core.log took.group.group
-        (added_blocks store.core.log (blocks_of what.written)) before after took.group.grown took.still
-        (longer store.core new.core tx place what took) (few_blocks store.core new.core tx place what took) from
-        store.logging store.installing)
+        before after took.group.grown took.still took.group.seen.tail from store.logging store.installing
+        ∙ ap (λ (bs : List BlockNo). with_commit (log_told o.position store.core.log store.logging store.installing)
+        bs) took.group.blocks)
 
     committed_told : (tx : ℕ) (done : Outcome) (answer : Commit Outcome)
         → IsCommit store.core tx (planned_of done) done answer new.core
-        → Tells Planning (Some (step.Commit (added_blocks store.core.log (blocks_of done.written))
+        → Tells Planning (Some (step.Commit (blocks_of done.written)
         (committing_of answer)))
     committed_told tx done (commit.Committed place) took = record {
       log = placed_told tx (planned_of done) place.0 took;
       begun = is_told.begun ∙ sym (ap (λ (c : CoreState). c.begun) took.only);
     }
     committed_told tx done (commit.Full back change) is =
-        kept (Some (step.Commit (added_blocks store.core.log (blocks_of done.written)) committing.Full)) refl
+        kept (Some (step.Commit (blocks_of done.written) committing.Full)) refl
         refl (same_core store.core new.core is.0.core)
     committed_told tx done (commit.Foreign back change) is =
-        kept (Some (step.Commit (added_blocks store.core.log (blocks_of done.written)) committing.Foreign))
+        kept (Some (step.Commit (blocks_of done.written) committing.Foreign))
         refl refl (same_core store.core new.core is.0.core)
     committed_told tx done (commit.NoMemory back change) is =
-        kept (Some (step.Commit (added_blocks store.core.log (blocks_of done.written)) committing.NoMemory))
+        kept (Some (step.Commit (blocks_of done.written) committing.NoMemory))
         refl refl (same_core store.core new.core is.0.core)
     committed_told tx done (commit.Broken back change) is =
-        kept (Some (step.Commit (added_blocks store.core.log (blocks_of done.written)) committing.Broken))
+        kept (Some (step.Commit (blocks_of done.written) committing.Broken))
         refl refl (same_core store.core new.core is.0.core)
     committed_told tx done (commit.Spent back change) is =
-        kept (Some (step.Commit (added_blocks store.core.log (blocks_of done.written)) committing.Spent)) refl
+        kept (Some (step.Commit (blocks_of done.written) committing.Spent)) refl
         refl (same_core store.core new.core is.0.core)
 
     given_told : (ok : Bool) (io : Fetch) (made : Step) → worker.begun.io ≡ Some io
@@ -198,7 +198,7 @@ module _ (old new : Side) where
   abbrev Stands : Phase → Option Step → Type 0
   Stands phase made = has_committed made ≡ false → StandsBeside old.core new.core
 
-  uncommitted : (tx : ℕ) (done : Outcome) (answer : Commit Outcome) (added : ℕ)
+  uncommitted : (tx : ℕ) (done : Outcome) (answer : Commit Outcome) (added : List BlockNo)
       → IsCommit old.core tx (planned_of done) done answer new.core
       → Stands Planning (Some (step.Commit added (committing_of answer)))
   uncommitted tx done (commit.Committed place) added is none = absurd (true≢false none)
@@ -226,7 +226,7 @@ module _ (old new : Side) where
     claimed = λ tx block made tx_is next has none.
         (claimed old.core new.core tx has.core.0 has.answer has.core.2).beside;
     committed = λ job tx done made tx_is next none_left job_is has. uncommitted tx done has.answer
-        (added_blocks old.core.log (blocks_of done.written)) has.core;
+        (blocks_of done.written) has.core;
     lacked = λ tx made tx_is none_left has none. (aborted tx old.core new.core has.core).beside;
     given = λ ok io made io_is has none. (given_back ok io old made new has).beside;
     refused = λ why job tx made job_is tx_is has none. (aborted tx old.core new.core has.core).beside;

@@ -12,7 +12,8 @@ use Rattle.store_promise.specs.declared.transcript.Run.{Run}
 use Rattle.store_promise.specs.DeviceCalls.{DoesStepBy}
 use Rattle.store_promise.specs.Headline.{StandsAfter}
 use Rattle.store_promise.specs.Running.{IsMovedBy, IsRunningOver, IsTold, StoreSide}
-use Rattle.store_promise.specs.Schedule.{IsOfOne, IsTaken, Setting, told_after, worker_of}
+use Rattle.store_promise.specs.Schedule.{IsOfOne, Setting, told_after, worker_of}
+use Rattle.store_promise.specs.EventSteps.{IsTaken}
 use Rattle.store_promise.specs.Transcript.{Transcript, entries_of, transcript_of}
 use Rattle.run_law.specs.Noting.{TellsOfEvent, told_now, with_noted}
 use Rattle.run_law.specs.Run.{Beginning, GoesOn, IsRun}

@@ -6,6 +6,7 @@ use Rattle.nfs_types.specs.declared.ctx.Ctx.{Ctx}
 use Rattle.nfs_types.specs.declared.ctx.Moment.{Moment}
 use Rattle.disk.specs.Device.{current}
 use Rattle.model.specs.Entry.{Entry}
+use Rattle.store_promise.proofs.RulesAre.{to_run_rule}
 use Rattle.store_promise.specs.declared.events.Event.{Event}
 use Rattle.store_promise.specs.declared.events.Event.TheVariants as event
 use Rattle.store_promise.specs.declared.events.Step.{Step}
@@ -88,7 +89,8 @@ module _ (b : Beginning) (number : ℕ) (credential : Credential) (moment : Mome
       → Leaves b now o going.base going.last t store store made later
   left_by takes tells told_then fetches with = record {
     taken = record {
-      own = λ one. subst (λ (p : Progress). IsStepOfCall p made) (sym so.progress) tells.may;
+      own = λ one. to_run_rule o told now made
+          (subst (λ (p : Progress). IsStepOfCall p made) (sym so.progress) tells.may);
       others = λ none. absurd (none (is_there b store workers before number worker going list.was));
     };
     device = still made (calls_none ctx call worker new made takes);

@@ -1,7 +1,7 @@
 -- A run goes on with each event: what was told, and what the worker and its core have then.
 use Rattle.std.proofs.Common.{◌≡◌, ◌∙◌, refl, sym, ap, subst, ℕ, ◌+◌, Bool, true, false, List, map}
 use Rattle.std.proofs.Common.{Option, Some, None, [], is_some, take, All, inl, inr}
-use Rattle.std.specs.Prelude.{IsSomeAnd}
+use Rattle.std.specs.Prelude.{IfSome, IsSomeAnd}
 use Rattle.std.proofs.lemmas.List.{append-nil}
 use Rattle.std.proofs.lemmas.List.Elements.{All-weaker}
 use Rattle.disk.specs.Crash.{Image}
@@ -17,6 +17,7 @@ use Rattle.txn_law.specs.Fetch.{Fetch}
 use Rattle.txn_law.specs.Object.{ObjectBytes}
 use Rattle.txn_law.specs.Holds.{is_written}
 use Rattle.txn_law.specs.declared.hold.Hold.{Hold}
+use Rattle.store_promise.proofs.RulesAre.{to_run_rule}
 use Rattle.store_promise.specs.declared.events.Event.{Event}
 use Rattle.store_promise.specs.declared.events.Event.TheVariants as event
 use Rattle.store_promise.specs.declared.events.Step.{Step}
@@ -30,7 +31,8 @@ use Rattle.store_promise.specs.Running.{GoesOnBy, IsFetchOver, IsLogStep, IsRunn
 use Rattle.store_promise.specs.Running.{StoreSide}
 use Rattle.store_promise.specs.Running.{home_next, told_next}
 use Rattle.store_promise.specs.Schedule.{IsNextOfInstaller, IsNextOfLog, IsStepOfInstIo, IsStepOfInstaller}
-use Rattle.store_promise.specs.Schedule.{IsStepOfLog, IsStepOfLogIo, IsTaken, Setting, Told, told_after}
+use Rattle.store_promise.specs.Schedule.{IsStepOfLog, IsStepOfLogIo, Setting, Told, told_after}
+use Rattle.store_promise.specs.EventSteps.{IsTaken}
 use Rattle.store_promise.specs.Schedule.{worker_of}
 use Rattle.store_promise.specs.Transcript.{Transcript, entries_of, entry_of, transcript_of}
 use Rattle.run_law.specs.Noting.{Noted, commits, ends_of, told_now, with_noted}
@@ -41,11 +43,12 @@ use Rattle.store_workers.specs.Knowing.{Knowing}
 use Rattle.store_promise.specs.declared.aims.Aim.{Aim}
 use Rattle.store_promise.specs.declared.aims.Aim.TheVariants as aim
 use Rattle.store_runs.specs.AtWork.{FetchesFor, IsAimLoaded, IsCoreAtWork, IsLoadedBut, IsLoadedFor, LoadsFor}
-use Rattle.store_runs.specs.AtWork.{fetches_of, has_taken}
+use Rattle.store_runs.specs.AtWork.{NotesFor, fetches_of, has_taken}
 use Rattle.store_runs.specs.Going.{AreSoFar, IsGoing, IsNextEvent, NotesStep, may_make}
 use Rattle.store_runs.proofs.StayBeside.{AllWillStand, each_kept, so_still}
 use Rattle.store_workers.proofs.ShareCore.{share_by}
-use Rattle.store_workers.specs.Beside.{ShareCore}
+use Rattle.store_workers.proofs.NotesAll.{same_notes}
+use Rattle.store_workers.specs.Beside.{NotesAll, NotesTaken, ShareCore}
 use Rattle.store_runs.specs.Running.{DoesItsStep}
 use Rattle.store_workers.specs.Seen.{Seen, seen_in}
 use Rattle.store_workers.specs.Worker.{GoesWith}
@@ -209,6 +212,24 @@ module _ (old new : CoreState) (kept : KeepsTransactions old new)
   same_loads Again tx asked knowing has = tt
   same_loads (Waiting place) tx asked knowing has = tt
 
+  same_noted : (worker : State) → NotesAll worker old → NotesAll worker new
+  same_noted worker noted = by worker.begun.tx noted
+    where
+      by : (found : Option ℕ) → IfSome found (λ tx. NotesTaken old tx worker.known.taken)
+          → IfSome found (λ tx. NotesTaken new tx worker.known.taken)
+      by None noted = tt
+      by (Some tx) noted = same_notes old new tx worker.known.taken (kept.taken tx) noted
+
+  same_notes_for : (phase : Phase) (worker : State) → NotesFor phase worker old → NotesFor phase worker new
+  same_notes_for Idle worker noted = tt
+  same_notes_for Called worker noted = tt
+  same_notes_for Planning worker noted = same_noted worker noted
+  same_notes_for Reading worker noted = same_noted worker noted
+  same_notes_for (Read ok) worker noted = same_noted worker noted
+  same_notes_for (Refused why) worker noted = tt
+  same_notes_for Again worker noted = tt
+  same_notes_for (Waiting place) worker noted = tt
+
   pub still_at_work : (worker : State) → GoesWith worker new → IsCoreAtWork worker old → IsCoreAtWork worker new
   still_at_work worker with at_work = record {
     with = with;
@@ -219,6 +240,7 @@ module _ (old new : CoreState) (kept : KeepsTransactions old new)
       plans = same_plans worker.phase worker at_work.alone.plans;
     };
     loads = same_loads worker.phase worker.begun.tx worker.asked worker.known at_work.loads;
+    notes = same_notes_for worker.phase worker at_work.notes;
   }
 
 -- ---- a step of the log's side commits nothing and begins nothing
@@ -315,22 +337,22 @@ inst_io_workers told (Some one) worker = refl
 pub of_log_side : (o : Setting) (workers : ℕ) (told : Told) (now : Event) (made : Option Step)
     → may_make now o told.log made → IsOfLogSide o workers told now made
 of_log_side o workers told event.Log made may = record {
-  taken = record { own = λ one. may; others = λ none. absurd (none tt) };
+  taken = record { own = λ one. to_run_rule o told _ made may; others = λ none. absurd (none tt) };
   of_none = refl;
   workers_stay = log_workers told made;
 }
 of_log_side o workers told event.LogIo made may = record {
-  taken = record { own = λ one. may; others = λ none. absurd (none tt) };
+  taken = record { own = λ one. to_run_rule o told _ made may; others = λ none. absurd (none tt) };
   of_none = refl;
   workers_stay = log_io_workers told made;
 }
 of_log_side o workers told event.Install made may = record {
-  taken = record { own = λ one. may; others = λ none. absurd (none tt) };
+  taken = record { own = λ one. to_run_rule o told _ made may; others = λ none. absurd (none tt) };
   of_none = refl;
   workers_stay = install_workers told made;
 }
 of_log_side o workers told event.InstIo made may = record {
-  taken = record { own = λ one. may; others = λ none. absurd (none tt) };
+  taken = record { own = λ one. to_run_rule o told _ made may; others = λ none. absurd (none tt) };
   of_none = refl;
   workers_stay = inst_io_workers told made;
 }

@@ -4,6 +4,7 @@ use Rattle.disk.specs.Device.{Device}
 use Rattle.disk.specs.declared.block.BlockNo.{BlockNo}
 use Rattle.model.specs.Entry.{Entry}
 use Rattle.txn_law.specs.Fetch.{Fetch}
+use Rattle.store_promise.proofs.RulesAre.{to_run_rule}
 use Rattle.store_promise.specs.declared.events.Event.{Event}
 use Rattle.store_promise.specs.declared.events.Event.TheVariants as event
 use Rattle.store_promise.specs.declared.events.Step.{Step}
@@ -11,7 +12,8 @@ use Rattle.store_promise.specs.declared.events.Step.TheVariants as step
 use Rattle.store_promise.specs.declared.transcript.Run.{Run}
 use Rattle.store_promise.specs.Progress.{Progress, progressed}
 use Rattle.store_promise.specs.Running.{IsMovedBy, IsRunningOver, IsTold, StoreSide}
-use Rattle.store_promise.specs.Schedule.{IsStepOfRead, IsTaken, Setting, Told, told_after}
+use Rattle.store_promise.specs.Schedule.{IsStepOfRead, Setting, Told, told_after}
+use Rattle.store_promise.specs.EventSteps.{IsTaken}
 use Rattle.store_promise.specs.Transcript.{Transcript, entries_of, transcript_of}
 use Rattle.run_law.specs.Noting.{told_now}
 use Rattle.run_law.specs.Run.{Beginning}
@@ -81,7 +83,7 @@ module _ (b : Beginning) (number : ℕ) (keeps_model : Type 0) (store : StoreSid
 
   taken : (made : Option Step) → IsStepOfRead (progress_of worker) made → IsTaken o b.workers told now made
   taken made may = record {
-    own = λ one. subst (λ (p : Progress). IsStepOfRead p made) (sym so.progress) may;
+    own = λ one. to_run_rule o told now made (subst (λ (p : Progress). IsStepOfRead p made) (sym so.progress) may);
     others = λ none. absurd (none (is_there b store workers before number worker going list.was));
   }
 

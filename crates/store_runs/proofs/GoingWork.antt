@@ -7,6 +7,7 @@ use Rattle.std.proofs.lemmas.Bool.{le-leb, lt-leb, leb-true, leb-false}
 use Rattle.std.proofs.lemmas.List.{append-nil, length-map, map-append, take-append-le, take_all}
 use Rattle.std.proofs.lemmas.List.Elements.{All-nil}
 use Rattle.std.specs.Prelude.{All, IsSomeAnd}
+use Rattle.disk.specs.declared.block.BlockNo.{BlockNo}
 use Rattle.disk.specs.Crash.{Image}
 use Rattle.disk.specs.Device.{current}
 use Rattle.limits.specs.declared.TheConstants.{BLOCK_BYTES}
@@ -18,6 +19,7 @@ use Rattle.model.specs.Tree.{Tree}
 use Rattle.procedures.proofs.Joined.{push}
 use Rattle.txn_law.specs.Core.{CoreState}
 use Rattle.wal_law.specs.declared.outcomes.Seq.{Seq}
+use Rattle.store_promise.proofs.RulesAre.{to_run_rule}
 use Rattle.store_promise.specs.declared.events.Committing.TheVariants as committing
 use Rattle.store_promise.specs.declared.events.Event.TheVariants as event
 use Rattle.store_promise.specs.declared.events.Step.{Step}
@@ -36,7 +38,8 @@ use Rattle.model.specs.Calls.{begins_transaction}
 use Rattle.store_promise.specs.Waiting.{AreTakenBy, HasTakenWell}
 use Rattle.store_promise.specs.declared.aims.Aim.{Aim}
 use Rattle.store_promise.proofs.KnownAims.{taken_well}
-use Rattle.store_promise.specs.Schedule.{IsStepBeside, IsStepOfCalled, IsStepOfWork, IsTaken, Setting, Told, told_after}
+use Rattle.store_promise.specs.Schedule.{IsStepBeside, IsStepOfCalled, IsStepOfWork, Setting, Told, told_after}
+use Rattle.store_promise.specs.EventSteps.{IsTaken}
 use Rattle.store_promise.specs.ToldOf.{log_told}
 use Rattle.store_promise.specs.Transcript.{Transcript, calls_device, entries_of, entry_of, transcript_of}
 use Rattle.store_promise.proofs.DeviceCalls.{does_nothing}
@@ -128,7 +131,7 @@ module _ (o : Setting) (told : Told) (worker : ℕ) where
 -- a procedure more, or none
 pub data Noting (boot number clock : ℕ) (progress : Progress) (made : Option Step) (before mid : Run) : Type 0
   where
-    with_one : (added : ℕ) (place : Seq) → made ≡ Some (step.Commit added (committing.Committed place))
+    with_one : (added : List BlockNo) (place : Seq) → made ≡ Some (step.Commit added (committing.Committed place))
         → NotesProcedure boot number clock progress place.0 before mid
         → Noting boot number clock progress made before mid
     with_none : has_committed made ≡ false → commits made ≡ false → mid.history.items ≡ before.history.items
@@ -200,7 +203,7 @@ module _ (b : Beginning) (number clock : ℕ) (store : StoreSide) (workers all_t
     pub history : mid.history.items ≡ before.history.items ++ listed entry
     pub is_of : IsEntryOf b.events t (event.Work number) made entry
 
-  pub entry_of_one : (added : ℕ) (place : Seq) → made ≡ Some (step.Commit added (committing.Committed place))
+  pub entry_of_one : (added : List BlockNo) (place : Seq) → made ≡ Some (step.Commit added (committing.Committed place))
       → NotesProcedure boot number clock (progress_of worker) place.0 before mid → EntryPart
   entry_of_one added place made_is n = record {
     entry = Some n.committed;
@@ -309,7 +312,8 @@ module _ (b : Beginning) (number clock : ℕ) (store : StoreSide) (workers all_t
 
   taken : IsTaken o b.workers so_far (event.Work number) made
   taken = record {
-    own = λ one. subst (λ (p : Progress). IsStepOfWork o so_far number p made) (sym so.progress) may;
+    own = λ one. to_run_rule o so_far (event.Work number) made
+        (subst (λ (p : Progress). IsStepOfWork o so_far number p made) (sym so.progress) may);
     others = λ none. absurd (none (is_there b store workers before number worker going list.was));
   }
 

@@ -23,7 +23,7 @@ use Rattle.procs.specs.Finished.{EndsFrom}
 use Rattle.procs.specs.Outcome.{Outcome}
 use Rattle.procs.specs.declared.next.Plan.TheVariants as plan
 use Rattle.inode.specs.declared.snap.Snap.{Snap}
-use Rattle.txn.specs.Claimed.{IsAmongRead, IsClaimedObject, IsOwnObject}
+use Rattle.txn.specs.Claimed.{IsClaimedObject, IsOwnObject}
 use Rattle.txn.specs.Outcomes.{IsClaimed, IsCommit, IsWanted}
 use Rattle.txn.specs.Wishes.{IsWhole}
 use Rattle.txn.specs.declared.outcomes.Claim.{Claim}
@@ -32,7 +32,6 @@ use Rattle.txn.specs.declared.outcomes.Commit.{Commit}
 use Rattle.txn.specs.declared.outcomes.Commit.TheVariants as commit
 use Rattle.txn.specs.declared.outcomes.Want.{Want}
 use Rattle.txn.specs.declared.outcomes.Want.TheVariants as want
-use Rattle.wal_law.specs.Log.{added_blocks}
 use Rattle.txn.proofs.OwnChange.{taken_at}
 use Rattle.txn_law.specs.Commit.{IsOwn, IsReadBy}
 use Rattle.txn_law.specs.Core.{CoreState, IsOut}
@@ -53,8 +52,8 @@ use Rattle.txn_law.proofs.Others.{found_some, kept_off_by}
 use Rattle.txn_law.proofs.Swept.{in_cons, in_first}
 use Rattle.txn_law.proofs.TakenBy.{is_hold_by}
 use Rattle.store_promise.specs.Progress as how
-use Rattle.store_promise.specs.Progress.{Begun, Progress, Stage, Wished, aim_keeps_off, has_taken, is_fetching as fetches}
-use Rattle.store_promise.specs.Progress.{shares, stage_takes, takes}
+use Rattle.store_promise.specs.Progress.{Begun, Stage, Wished, aim_keeps_off, has_taken, is_fetching as fetches}
+use Rattle.store_promise.specs.Progress.{shares, stage_takes}
 use Rattle.store_promise.specs.Schedule.{IsLeftFree, IsSoOfAnother, Told, whole_wish, wish_of}
 use Rattle.store_promise.specs.Waiting.{HasTakenWell, IsAim}
 use Rattle.store_promise.specs.Aims.{IsAsMuch}
@@ -64,7 +63,7 @@ use Rattle.store_promise.specs.declared.events.Committing.TheVariants as committ
 use Rattle.store_promise.specs.declared.events.Step.{Step}
 use Rattle.store_promise.specs.declared.events.Step.TheVariants as step
 use Rattle.store_promise.specs.declared.events.Wish.TheVariants as wish
-use Rattle.store_runs.specs.AtWork.{FetchesFor, IsAtWork, IsLoadedBut, LoadsFor}
+use Rattle.store_runs.specs.AtWork.{IsAtWork, IsLoadedBut, LoadsFor}
 use Rattle.store_runs.specs.AtWork as at_work
 use Rattle.store_runs.proofs.LeftFree.{left_free}
 use Rattle.store_workers.proofs.LoneWorker.{had, has_of, own_change, seen_of, was_read}
@@ -464,7 +463,7 @@ module _ (boot : ℕ) (entries : List Entry) (told : Told) (core : CoreState) (w
     own = own_change core tx snap tidy is_out has done ends (λ object there. settled object
         (had core tx snap tidy is_out has done ends object there))
 
-    committed_caused : (new : CoreState) (added : ℕ) (answer : Commit Outcome)
+    committed_caused : (new : CoreState) (added : List BlockNo) (answer : Commit Outcome)
         → IsCommit core tx (planned_of done) done answer new
         → IsCaused told number (Some (step.Commit added (committing_of answer)))
     committed_caused new added (commit.Committed place) is = tt
@@ -512,12 +511,12 @@ module _ (boot : ℕ) (entries : List Entry) (told : Told) (workers : List State
 
   committed_so : (job : Job) (tx : ℕ) (done : Outcome) (made : Step) → old.worker.begun.tx ≡ Some tx
       → IsNext old.worker (plan.Done done) → (has : HasCommitted job tx done old made new)
-      → Caused Planning (Some (step.Commit (added_blocks old.core.log (blocks_of done.written))
+      → Caused Planning (Some (step.Commit (blocks_of done.written)
       (committing_of has.answer)))
   committed_so job tx done made tx_is next has at no_io plans =
       committed_caused boot entries told old.core workers number old.worker tidy share is each beyond tx tx_is (no_io refl)
       next.snap (has_of old.worker old.core next.job tx (seen_of next.snap) next.job_is tx_is next.snap_is plans)
-      (out_in tx tx_is) done next.plan.0 new.core (added_blocks old.core.log (blocks_of done.written)) has.answer
+      (out_in tx tx_is) done next.plan.0 new.core (blocks_of done.written) has.answer
       has.core
 
   given_so : (ok : Bool) (io : Fetch) → IsCaused told number (Some (given_step ok io))

@@ -4,7 +4,6 @@ pub mod AtWorkGoes
 pub mod AtWorkMay
 pub mod AtWorkStays
 pub mod AtWorkTold
-pub mod CommitTold
 pub mod FormattedRun
 pub mod GoingBeside
 pub mod GoingCall
@@ -15,6 +14,7 @@ pub mod KeptOff
 pub mod LeftFree
 pub mod MovesOne
 pub mod NoStep
+pub mod NamedBlocks
 pub mod OwnChanges
 pub mod RunTaken
 pub mod StayBeside

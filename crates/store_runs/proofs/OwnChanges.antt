@@ -22,7 +22,7 @@ use Rattle.txn_law.proofs.Beside.{stays_beside}
 use Rattle.txn_law.proofs.Swept.{in_cons}
 use Rattle.store_promise.specs.Aims.{IsAsMuch, IsCovered}
 use Rattle.store_promise.specs.Changes.{KeepsOthers}
-use Rattle.store_promise.specs.Progress.{At, Begun, Planning, Progress, Taken, Wished, aim_keeps_off, aim_of}
+use Rattle.store_promise.specs.Progress.{At, Begun, Planning, Taken, Wished, aim_keeps_off, aim_of}
 use Rattle.store_promise.specs.Progress.{keeps_off, shares, takes}
 use Rattle.store_promise.specs.Waiting.{AreTakenBy}
 use Rattle.store_promise.specs.declared.aims.Aim.{Aim}
@@ -82,7 +82,7 @@ planned_has state j b is =
 
 -- ---- what shares a byte with what is written shares one with what was taken
 
-any_of : {X : Type 0} (test : X → Bool) (xs : List X) (x : X) → Contains xs x → test x ≡ true
+pub any_of : {X : Type 0} (test : X → Bool) (xs : List X) (x : X) → Contains xs x → test x ≡ true
     → list_any test xs ≡ true
 any_of test [] x has is = absurd (let less = has.1 in omega (arith, less))
 any_of test (y ∷ ys) x has is = by (test y) refl (any_of test ys x) (in_cons y x ys has)

@@ -92,12 +92,25 @@ LoadsFor (Waiting place) tx asked knowing core = Unit {0}
 abbrev pub Loads : State → CoreState → Type 0
 Loads worker core = LoadsFor worker.phase worker.begun.tx worker.asked worker.known core
 
+-- it has noted what its transaction has taken, while it goes by its plans
+abbrev pub NotesFor : Phase → State → CoreState → Type 0
+NotesFor Idle worker core = Unit {0}
+NotesFor Called worker core = Unit {0}
+NotesFor Planning worker core = NotesAll worker core
+NotesFor Reading worker core = NotesAll worker core
+NotesFor (Read ok) worker core = NotesAll worker core
+NotesFor (Refused why) worker core = Unit {0}
+NotesFor Again worker core = Unit {0}
+NotesFor (Waiting place) worker core = Unit {0}
+
 -- A core as its one worker has left it: it fits the worker, nobody else has taken or fetches anything of it,
--- and what the worker has taken is in memory.
+-- what the worker has taken is in memory, and noted is what its transaction has taken, address by address, while the
+-- worker goes by its plans.
 pub record IsCoreAtWork (worker : State) (core : CoreState) : Type 0 where
   pub with : GoesWith worker core
   pub alone : IsAlone worker core
   pub loads : Loads worker core
+  pub notes : NotesFor worker.phase worker core
 
 -- A core and one of its workers, beside which others may have some of it: it fits the worker, the worker has of
 -- its call what it has taken, each object of that is in memory while it goes by its plans, and noted is what

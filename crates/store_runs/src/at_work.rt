@@ -24,7 +24,7 @@ ghost use Rattle.txn_law.specs.Leaves.{Leaves, is_fetching, taken_by, without_fe
 ghost use Rattle.txn_law.specs.Tidy.{AreTidy};
 ghost use Rattle.txn_law.specs.Wishes.{IsFetched, IsHeld};
 ghost use Rattle.wal_law.specs.Calls.{Pending};
-ghost use Rattle.wal_law.specs.Log.{IsLawful, added_blocks};
+ghost use Rattle.wal_law.specs.Log.{IsLawful};
 ghost use Rattle.store_promise.specs.LogTold.{with_commit};
 ghost use Rattle.store_promise.specs.OpenSince.{IsOpenSince, IsSoundCore, StandsBeside, TellsOf};
 ghost use Rattle.store_promise.specs.declared.events.Event.TheVariants as event;
@@ -59,7 +59,7 @@ pub fn what_was_fetched_stays()
         → AreLoadedFor old tx fetched → AreLoadedFor new tx (fetched ++ addr ∷ []) }
 {}
 
-/// A commit is told by the blocks that it adds.
+/// A commit is told by the blocks that it changes.
 pub fn a_commit_is_told_by_its_blocks()
     ensures { (position : ℕ) (old new : CoreState) (logging installing : Pending) (tx place : ℕ)
         (plan : Planned)
@@ -67,7 +67,7 @@ pub fn a_commit_is_told_by_its_blocks()
         → position ≤ old.log.start + length old.log.changes
         → log_told position new.log logging installing ≡ with_commit
         (log_told position old.log logging installing)
-        (added_blocks old.log (blocks_of plan.written)) }
+        (blocks_of plan.written) }
 {
     store_promise::a_commit_is_told();
 }

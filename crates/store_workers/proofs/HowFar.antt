@@ -12,7 +12,6 @@ use Rattle.model.specs.Entry.{Entry}
 use Rattle.model.specs.Calls.{is_answered_stable}
 use Rattle.nfs_types.specs.declared.reply.Reply.{Reply}
 use Rattle.wal_law.specs.declared.outcomes.Seq.{Seq}
-use Rattle.wal_law.specs.Log.{added_blocks}
 use Rattle.procs.specs.Outcome.{Outcome}
 use Rattle.procs.specs.declared.next.Plan.TheVariants as plan
 use Rattle.txn.specs.Core.{CoreState}
@@ -212,7 +211,7 @@ module _ (broken : Bool) (job : Job) (tx : ℕ) (seen : Seen) (asked : Asking) (
         ∙ ap (λ a. progress_as phase (Some job) (Some back) (Some seen) a then') asked_is
         ∙ back_is back is phase (Some seen) asked then'
 
-    pub commit_told : (old new : CoreState) (done : Outcome) (added : ℕ) (planned : _) (answer : Commit Outcome)
+    pub commit_told : (old new : CoreState) (done : Outcome) (added : List BlockNo) (planned : _) (answer : Commit Outcome)
         (base : State) → base.work.job ≡ Some job → seen_in base.work.snap ≡ Some seen → base.asked ≡ asked
         → base.known ≡ knows → IsCommit old tx planned done answer new
         → progress_of (after_commit job done.reply answer base)
@@ -377,15 +376,15 @@ module _ (boot : ℕ) (entries : List Entry) (old new : Side) where
   commits : (job : Job) (tx : ℕ) (done : Outcome) (made : Step) → old.worker.begun.tx ≡ Some tx
       → IsNext old.worker (plan.Done done) → old.worker.work.job ≡ Some job
       → (has : HasCommitted job tx done old made new)
-      → IsToldBy Planning (Some (step.Commit (added_blocks old.core.log (blocks_of done.written))
+      → IsToldBy Planning (Some (step.Commit (blocks_of done.written)
       (committing_of has.answer)))
   commits job tx done made tx_is next job_is has phase_is stands =
       ap progress_of has.worker
       ∙ commit_told old.core.log.broken job tx _ old.worker.asked old.worker.known new.worker.known.room
-      old.core new.core done (added_blocks old.core.log (blocks_of done.written)) _ has.answer
+      old.core new.core done (blocks_of done.written) _ has.answer
       (record (with_snap new.worker old.worker) { begun = none_begun }) job_is
       (has.seen ∙ next.snap_is) refl refl has.core
-      ∙ sym (planned (step.Commit (added_blocks old.core.log (blocks_of done.written))
+      ∙ sym (planned (step.Commit (blocks_of done.written)
       (committing_of has.answer))
       job tx _ job_is tx_is next.snap_is)
 

@@ -1,5 +1,5 @@
 -- A worker that isn't kept off has nothing left to be taken again after its steps, where it had nothing before.
-use Rattle.std.proofs.Common.{◌≡◌, sym, ap, subst, true≢false, ℕ, Bool, true, false, Option, Some, None}
+use Rattle.std.proofs.Common.{◌≡◌, sym, ap, subst, true≢false, Bool, true, false, Option, Some, None}
 use Rattle.std.proofs.Common.{List, [], drop}
 use Rattle.disk.specs.declared.block.BlockNo.{BlockNo}
 use Rattle.objects.specs.declared.addr.Addr.{Addr}
@@ -15,7 +15,6 @@ use Rattle.txn.specs.declared.outcomes.Commit.{Commit}
 use Rattle.txn.specs.declared.outcomes.Commit.TheVariants as commit
 use Rattle.txn.specs.declared.outcomes.Want.{Want}
 use Rattle.txn.specs.declared.outcomes.Want.TheVariants as want
-use Rattle.wal_law.specs.Log.{added_blocks}
 use Rattle.wal_law.specs.declared.outcomes.Seq.{Seq}
 use Rattle.store_promise.specs.declared.aims.Aim.{Aim}
 use Rattle.store_promise.specs.declared.answers.Verdict.TheVariants as verdict
@@ -74,7 +73,7 @@ module _ (old new : Side) where
   claims block (claim.Outside back) room left kept = tt
   claims block (claim.NoMemory back) room left kept = tt
 
-  commits : (job : Job) (reply : Reply) (added : ℕ) (answer : Commit Outcome) (base : State)
+  commits : (job : Job) (reply : Reply) (added : List BlockNo) (answer : Commit Outcome) (base : State)
       → base.known.left ≡ []
       → is_kept_off (Some (step.Commit added (committing_of answer))) ≡ false
       → LeavesNothing (after_commit job reply answer base).phase (after_commit job reply answer base).known
@@ -123,7 +122,7 @@ module _ (old new : Side) where
     claimed = λ tx block made tx_is next has at nothing kept. of_state _ has.worker
         (claims block has.answer new.worker.known.room nothing kept);
     committed = λ job tx done made tx_is next none job_is has at nothing kept. of_state _ has.worker
-        (commits job done.reply (added_blocks old.core.log (blocks_of done.written)) has.answer (record (with_snap new.worker old.worker) { begun = none_begun })
+        (commits job done.reply (blocks_of done.written) has.answer (record (with_snap new.worker old.worker) { begun = none_begun })
         nothing kept);
     lacked = λ tx made tx_is none has at nothing kept. of_state _ has.worker tt;
     given = λ ok io made io_is has at nothing kept. of_state _ has.worker (gives ok nothing);

@@ -18,7 +18,7 @@ use Rattle.inode.specs.Snap.{is_claimed, is_seen, same_addr}
 use Rattle.procs.specs.declared.next.Plan.{Plan}
 use Rattle.procs.specs.declared.next.Plan.TheVariants as plan
 use Rattle.inode.specs.declared.snap.Snap.{Snap}
-use Rattle.txn.specs.Claimed.{IsAmongRead, IsClaimedBy, IsClaimedObject, IsOwnObject, IsTakenAlone}
+use Rattle.txn.specs.Claimed.{IsClaimedBy, IsOwnObject, IsTakenAlone}
 use Rattle.txn.specs.Commit.{IsOwn, IsReadBy}
 use Rattle.txn.specs.Core.{CoreState, IsOut}
 use Rattle.txn.specs.Fetch.{Fetch}
@@ -39,7 +39,6 @@ use Rattle.txn_law.proofs.Alone.{alone_is_out}
 use Rattle.txn_law.proofs.Again as again
 use Rattle.objects.proofs.Residents.{same_block}
 use Rattle.txn_law.proofs.Swept.{in_first, in_more}
-use Rattle.wal_law.specs.Log.{added_blocks}
 use Rattle.txn.specs.Group.{blocks_of}
 use Rattle.store_promise.specs.declared.events.Step.{Step}
 use Rattle.store_promise.specs.declared.events.Step.TheVariants as step
@@ -189,7 +188,7 @@ module _ (core : CoreState) (tx : ℕ) (snap : Snap) (tidy : AreTidy core) (out 
     own = own_change core tx snap tidy (alone_is_out core tx out) has done ends
         (λ object there. none object.addr.block)
 
-    committed_well : (new : CoreState) (added : ℕ) (answer : Commit Outcome)
+    committed_well : (new : CoreState) (added : List BlockNo) (answer : Commit Outcome)
         → IsCommit core tx (planned_of done) done answer new
         → is_kept_off (Some (step.Commit added (committing_of answer))) ≡ false
     committed_well new added (commit.Committed place) is = refl
@@ -231,7 +230,7 @@ module _ (old new : Side) (tidy : AreTidy old.core) (alone : IsOutAlone old.work
         | lacked has_lacked ↦ ap (λ m. is_kept_off (Some m)) has_lacked.made_is
         | committed job job_is has_committed ↦ ap (λ m. is_kept_off (Some m)) has_committed.made_is
             ∙ committed_well old.core tx is.snap tidy out has none done planned.0 new.core
-            (added_blocks old.core.log (blocks_of done.written)) has_committed.answer has_committed.core
+            (blocks_of done.written) has_committed.answer has_committed.core
       ]
       of_next plan.NoMemory planned goes = ap (λ m. is_kept_off (Some m)) goes.made_is
 

@@ -169,7 +169,8 @@ module _ (core mid : CoreState) (tx : ℕ) (aims : List Aim) (one : Aim) (hold :
         (All-weaker (IsTakenIn core tx) (IsTakenIn mid tx) still_taken aims notes.taken);
   }
 
-module _ (old new : Side) (beyond : NoneTakenBeyond old.core) (notes : NotesAll old.worker old.core) where
+module _ (old new : Side) (beyond : old.worker.begun.tx ≡ None → NoneTakenBeyond old.core)
+    (notes : NotesAll old.worker old.core) where
   abbrev Notes : Phase → Option Step → Type 0
   Notes phase made = (has_transaction phase ≡ false → old.worker.begun.tx ≡ None) → NotesAll new.worker new.core
 
@@ -273,12 +274,13 @@ module _ (old new : Side) (beyond : NoneTakenBeyond old.core) (notes : NotesAll 
     commits job done base (commit.Spent back change) none aims is =
         same back base.known.taken is.0.transaction is.0.core aims
 
-  begins : (job : Job) (number : ℕ) → HasBegun job old number new → NotesAll new.worker new.core
-  begins job number has = of_state _ has.worker none
+  begins : (job : Job) (number : ℕ) → HasBegun job old number new → old.worker.begun.tx ≡ None
+      → NotesAll new.worker new.core
+  begins job number has no_tx = of_state _ has.worker none
     where
       none : NotesTaken new.core number []
       none = record {
-        noted = λ addr hold is. absurd (beyond addr hold (ap (λ (n : ℕ). taken_by old.core n addr) (sym has.next)
+        noted = λ addr hold is. absurd (beyond no_tx addr hold (ap (λ (n : ℕ). taken_by old.core n addr) (sym has.next)
             ∙ sym (ap (λ (c : CoreState). taken_by c number addr) has.core) ∙ is));
         taken = All-nil (IsTakenIn new.core number);
       }
@@ -316,7 +318,7 @@ module _ (old new : Side) (beyond : NoneTakenBeyond old.core) (notes : NotesAll 
   cases = record {
     idle = λ is none. subst (λ (s : Side). NotesAll s.worker s.core) (sym is) notes;
     reading = λ is none. subst (λ (s : Side). NotesAll s.worker s.core) (sym is) notes;
-    begun = λ job number job_is rules has none. begins job number has;
+    begun = λ job number job_is rules has none. begins job number has (none refl);
     not_begun = λ job why job_is rules no core worker none. as_before core (ap (λ (s : State). s.begun.tx) worker)
         (ap (λ (s : State). s.known.taken) worker);
     replied = λ job job_is rules core worker none. as_before core (ap (λ (s : State). s.begun.tx) worker)

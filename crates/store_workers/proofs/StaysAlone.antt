@@ -43,7 +43,6 @@ use Rattle.txn_law.specs.declared.hold.Hold.{Hold}
 use Rattle.txn_law.proofs.Again as again
 use Rattle.txn_law.proofs.Claims.{all_four, found_by}
 use Rattle.txn_law.proofs.TakenBy.{is_hold_by}
-use Rattle.wal_law.specs.Log.{added_blocks}
 use Rattle.txn.specs.Group.{blocks_of}
 use Rattle.store_promise.specs.declared.answers.Verdict.{Verdict}
 use Rattle.store_promise.specs.declared.answers.Verdict.TheVariants as verdict
@@ -513,7 +512,7 @@ module _ (old new : Side) (tidy : AreTidy old.core) (alone : IsOutAlone old.work
           alone_by made new.worker new.core Idle None (ap (λ (s : State). s.phase) is)
           (ap (λ (s : State). s.begun.io) is ∙ io) now (λ room. tt)
 
-      committed_so : (made : Step) (base : State) (added : ℕ) (answer : Commit Outcome) → base.begun.io ≡ None
+      committed_so : (made : Step) (base : State) (added : List BlockNo) (answer : Commit Outcome) → base.begun.io ≡ None
           → made ≡ step.Commit added (committing_of answer)
           → IsCommit old.core tx (planned_of done) done answer new.core
           → new.worker ≡ after_commit job done.reply answer base → StaysLeft (Some made) new.worker new.core
@@ -565,7 +564,7 @@ module _ (old new : Side) (tidy : AreTidy old.core) (alone : IsOutAlone old.work
           | lacked has_lacked ↦ lacked_so made has_lacked
           | committed job job_is has ↦
               committed_so job done made (record (with_snap new.worker old.worker) { begun = none_begun })
-              (added_blocks old.core.log (blocks_of done.written)) has.answer refl has.made_is
+              (blocks_of done.written) has.answer refl has.made_is
               has.core has.worker
         ]
         of_next plan.NoMemory is_plan goes = lacked_so made goes

@@ -15,7 +15,6 @@ use Rattle.model.specs.Refused.{refused}
 use Rattle.nfs_types.specs.declared.status.Status.TheVariants as status
 use Rattle.nfs_types.specs.declared.reply.Reply.{Reply}
 use Rattle.nfs_types.specs.declared.reply.Reply.TheVariants.{Null}
-use Rattle.wal_law.specs.Log.{added_blocks}
 use Rattle.wal_law.specs.declared.outcomes.Seq.{Seq}
 use Rattle.procs.specs.Outcome.{Outcome}
 use Rattle.procs.specs.declared.next.Plan.TheVariants as plan
@@ -343,7 +342,7 @@ module _ (boot number : ℕ) (entries : List Entry) (old new : Side) (at : IsWor
       verdict.NoMemory None job (told.Planning old_begun) (with_job Planning job job_is) at.boot_is
       (λ t answer has v p. (p, v)) at.entry)
 
-  module _ (job : Job) (tx : ℕ) (done : Outcome) (added : ℕ) (tx_is : old.worker.begun.tx ≡ Some tx)
+  module _ (job : Job) (tx : ℕ) (done : Outcome) (added : List BlockNo) (tx_is : old.worker.begun.tx ≡ Some tx)
       (job_is : old.worker.work.job ≡ Some job) (stands : RunsIn boot old.worker) where
     abbrev planned : State
     planned = record (with_snap new.worker old.worker) { begun = none_begun }
@@ -454,11 +453,11 @@ module _ (boot number : ℕ) (entries : List Entry) (old new : Side) (at : IsWor
   commits : (job : Job) (tx : ℕ) (done : Outcome) (made : Step) → old.worker.begun.tx ≡ Some tx
       → IsNext old.worker (plan.Done done) → old.worker.work.job ≡ Some job
       → (has : HasCommitted job tx done old made new)
-      → LeavesIt Planning (Some (step.Commit (added_blocks old.core.log (blocks_of done.written))
+      → LeavesIt Planning (Some (step.Commit (blocks_of done.written)
       (committing_of has.answer)))
   commits job tx done made tx_is next job_is has phase_is stands =
       so Planning _ _ has.worker (commits_by job tx done
-      (added_blocks old.core.log (blocks_of done.written)) tx_is
+      (blocks_of done.written) tx_is
       job_is stands has.answer has.core)
 
   -- ---- besides

@@ -7,7 +7,6 @@ use Rattle.objects.specs.declared.addr.Addr.{Addr}
 use Rattle.objects.specs.declared.mode.Mode.{Mode}
 use Rattle.nfs_types.specs.declared.reply.Reply.TheVariants.{Null}
 use Rattle.model.specs.Calls.{begins_transaction}
-use Rattle.wal_law.specs.Log.{added_blocks}
 use Rattle.wal_law.specs.declared.outcomes.Seq.{Seq}
 use Rattle.procs.specs.Outcome.{Outcome}
 use Rattle.procs.specs.declared.next.Plan.{Plan}
@@ -72,7 +71,7 @@ pub record Cases (old new : Side) (P : Phase → Option Step → Type 0) : Type 
   pub committed : (job : Job) (tx : ℕ) (done : Outcome) (made : Step) → old.worker.begun.tx ≡ Some tx
       → IsNext old.worker (plan.Done done) → old.worker.known.left ≡ [] → old.worker.work.job ≡ Some job
       → (has : HasCommitted job tx done old made new)
-      → P Planning (Some (step.Commit (added_blocks old.core.log (blocks_of done.written))
+      → P Planning (Some (step.Commit (blocks_of done.written)
       (committing_of has.answer)))
   pub lacked : (tx : ℕ) (made : Step) → old.worker.begun.tx ≡ Some tx → old.worker.known.left ≡ []
       → HasLacked tx old made new

@@ -1,7 +1,7 @@
 -- Workers beside each other: whose the transactions of one core are and whose its fetches, what each has noted of
 -- what it has taken, and what a step of one leaves of the others.
 use Rattle.std.specs.Prelude.{◌≡◌, ◌⊎◌, ℕ, ◌+◌, ◌≤◌, ◌<◌, true, false, Option, Some, List, ◌∷◌, Contains}
-use Rattle.std.specs.Prelude.{All, IfSome, IsSomeAnd, is_some, length, slice_get}
+use Rattle.std.specs.Prelude.{All, IfSome, IsSomeAnd, length, slice_get}
 use Rattle.disk.specs.declared.block.BlockNo.{BlockNo}
 use Rattle.objects.specs.Mode.{covers}
 use Rattle.objects.specs.declared.addr.Addr.{Addr}

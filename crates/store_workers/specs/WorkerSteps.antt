@@ -9,7 +9,7 @@ use Rattle.objects.specs.declared.mode.Mode.{Mode}
 use Rattle.layout.specs.declared.version.FormatVersion.TheVariants.{First}
 use Rattle.nfs_types.specs.declared.reply.Reply.TheVariants.{Null}
 use Rattle.model.specs.Calls.{begins_transaction}
-use Rattle.wal_law.specs.Log.{added_blocks, settled_place}
+use Rattle.wal_law.specs.Log.{settled_place}
 use Rattle.wal_law.specs.declared.outcomes.Seq.{Seq}
 use Rattle.procs.specs.Outcome.{Outcome}
 use Rattle.procs.specs.Planned.{IsPlanFor, IsStepPlan}
@@ -162,7 +162,7 @@ planned_of done = record {
 pub record HasCommitted (job : Job) (tx : ℕ) (done : Outcome) (old : Side) (made : Step) (new : Side) : Type 0
   where
     pub answer : Commit Outcome
-    pub made_is : made ≡ step.Commit (added_blocks old.core.log (blocks_of done.written)) (committing_of answer)
+    pub made_is : made ≡ step.Commit (blocks_of done.written) (committing_of answer)
     pub core : IsCommit old.core tx (planned_of done) done answer new.core
     pub sets : IsSetBy old.core (planned_of done) answer new.core
     pub seen : seen_in new.worker.work.snap ≡ seen_in old.worker.work.snap

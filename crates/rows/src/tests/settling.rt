@@ -14,8 +14,8 @@ use std::test::Fail;
 use store::{Store, Verdict, procedure};
 use worked_messages::NOW;
 
-// The opened store of an image.
-fn opened(alloc: Global, disk: MemDisk) -> Result<Store<MemDisk>, Fail>
+/// The opened store of an image.
+pub fn opened(alloc: Global, disk: MemDisk) -> Result<Store<MemDisk>, Fail>
     ensures { IfOk result (λ store. IsIdle store.core) }
 {
     match store::open(alloc, disk) {
@@ -24,14 +24,14 @@ fn opened(alloc: Global, disk: MemDisk) -> Result<Store<MemDisk>, Fail>
     }
 }
 
-// The stamp of a root that no call has replaced.
-const MADE_BY_FORMAT: Stamp = Stamp {
+/// The stamp of a root that no call has replaced.
+pub const MADE_BY_FORMAT: Stamp = Stamp {
     boot: 0,
     transaction: 0,
 };
 
-// Serves a call of the owner of the root.
-fn call(alloc: Global, store: &mut Store<MemDisk>, call: Call) -> Verdict
+/// Serves a call of the owner of the root.
+pub fn call(alloc: Global, store: &mut Store<MemDisk>, call: Call) -> Verdict
     requires { IsIdle store.old.core }
     ensures { IsIdle store.new.core }
 {

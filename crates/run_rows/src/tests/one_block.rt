@@ -47,7 +47,7 @@ fn an_event_of_a_worker_that_is_not_there(rt: HostRuntime) -> Result<(), Fail> {
     let (_, ran) = run(alloc, formatted(alloc)?, 1, schedule(alloc)?);
     let run = ran?;
     for index in [1, 2, 4, 5, 7, 8] {
-        assert!(rt; run.steps.get(index) == Some(&None), "{index}");
+        assert!(rt; matches!(run.steps.get(index), Some(None)), "{index}");
     }
     assert_eq!(rt; wish(run.steps.get(6)), Some(Wish::Fetch));
     Ok(())

@@ -1,5 +1,5 @@
-//! Two workers change two inodes of one block. Both are committed before the log goes on, so that one group has
-//! them, and a crash leaves both or neither.
+//! Two workers change two inodes of one block. Both are committed before the log goes on, so that one group of one
+//! block has them, and a crash leaves both or neither.
 
 use crate::tests::calls::{hand, install, log, made, mk_dir, root, set_mode, work};
 use crate::tests::left::{formatted, prefix_left};
@@ -13,8 +13,8 @@ const STEPS: usize = 30;
 // More calls than the log and the installer make for the directory.
 const FIRST_CALLS: usize = 12;
 
-// More calls than the log makes for the group: each commit's block, a barrier, the header, a barrier.
-const GROUP_CALLS: usize = 6;
+// The log's calls for the group: its one block, a barrier, the header, a barrier.
+const GROUP_CALLS: usize = 4;
 
 // A directory is made and brought home. Then one worker sets the mode of the root, and another that of the
 // directory, whose inode lies beside the root's: step by step, one after the other.
@@ -34,10 +34,21 @@ fn schedule(alloc: Global) -> Result<Vec<Event>, Fail> {
     Ok(events)
 }
 
+// Whether a crash after so many of the group's calls may leave this: the directory is there, and of the two modes
+// neither before the header is written, either none or both before the barrier behind it, and both from then on.
+fn may_be_left(calls: usize, left: Option<usize>) -> bool {
+    match calls {
+        0..3 => left == Some(1),
+        3 => left == Some(1) || left == Some(3),
+        _ => left == Some(3),
+    }
+}
+
 #[test]
 fn a_crash_leaves_both_or_neither(rt: HostRuntime) -> Result<(), Fail> {
     let alloc = rt.alloc();
-    for count in 0..=GROUP_CALLS {
+    // with one more than there are
+    for count in 0..=GROUP_CALLS + 1 {
         for digits in [[0, 0], [1, 1], [0, 1], [1, 0]] {
             let mut events = schedule(alloc)?;
             log(&mut events, count)?;
@@ -48,12 +59,9 @@ fn a_crash_leaves_both_or_neither(rt: HostRuntime) -> Result<(), Fail> {
             assert_eq!(rt; run.history.len(), 3);
             let left = prefix_left(alloc, disk, &run, &digits)?;
             let answered = run.answers.len();
-            // the directory is there, and of the two modes both or neither
-            assert!(rt; left == Some(1) || left == Some(3), "{count}");
-            assert!(rt; answered == 1 || answered == 3, "{count}");
-            assert!(rt; answered == 1 || left == Some(3), "{count}");
-            assert!(rt; count > 0 || left == Some(1));
-            assert!(rt; count < GROUP_CALLS || left == Some(3));
+            let both = if count < GROUP_CALLS { 1 } else { 3 };
+            assert!(rt; may_be_left(count, left), "{count}");
+            assert!(rt; answered == both, "{count}");
         }
     }
     Ok(())

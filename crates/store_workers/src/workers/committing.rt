@@ -2,10 +2,11 @@
 ghost use Rattle.std.specs.Prelude.{◌≡◌, ℕ, None, true, is_some, IfOk, IfSome};
 
 use super::parts::{Job, Phase, State};
+use groups::blocks_of_objects;
 use nfs_types::{Call, Reply, Status};
 use procs::{Done, is_answered_stable, refused_reply};
 use std::alloc::{AllocError, Global};
-use store_promise::{Cause, Committing, Entry, Step, Verdict};
+use store_promise::{Cause, Changed, Committing, Entry, Step, Verdict};
 use txn::{Change, Commit, Core, Seq, Tx};
 
 impl State {
@@ -37,7 +38,7 @@ impl State {
             return self.lack(core, tx);
         };
         done.finished();
-        let blocks = core.added_blocks(done.written());
+        let blocks = Changed::of(&blocks_of_objects(done.written()));
         let answer = core.commit(alloc, tx, done);
         let committing = self.ended(told, kept, answer);
         Step::Commit(blocks, committing)

@@ -71,7 +71,8 @@ const ROWS: [Rows; 14] = [
                 Ended::Place(Seq(2)),
             ),
             Deed::Commits(&READ_8, INODES, &[(AT_8, 7)], &[(AT_8, 5)], Ended::Foreign),
-            Deed::Logs(5),
+            // both are in one group of one block
+            Deed::Logs(4),
             Deed::Stable(2, true),
             Deed::Stable(3, false),
         ],

@@ -112,8 +112,8 @@ returns-then-is_some-clause-nearer g c =
     log.same _ _ _ step c.read.new.self.state c.step.result (side c.step.new.self.state c.step.new.core) has
     c.step.ensures.step
 
-pub returns-else-is_some-clause-alone : goal.returns-else-is_some-clause-alone
-returns-else-is_some-clause-alone g c =
+pub returns-clause-alone : goal.returns-clause-alone
+returns-clause-alone g c =
     let old = side c.args.worker.now.state c.args.store.now.core in
     let mid = side c.step-made.new.self.state c.step-made.new.core in
     let made = c.step-made.result in
@@ -135,8 +135,8 @@ returns-else-is_some-clause-alone g c =
     subst (λ (w : Worker). IsAlone w.state core) (sym same.0)
     (goes_alone old made mid core r (sym c.if-is_full.ensures))
 
-pub returns-else-is_some-clause-nearer : goal.returns-else-is_some-clause-nearer
-returns-else-is_some-clause-nearer g c =
+pub returns-clause-nearer : goal.returns-clause-nearer
+returns-clause-nearer g c =
     let old = side c.args.worker.now.state c.args.store.now.core in
     let mid = side c.step-made.new.self.state c.step-made.new.core in
     let made = c.step-made.result in
@@ -310,8 +310,8 @@ returns-then-is_some-clause-going g c = λ o keeps calling.
     c.step.ensures.stays c.lawful-then-is_some.ensures.log c.lawful-then-is_some.ensures.tidy
     (goes_told c.step.new.self c.step.new.core (c.step.ensures.fits (c.read.ensures.fits core fits))))
 
-pub returns-else-is_some-clause-going : goal.returns-else-is_some-clause-going
-returns-else-is_some-clause-going g c = λ o keeps calling.
+pub returns-clause-going : goal.returns-clause-going
+returns-clause-going g c = λ o keeps calling.
     let device = g.D.CrashDisk.device in
     let was = c.args.store.now in
     let old = side c.args.worker.now.state was.core in

@@ -8,7 +8,7 @@ use Rattle.model.specs.Tree.{Tree}
 use Rattle.txn_law.specs.Core.{CoreState}
 use Rattle.wal_law.specs.declared.change.LogChange.{LogChange}
 use Rattle.wal_law.specs.Installer.{next_home, passed_over}
-use Rattle.wal_law.specs.Log.{Log, installed_place, tail_count}
+use Rattle.wal_law.specs.Log.{Log, changed_blocks, installed_place, tail_blocks}
 use Rattle.store_promise.specs.LogTold.{empty_log, idle}
 use Rattle.layout.specs.Homes.{homes_of}
 use Rattle.txn_law.specs.Window.{Footprint, after_commits, opening}
@@ -79,8 +79,9 @@ module _ (before opened : Device) (base : Image) (core : CoreState) (tree : Tree
   appended : log.start + length log.changes - position ≡ 0
   appended = let a = position_is in let b = long in omega (arith, a, b)
 
-  tail : tail_count log ≡ 0
-  tail = let b = long in omega (arith, b)
+  tail : tail_blocks log ≡ []
+  tail = ap (λ (xs : List LogChange). changed_blocks (drop (log.logged + log.taken) xs)) new.changes
+      ∙ ap changed_blocks (drop_none (log.logged + log.taken))
 
   tail_first : first_of (drop (log.logged + log.taken) log.changes) ≡ 0
   tail_first = ap (λ (xs : List LogChange). first_of (drop (log.logged + log.taken) xs)) new.changes

@@ -5,10 +5,10 @@ use Rattle.store_promise.proofs.steps_made.a_call_changes_no_more_than_it_may.Go
 
 pub returns : goal.returns
 returns c =
-    λ before later tree first workers index worker blocks events t job begun answer is_event less is_step
+    λ before later tree first workers index worker events t job begun blocks answer is_event less is_step
     planning more kept.
     let step = planned_step kept.setting workers events t.steps kept.taken index worker job begun
     _ is_event less
     is_step planning in
     let few = (commit_is kept.setting (told_before events t.steps index) worker begun begun.left blocks answer
-    step).0 in omega (arith, few, more)
+    step).0.few in omega (arith, few, more)

@@ -4,6 +4,7 @@ use Rattle.store_promise.specs.declared.events.Step.{Step}
 use Rattle.store_promise.specs.declared.events.Step.TheVariants as step
 use Rattle.store_promise.specs.LogTold.{out}
 use Rattle.store_promise.specs.Schedule.{IsStepOfInstIo, IsStepOfLogIo}
+use Rattle.store_promise.proofs.RulesAre.{own_step}
 use Rattle.store_promise.proofs.steps_made.a_call_that_is_out_is_made.Goals as goal
 
 -- no other step does it
@@ -53,10 +54,10 @@ pub returns-clause-logging : goal.returns-clause-logging
 returns-clause-logging c =
     λ before later tree first workers index events t call made is_event is_made is_out other kept.
     by_log call made (subst (λ at. IsStepOfLogIo at made) is_out
-    ((kept.taken.each index _ made is_event is_made).own tt)) other
+    (own_step kept.setting workers _ _ _ (kept.taken.each index _ made is_event is_made) tt)) other
 
 pub returns-clause-installing : goal.returns-clause-installing
 returns-clause-installing c = λ before later tree first workers index events t call made is_event is_made is_out
     other kept.
     by_installer call made (subst (λ at. IsStepOfInstIo at made) is_out
-    ((kept.taken.each index _ made is_event is_made).own tt)) other
+    (own_step kept.setting workers _ _ _ (kept.taken.each index _ made is_event is_made) tt)) other

@@ -6,7 +6,7 @@ use Rattle.store_promise.proofs.steps_made.a_full_log_is_full.Goals as goal
 
 pub returns : goal.returns
 returns c =
-    λ before later tree first workers index worker blocks events t job begun is_event less is_step planning
+    λ before later tree first workers index worker events t job begun blocks is_event less is_step planning
     room kept.
     let step = planned_step kept.setting workers events t.steps kept.taken index worker job begun
     _ is_event less

@@ -3,6 +3,7 @@ use Rattle.store_promise.specs.Progress.{At, Begun, Job, Stage, Called, Planning
 use Rattle.store_promise.specs.Progress.{Refused, Again, Taken}
 use Rattle.store_promise.specs.Progress.{Waiting}
 use Rattle.store_promise.specs.Schedule.{IsStepOfRead, IsStepOfWork, Setting, Told, told_before}
+use Rattle.store_promise.proofs.RulesAre.{own_step}
 use Rattle.store_promise.proofs.steps_made.a_worker_passes_over_no_event.Goals as goal
 
 works : (o : Setting) (told : Told) (worker : ℕ) (job : Job) (stage : Stage)
@@ -22,9 +23,10 @@ returns-clause-work c =
     let told = told_before events t.steps index in
     works kept.setting told worker job stage other
     (subst (λ progress. IsStepOfWork kept.setting told worker progress None) is
-    ((kept.taken.each index _ None is_event is_made).own less))
+    (own_step kept.setting workers _ _ _ (kept.taken.each index _ None is_event is_made) less))
 
 pub returns-clause-reading : goal.returns-clause-reading
 returns-clause-reading c = λ before later tree first workers index worker events t job begun addr is_event less
     is_made is kept.
-    subst (λ progress. IsStepOfRead progress None) is ((kept.taken.each index _ None is_event is_made).own less)
+    subst (λ progress. IsStepOfRead progress None) is
+    (own_step kept.setting workers _ _ _ (kept.taken.each index _ None is_event is_made) less)

@@ -7,6 +7,7 @@ use Rattle.store_promise.specs.declared.events.Step.TheVariants as step
 use Rattle.store_promise.specs.LogTold.{CallTold, idle, out, was_made, LogTold, may_install_told}
 use Rattle.store_promise.specs.NextCall.{IsNextOfInstalling, taken_home}
 use Rattle.store_promise.specs.Schedule.{IsNextOfInstaller, IsStepOfInstaller, Setting, told_before}
+use Rattle.store_promise.proofs.RulesAre.{own_step}
 use Rattle.store_promise.proofs.steps_made.the_installer_comes_to_an_end.Goals as goal
 
 next : (may : Bool) (IsNext : IoCall → Type 0) (asked : IoCall)
@@ -33,4 +34,4 @@ returns c = λ before later tree first workers index events t block is_event is_
     let told = told_before events t.steps index in
     none kept.setting.geometry.blocks told.log block other all
     (takes kept.setting told.log told.log.inst_call (Write block)
-    ((kept.taken.each index _ _ is_event is_made).own tt))
+    (own_step kept.setting workers _ _ _ (kept.taken.each index _ _ is_event is_made) tt))

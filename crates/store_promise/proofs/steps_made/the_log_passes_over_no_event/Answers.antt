@@ -5,6 +5,7 @@ use Rattle.store_promise.specs.LogTold.{CallTold, idle, out, was_made, LogTold, 
 use Rattle.store_promise.specs.NextCall.{IsNextOfInstalling, next_log_call}
 use Rattle.store_promise.specs.Schedule.{IsNextOfInstaller, IsNextOfLog, IsStepOfInstaller, IsStepOfLog}
 use Rattle.store_promise.specs.Schedule.{Setting, told_before}
+use Rattle.store_promise.proofs.RulesAre.{own_step}
 use Rattle.store_promise.proofs.steps_made.the_log_passes_over_no_event.Goals as goal
 
 next : (may : Bool) (call : IoCall) → may ≡ true → IsNextOfLog may call None → ⊥
@@ -32,10 +33,10 @@ pub returns-clause-logging : goal.returns-clause-logging
 returns-clause-logging c = λ before later tree first workers index events t is_event is_made may free kept.
     let told = told_before events t.steps index in
     passes kept.setting told.log told.log.log_call free may
-    ((kept.taken.each index _ None is_event is_made).own tt)
+    (own_step kept.setting workers _ _ _ (kept.taken.each index _ None is_event is_made) tt)
 
 pub returns-clause-installing : goal.returns-clause-installing
 returns-clause-installing c = λ before later tree first workers index events t is_event is_made may free kept.
     let told = told_before events t.steps index in
     passes_home kept.setting told.log told.log.inst_call free may
-    ((kept.taken.each index _ None is_event is_made).own tt)
+    (own_step kept.setting workers _ _ _ (kept.taken.each index _ None is_event is_made) tt)

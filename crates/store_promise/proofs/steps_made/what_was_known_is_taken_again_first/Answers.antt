@@ -29,7 +29,7 @@ returns-clause-claimed c =
 
 pub returns-clause-commit : goal.returns-clause-commit
 returns-clause-commit c =
-    λ before later tree first workers index worker blocks events t job begun next behind answer is_event less
+    λ before later tree first workers index worker events t job begun next behind blocks answer is_event less
     is_step planning some kept.
     again kept.setting (told_before events t.steps index) worker begun next behind _ some
     (planned_step kept.setting workers events t.steps kept.taken index worker job begun _ is_event less is_step

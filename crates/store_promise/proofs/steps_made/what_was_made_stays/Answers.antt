@@ -1,6 +1,7 @@
 -- No step goes by the files.
 use Rattle.std.proofs.Common.{ℕ, true, false, List, [], ◌∷◌, Option, Some, None}
 use Rattle.disk.specs.Crash.{Image}
+use Rattle.disk.specs.declared.block.BlockNo.{BlockNo}
 use Rattle.nfs_types.specs.declared.call.Call.{Call}
 use Rattle.store_promise.specs.declared.aims.Aim.{Aim}
 use Rattle.store_promise.specs.declared.events.Committing.{Committing}
@@ -17,19 +18,20 @@ use Rattle.store_promise.specs.Progress.{Stage, Waiting}
 use Rattle.store_promise.specs.Schedule.{HasNumbers, IsCommitting, IsStepBeside, IsStepByPlan, IsStepOf}
 use Rattle.store_promise.specs.Schedule.{IsStepOfInstaller, IsStepOfLog, IsStepOfWork}
 use Rattle.store_promise.specs.Schedule.{IsStepWith, Setting, Told}
+use Rattle.store_promise.proofs.RulesAre.{own_step, to_run_rule}
 use Rattle.store_promise.proofs.steps_made.what_was_made_stays.Goals as goal
 
 module _ (o : Setting) (told : Told) (later : ℕ → Image) where
   abbrev with_later : Setting
   with_later = record o { blocks = later }
 
-  numbers : (blocks : ℕ) → HasNumbers o told.log blocks → HasNumbers with_later told.log blocks
+  numbers : (blocks : List BlockNo) → HasNumbers o told.log blocks → HasNumbers with_later told.log blocks
   numbers blocks has = record { place = has.place; positions = has.positions }
 
-  numbers_then : (blocks : ℕ) → HasNumbers with_later told.log blocks → HasNumbers o told.log blocks
+  numbers_then : (blocks : List BlockNo) → HasNumbers with_later told.log blocks → HasNumbers o told.log blocks
   numbers_then blocks has = record { place = has.place; positions = has.positions }
 
-  commits : (blocks : ℕ) (answer : Committing) → IsCommitting o told.log blocks answer
+  commits : (blocks : List BlockNo) (answer : Committing) → IsCommitting o told.log blocks answer
       → IsCommitting with_later told.log blocks answer
   commits blocks (committing.Committed place) is = (is.0, is.1, numbers blocks is.2, is.3)
   commits blocks committing.Broken is = is
@@ -122,6 +124,7 @@ module _ (o : Setting) (told : Told) (later : ℕ → Image) where
 
 pub returns : goal.returns
 returns c = λ o workers told e made later same taken. record {
-  own = λ one. of_event o told later e made (taken.own one);
+  own = λ one. to_run_rule (record o { blocks = later }) told e made (of_event o told later e made
+      (own_step o workers told e made taken one));
   others = taken.others;
 }

@@ -15,6 +15,7 @@ use Rattle.store_promise.specs.Progress.{progressed}
 use Rattle.store_promise.specs.Schedule.{IsStepOfWork, Schedule, told_before, progress_before}
 use Rattle.store_promise.proofs.StableAnswers.{one_more}
 use Rattle.store_promise.proofs.Told.{own_next}
+use Rattle.store_promise.proofs.RulesAre.{own_step}
 use Rattle.store_promise.proofs.steps_made.who_has_taken_more_above_does_not_wait.Goals as goal
 
 -- how far a worker is after its step, where it was so far before
@@ -51,7 +52,8 @@ returns-clause-ends c =
     λ before later tree first workers index worker events t job begun wished made is_event less is_step planning
     differs kept.
     differs (subst (λ p. IsStepOfWork kept.setting (told_before events t.steps index) worker p (Some made)) planning
-    ((kept.taken.each index (event.Work worker) (Some made) is_event is_step).own less))
+    (own_step kept.setting workers _ _ _ (kept.taken.each index (event.Work worker) (Some made) is_event is_step)
+    less))
 
 pub returns-clause-known : goal.returns-clause-known
 returns-clause-known c = λ events steps index worker job begun wished is_event is_step planning.

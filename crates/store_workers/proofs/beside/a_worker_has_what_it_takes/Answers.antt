@@ -7,4 +7,5 @@ returns-clause-plans c = λ old new made keeps beyond left goes plans.
     plans_stay old new keeps beyond left made goes plans
 
 pub returns-clause-notes : goal.returns-clause-notes
-returns-clause-notes c = λ old new made beyond notes tx goes. notes_still old new beyond notes made tx goes
+returns-clause-notes c = λ old new made beyond notes tx goes.
+    notes_still old new (λ none. beyond) notes made tx goes

@@ -22,6 +22,7 @@ use Rattle.store_workers.specs.Beside.{LeavesOthers}
 use Rattle.store_workers.specs.Stages.{progress_of}
 use Rattle.store_workers.specs.Worker.{GoesWith}
 use Rattle.store_workers.specs.WorkerSteps.{KeepsHomeOf, KeepsReadsOf, side}
+use Rattle.store_workers.specs.declared.workers.parts.Phase.TheVariants.{Planning}
 use Rattle.store_workers.specs.declared.workers.parts.State.{State}
 use Rattle.store_runs.proofs.AtWorkGoes.{none_left}
 use Rattle.store_runs.proofs.AtWorkMay.{step_may_by}
@@ -81,7 +82,8 @@ returns-clause-goes c =
     (let past = past_end workers other none in let count = going.so_far.count in omega (arith, past, count))
     (length t.steps)) left_of own_out made worked.goes so.at_work.with.sound.fetch so.at_work.plans in
     let may = step_may_by o told_so number going.base store (fetches_of worker) boot b.tree going.last entries
-    with_own going.run.told run.inodes worker step_to one_geometry own_out left_of made worked.goes so.at_work.plans
+    with_own going.run.told run.inodes worker step_to one_geometry own_out left_of
+    (λ (planning : worker.phase ≡ Planning). so.at_work.notes) made worked.goes so.at_work.plans
     so.at_work.loads so.stands caused in
     let told_then = c.a_workers_step_is_told.ensures o told_so number store going.run.told
     worker step_to run.since.over.lawful kept.lawful run.position made worked.goes in
