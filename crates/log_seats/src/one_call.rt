@@ -24,14 +24,15 @@ pub fn make_one<C: Change, D: CrashDisk>(side: Side, core: &mut Core<C>, disk: &
     ensures model { D.keeps_model disk.new → D.keeps_model disk.old }
 {
     let mut caller = Caller::new();
-    let is_out = caller.step(side, core).is_some();
-    core.lawful();
-    if is_out {
-        caller.make(disk);
-        caller.step(side, core);
+    if caller.step(side, core).is_none() {
+        caller.end(side, core);
+        return false;
     }
+    core.lawful();
+    caller.make(disk);
+    caller.step(side, core);
     caller.end(side, core);
-    is_out
+    true
 }
 
 /// The logger's next, where there is one.
