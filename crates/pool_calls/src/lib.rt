@@ -3,17 +3,17 @@
 #![tactic(auto)]
 
 mod counter;
+mod due;
 mod gate;
 mod handed;
 mod seat;
-mod shown;
 mod steps;
 mod turn;
 
 pub use counter::{Counter, Whole};
+pub use due::Shown;
 pub use gate::{Gate, NoGate, Point};
 pub use handed::HandedOut;
 pub use seat::IoSeat;
-pub use shown::Shown;
 pub use steps::{give_up, make_call, step_calls};
 pub use turn::Turn;

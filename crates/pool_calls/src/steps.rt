@@ -5,7 +5,7 @@ ghost use Rattle.pool_calls.specs.Numbers.{IsTied, MakesCall, due, number_of, nu
 ghost use Rattle.pool_calls.specs.Sides.{HasTurned};
 ghost use Rattle.wal.specs.Sides.{may_call};
 
-use crate::shown::{point, shown};
+use crate::due::{due_of, point};
 use crate::{Counter, Gate, HandedOut, IoSeat, Shown, Turn, Whole};
 use disk::{Failed, Port, Side};
 use http_server::Log;
@@ -86,7 +86,7 @@ pub fn make_call<G: Whole, P: Port, T: Gate>(
         taken,
         number,
     } = seat;
-    let Some(shown) = shown(caller) else {
+    let Some(shown) = due_of(caller) else {
         return false;
     };
     gate.pass(point(side, shown.call));

@@ -16,7 +16,7 @@ pub struct Shown {
 }
 
 // The call that is out, where it wasn't made.
-pub(crate) fn shown(caller: &Caller) -> Option<Shown>
+pub(crate) fn due_of(caller: &Caller) -> Option<Shown>
     ensures { IsShown caller.now.io caller.now.made result }
 {
     caller.due()?;
