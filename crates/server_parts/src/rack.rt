@@ -1,8 +1,8 @@
 //! The keys of the seats that have no call.
-ghost use Rattle.std.specs.Prelude.{◌≡◌, ◌≢◌, ◌↔◌, ◌⊎◌, ◌+◌, ◌-◌, ◌^◌, ◌<◌, ◌≤◌, ◌++◌, ◌∷◌, [], ℕ, All, AllPairs, Contains, min, length, IsTrue, IfOk, IfSome, IfNone};
+ghost use Rattle.std.specs.Prelude.{◌≡◌, ◌≢◌, ◌↔◌, ◌⊎◌, ◌+◌, ◌-◌, ◌^◌, ◌<◌, ◌≤◌, ◌++◌, ◌∷◌, [], ℕ, min, length, IsTrue, IfOk, IfSome, IfNone};
 ghost use Rattle.std.specs.Vec.{vec_capacity};
 ghost use Rattle.std.specs.List.{range_with_len};
-ghost use Rattle.server_parts.specs.Keys.{numbers_of};
+ghost use Rattle.server_parts.specs.Keys.{AreApart, AreOfSeats, HasKeyOf, numbers_of};
 
 use std::alloc::{AllocError, Global};
 
@@ -29,8 +29,8 @@ pub struct Rack {
     // How many seats there are in all.
     count: usize,
     waiting: usize,
-    pub ghost once: { AllPairs (λ number other. number ≢ other) (numbers_of keys.items) },
-    pub ghost below: { All (λ number. number < count) (numbers_of keys.items) },
+    pub ghost once: { AreApart keys.items },
+    pub ghost below: { AreOfSeats count keys.items },
     pub ghost room: { count ≤ vec_capacity keys },
 }
 
@@ -93,9 +93,9 @@ impl Rack {
     /// Gives a key back. One of a rack with other seats is let go.
     pub fn give(&mut self, key: SeatKey)
         ensures given { key.number < self.old.count
-            → (Contains (numbers_of self.old.keys.items) key.number → ⊥)
+            → (HasKeyOf self.old.keys.items key.number → ⊥)
             → self.new.keys.items ≡ self.old.keys.items ++ key ∷ [] }
-        ensures kept { (self.old.count ≤ key.number) ⊎ Contains (numbers_of self.old.keys.items) key.number
+        ensures kept { (self.old.count ≤ key.number) ⊎ HasKeyOf self.old.keys.items key.number
             → self.new.keys.items ≡ self.old.keys.items }
         ensures waiting { self.new.waiting ≡ self.old.waiting }
         ensures count { self.new.count ≡ self.old.count }
@@ -108,21 +108,16 @@ impl Rack {
 
     // Whether the key of the seat with this number is there.
     fn has(&self, number: usize) -> bool
-        ensures { IsTrue result ↔ Contains (numbers_of self.now.keys.items) number }
+        ensures { IsTrue result ↔ HasKeyOf self.now.keys.items number }
     {
-        for key in &self.keys {
-            if key.number == number {
-                return true;
-            }
-        }
-        false
+        self.keys.as_slice().iter().any(|key| key.number == number)
     }
 
     /// Whether the key of each seat is there.
     pub fn is_whole(&self) -> bool
         ensures length { IsTrue result ↔ (length self.now.keys.items ≡ self.now.count) }
         ensures all { IsTrue result → (number : ℕ) → number < self.now.count
-            → Contains (numbers_of self.now.keys.items) number }
+            → HasKeyOf self.now.keys.items number }
     {
         self.keys.len() == self.count
     }
