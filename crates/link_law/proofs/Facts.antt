@@ -1,10 +1,10 @@
 -- What is known of the inodes of a table, and where their parents lead.
-use Rattle.std.proofs.Common.{◌≡◌, ℕ, ◌+◌, ◌%◌, ◌/◌, ◌<◌, ◌≤◌, inl, inr, sym, ap, ◌∙◌, refl, subst, Bool, true, false, cond, ◌&&◌, not}
+use Rattle.std.proofs.Common.{◌≡◌, ℕ, ◌+◌, ◌%◌, ◌/◌, ◌<◌, ◌≤◌, inl, inr, sym, ap, ◌∙◌, refl, true, cond, ◌&&◌, not}
 use Rattle.std.proofs.Common.{List, length, take, drop, get_or, min, nat_eq, nat_le, nat_lt, is_none, Option, Some, None}
 use Rattle.std.proofs.Common.{Result, Ok, Err, arith}
 use Rattle.std.proofs.lemmas.Bool.{cases_lt, le-ltb, lt-ltb}
 use Rattle.std.proofs.lemmas.Bool.Decides.{nat_tests}
-use Rattle.limits.specs.declared.TheConstants.{BLOCK_BYTES, DIRECT_INDEXES, INODES_PER_BLOCK, INODE_BYTES}
+use Rattle.limits.specs.declared.TheConstants.{BLOCK_BYTES, DIRECT_INDEXES, INODE_BYTES}
 use Rattle.limits.specs.declared.TheConstants.{LARGEST_DIRECTORY, MODE_BITS, MOST_LINKS}
 use Rattle.disk.specs.Crash.{Image}
 use Rattle.nfs_types.specs.Fits.{AreBytes}
@@ -19,13 +19,13 @@ use Rattle.layout.specs.declared.inode.InodeKind.TheVariants.{Directory, Link, R
 use Rattle.layout.specs.Decode.{body_of, file_of, inode_at}
 use Rattle.layout.specs.InodeForm.{SoundInode, is_sound_directory, is_sound_file, is_sound_inode, is_sound_kind}
 use Rattle.layout.specs.InodeForm.{is_sound_link, is_sound_map, is_sound_regular, is_time, names_first}
-use Rattle.layout.specs.Parts.{content_in, parts_of, table_of}
+use Rattle.layout.specs.Parts.{content_in, table_of}
 use Rattle.layout.specs.Places.{inode_block, inode_offset}
 use Rattle.layout.proofs.Fits.{part-length, read_fits}
 use Rattle.layout.proofs.WrittenBytes.{dropped, taken}
 use Rattle.inode.proofs.AllTests.{all_five, all_seven, all_three, all_two, is_less, no_more}
 use Rattle.tallies.specs.Led.{led}
-use Rattle.image_law.specs.TreeOf.{all_named, tree_of}
+use Rattle.image_law.specs.TreeOf.{tree_of}
 use Rattle.image_law.specs.Whole.{named}
 use Rattle.image_law.proofs.Made.{files_are}
 use Rattle.image_law.proofs.Reached.{as_led}

@@ -1,11 +1,10 @@
 -- What is whole is linked.
 use Rattle.std.proofs.Common.{◌≡◌, ℕ, ◌+◌, ◌<◌, ◌≤◌, inl, inr, sym, ap, ◌∙◌, refl, subst, true, false, List, length, get_or}
-use Rattle.std.proofs.Common.{Option, Some, None, Result, Ok, Err, min, arith}
+use Rattle.std.proofs.Common.{Option, Some, None, Ok, min, arith}
 use Rattle.std.proofs.lemmas.Bool.{cases_lt}
 use Rattle.limits.specs.declared.TheConstants.{BLOCK_BYTES, MOST_LINKS, ROOT}
 use Rattle.disk.specs.Crash.{Image}
 use Rattle.nfs_types.specs.Fits.{AreBytes}
-use Rattle.layout.specs.declared.fault.LayoutFault.{LayoutFault}
 use Rattle.layout.specs.declared.geometry.Geometry.{Geometry}
 use Rattle.layout.specs.declared.inode.Inode.{Inode}
 use Rattle.layout.specs.declared.inode.InodeKind.{InodeKind}
@@ -17,11 +16,11 @@ use Rattle.tallies.specs.Tally.{times}
 use Rattle.image_law.specs.TreeOf.{named_of}
 use Rattle.image_law.specs.Whole.{IsWhole, named}
 use Rattle.image_links.specs.declared.links.Links.{Links}
-use Rattle.image_links.specs.Linked.{AreLinked, AreReached, IsLinked, IsLinkedDirectory, IsLinkedFile, IsRoot}
+use Rattle.image_links.specs.Linked.{AreLinked, IsLinked, IsLinkedDirectory, IsLinkedFile, IsRoot}
 use Rattle.image_links.specs.Linked.{is_directory_in, is_directory_kind}
 use Rattle.image_links.proofs.Parents.{up}
 use Rattle.link_law.specs.Counted.{IsCounted}
-use Rattle.link_law.proofs.Facts.{ancestor_is, entry, few_links, names_at, parent_within, same_option, stays}
+use Rattle.link_law.proofs.Facts.{ancestor_is, entry, few_links, names_at, parent_within, same_option}
 
 is_kind : (kind : InodeKind) → is_directory_kind kind ≡ true → kind ≡ Directory
 is_kind Directory e = refl

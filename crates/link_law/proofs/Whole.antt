@@ -1,11 +1,10 @@
 -- What is linked is whole.
-use Rattle.std.proofs.Common.{◌≡◌, ◌≢◌, ℕ, ◌+◌, ◌<◌, ◌≤◌, inl, inr, sym, ap, ◌∙◌, refl, subst, true, false, List, length, get_or}
+use Rattle.std.proofs.Common.{◌≡◌, ℕ, ◌+◌, ◌<◌, ◌≤◌, inl, inr, sym, ap, ◌∙◌, refl, subst, true, List, length, get_or}
 use Rattle.std.proofs.Common.{Option, Some, None, Result, Ok, Err, count_by, min, arith}
 use Rattle.std.proofs.lemmas.Bool.{cases_lt}
 use Rattle.limits.specs.declared.TheConstants.{BLOCK_BYTES, MOST_LINKS, ROOT}
 use Rattle.disk.specs.Crash.{Image}
 use Rattle.nfs_types.specs.Fits.{AreBytes}
-use Rattle.nfs_types.specs.declared.handle.Stamp.{Stamp}
 use Rattle.model.specs.Names.{ancestor, is_directory_at}
 use Rattle.model.specs.Node.{DirectoryEntry}
 use Rattle.model.specs.Tree.{node_at}
@@ -18,7 +17,7 @@ use Rattle.layout.specs.Decode.{IsFile, named_in}
 use Rattle.layout.specs.Owners.{is_used}
 use Rattle.layout.specs.Parts.{content_in, parts_of, table_of}
 use Rattle.tallies.specs.Tally.{times}
-use Rattle.image_law.specs.TreeOf.{HasNames, all_named, named_numbers, named_of, tree_of}
+use Rattle.image_law.specs.TreeOf.{HasNames, named_numbers, named_of, tree_of}
 use Rattle.image_law.specs.Whole as whole
 use Rattle.image_law.specs.Whole.{IsWhole, named}
 use Rattle.image_links.specs.declared.links.Links.{Links}
