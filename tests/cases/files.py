@@ -6,40 +6,42 @@ import stat
 
 from cases import wire
 from cases.running import AS_NOBODY, BLOCKS, FORMATTED, INODES, MADE, NEW_MODE, block_0, contents, expect
-from cases.running import is_so, same
+from cases.running import is_so, same, told
 
-NOTHING, REFUSED = b"", b"nfsd: file\n"
+NOTHING = b""
+# Why a file can't be had.
+MISSING, NOT_ALLOWED, NO_FILE = "there is no such file", "permission denied", "it is neither a file nor a block device"
 
 
-def assert_no_file(place, name, commands=("once", "format")):
+def assert_no_file(place, name, why, commands=("once", "format")):
     for command in commands:
         more = ["--time", "1"] if command == "once" else []
-        expect(f"{command} of {name!r}", place.run([command, name, *more]), 1, NOTHING, REFUSED)
+        expect(f"{command} of {name!r}", place.run([command, name, *more]), 1, NOTHING, told("file", name, why))
 
 
 def test_a_folder_is_no_image(place):
     os.mkdir(place.path("folder"))
-    assert_no_file(place, "folder")
+    assert_no_file(place, "folder", "it is a directory")
     same("what lies in the folder", os.listdir(place.path("folder")), [])
 
 
 def test_a_file_below_no_folder_cannot_be_had(place):
-    assert_no_file(place, "none/image")
-    assert_no_file(place, "")
+    assert_no_file(place, "none/image", MISSING)
+    assert_no_file(place, "", MISSING)
     with open(place.path("plain"), "wb"):
-        assert_no_file(place, "plain/image")
+        assert_no_file(place, "plain/image", "a part of its path is no directory")
     same("what was left", os.listdir(place.folder), ["plain"])
 
 
 def test_once_makes_no_file(place):
-    assert_no_file(place, "image", ["once"])
+    assert_no_file(place, "image", MISSING, ["once"])
     same("what was left", os.listdir(place.folder), [])
 
 
 def test_a_file_without_a_length_is_no_image_to_be(place):
     os.mkfifo(place.path("pipe"))
-    assert_no_file(place, "pipe", ["format"])
-    assert_no_file(place, "/dev/null", ["format"])
+    assert_no_file(place, "pipe", NO_FILE, ["format"])
+    assert_no_file(place, "/dev/null", NO_FILE, ["format"])
 
 
 def test_a_file_that_may_not_be_written_is_left(place):
@@ -51,7 +53,7 @@ def test_a_file_that_may_not_be_written_is_left(place):
         os.chmod(image, mode)
         for arguments in ["once", image, "--time", "1"], ["format", image, "--blocks", "2048"]:
             ran = place.run(arguments, **AS_NOBODY)
-            expect(f"{arguments[0]} of a file of mode {mode:o}", ran, 1, NOTHING, REFUSED)
+            expect(f"{arguments[0]} of a file of mode {mode:o}", ran, 1, NOTHING, told("file", image, NOT_ALLOWED))
         os.chmod(image, 0o600)
         is_so(f"the file of mode {mode:o} was changed", contents(image) == before)
 
@@ -59,7 +61,7 @@ def test_a_file_that_may_not_be_written_is_left(place):
 def test_a_folder_that_may_not_be_written_gets_no_image(place):
     os.mkdir(place.path("closed"), 0o555)
     ran = place.run(["format", "closed/image"], **AS_NOBODY)
-    expect("format", ran, 1, NOTHING, REFUSED)
+    expect("format", ran, 1, NOTHING, told("file", "closed/image", NOT_ALLOWED))
     same("what lies in the folder", os.listdir(place.path("closed")), [])
 
 
@@ -101,7 +103,8 @@ def test_nothing_lies_beside_an_image(place):
 
 
 def test_an_image_past_a_limit_of_file_sizes_is_refused(place):
-    expect("format", place.run(["format", "image"], file_limit=4096), 1, NOTHING, REFUSED)
+    why = told("file", "image", "it can't have so many blocks")
+    expect("format", place.run(["format", "image"], file_limit=4096), 1, NOTHING, why)
     same("the length", sum(it.stat().st_size for it in os.scandir(place.folder)), 0)
 
 
@@ -157,11 +160,12 @@ def test_format_refuses_unlawful_counts(place):
 def test_a_file_that_another_has_locked_is_left(place):
     image = place.image()
     before = contents(image)
+    why = told("file", image, "another program has it")
     for lock in fcntl.LOCK_EX, fcntl.LOCK_SH:
         with open(image, "rb") as other:
             fcntl.flock(other, lock)
-            expect("once", place.once(image, wire.null_call(1)), 1, NOTHING, REFUSED)
-            expect("format", place.run(["format", image, "--blocks", "2048"]), 1, NOTHING, REFUSED)
+            expect("once", place.once(image, wire.null_call(1)), 1, NOTHING, why)
+            expect("format", place.run(["format", image, "--blocks", "2048"]), 1, NOTHING, why)
             is_so("the image was changed", contents(image) == before)
     # It is free again once a program has ended, also by a fault.
     expect("format", place.run(["format", image, "--blocks", "1024", "--inodes", "33"]), 1, NOTHING, b"nfsd: 2 Inodes\n")

@@ -124,6 +124,11 @@ def expect(what, ran, status, output, errors):
     same(f"{what}: standard output", ran.output, output)
 
 
+def told(fault, name, why):
+    """The two lines of a fault of a file or an address (docs/USING.md, Faults)."""
+    return f"nfsd: {fault}\nnfsd: {name}: {why}\n".encode()
+
+
 def contents(path):
     with open(path, "rb") as file:
         return file.read()

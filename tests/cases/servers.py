@@ -5,7 +5,7 @@ import random
 import time
 
 from cases import wire
-from cases.running import MADE, NEW_MODE, SECONDS, contents, expect, is_so, read_exactly, same
+from cases.running import MADE, NEW_MODE, SECONDS, contents, expect, is_so, read_exactly, same, told
 
 NOTHING = b""
 
@@ -22,10 +22,11 @@ def assert_kept_out(place, image, names):
     """Neither command gets the image by any of these names, and it stays as it is."""
     before = contents(image)
     for name in names:
+        why = told("file", name, "another program has it")
         ran = place.once(name, wire.setattr_call(1, 0o777))
-        expect(f"a second server on {os.path.basename(name)}", ran, 1, NOTHING, b"nfsd: file\n")
+        expect(f"a second server on {os.path.basename(name)}", ran, 1, NOTHING, why)
         ran = place.run(["format", name, "--blocks", "2048"])
-        expect(f"format of {os.path.basename(name)}", ran, 1, NOTHING, b"nfsd: file\n")
+        expect(f"format of {os.path.basename(name)}", ran, 1, NOTHING, why)
         is_so("the image was changed", contents(image) == before)
 
 

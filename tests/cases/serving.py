@@ -8,7 +8,7 @@ import time
 
 from cases import images, nfs, wire
 from cases.conversing import ROOT, ROOT_USER
-from cases.running import MADE, NEW_MODE, expect, is_so, same
+from cases.running import MADE, NEW_MODE, expect, is_so, same, told
 from cases.tcp import LOCAL, MNT, UMNT, Server, is_closed, mount_call, mounted, next_reply, replies, spent
 
 CALLER = nfs.credential(*ROOT_USER)
@@ -326,9 +326,9 @@ def test_a_second_server_is_kept_out(place):
     image = place.image()
     server = Server(place, image, connections=1)
     ran = place.run(["serve", image, "--listen", "127.0.0.1:0"])
-    expect("a second server", ran, 1, b"", b"nfsd: file\n")
+    expect("a second server", ran, 1, b"", told("file", image, "another program has it"))
     ran = place.once(image, wire.null_call(1))
-    expect("once beside a server", ran, 1, b"", b"nfsd: file\n")
+    expect("once beside a server", ran, 1, b"", told("file", image, "another program has it"))
     assert_serves(server)
     server.end()
 
@@ -336,11 +336,14 @@ def test_a_second_server_is_kept_out(place):
 def test_an_address_that_is_taken_is_told(place):
     taken = Server(place, place.image("one"), connections=1)
     image = place.image("other")
-    ran = place.run(["serve", image, "--listen", f"127.0.0.1:{taken.port}"])
-    expect("an address that is taken", ran, 1, b"", b"nfsd: address\n")
-    for address in ("127.0.0.1", "no such host:1", "127.0.0.1:65536", ""):
+    no_address, unknown = "it is no address with a port, as 127.0.0.1:2049 is", "its name isn't known"
+    addresses = {
+        f"127.0.0.1:{taken.port}": "another program has the port", "192.0.2.1:1": "this machine has no such address",
+        "127.0.0.1": no_address, "127.0.0.1:65536": no_address, "": no_address, "no such host:1": unknown,
+    }
+    for address, why in addresses.items():
         ran = place.run(["serve", image, "--listen", address])
-        expect(f"the address {address!r}", ran, 1, b"", b"nfsd: address\n")
+        expect(f"the address {address!r}", ran, 1, b"", told("address", address, why))
     place.attributes(image, NEW_MODE, MADE, "the image that wasn't served")
     assert_serves(taken)
     taken.end()

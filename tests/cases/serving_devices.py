@@ -8,7 +8,7 @@ import threading
 from cases import nfs, wire
 from cases.allocations import library
 from cases.conversing import ROOT, ROOT_USER
-from cases.running import MADE, Skipped, expect, is_so, same, wait_until
+from cases.running import MADE, Skipped, expect, is_so, same, told, wait_until
 from cases.serving_kills import CLIENTS, Worker, assert_kept, moments_of, tree_of
 from cases.tcp import Server, next_reply
 
@@ -254,7 +254,7 @@ def test_a_block_device_holds_an_image_as_large_as_it_is(place):
     size = 2048 * 4096 + 512
     with LoopDevice(place, size) as device:
         ran = place.run(["format", device.path, "--blocks", "2049"])
-        expect("format of more blocks than there are", ran, 1, b"", b"nfsd: file\n")
+        expect("format of more blocks than there are", ran, 1, b"", told("file", device.path, "it can't have so many blocks"))
         ran = place.run(["format", device.path, "--inodes", "256", "--time", str(MADE)])
         # 514 blocks of log, a block for each bitmap, and 8 of inodes (docs/FORMAT.md).
         expect("format of a block device", ran, 0, b"formatted 2048 blocks 256 inodes 1524 data\n", b"")

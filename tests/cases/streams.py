@@ -8,7 +8,7 @@ import time
 
 from cases import wire
 from cases.running import BLOCKS, FORMATTED, INODES, MADE, NEW_MODE, SECONDS, Skipped, block_0, contents, expect
-from cases.running import is_so, read_exactly, same
+from cases.running import is_so, read_exactly, same, told
 
 FORMAT = ["format", "image", "--blocks", str(BLOCKS), "--inodes", str(INODES), "--time", str(MADE)]
 NOTHING = b""
@@ -122,7 +122,8 @@ def test_no_image_is_opened_where_a_closed_stream_cannot_be_filled(place):
         raise Skipped("no folder can be made the root here")
     expect("with every stream", ran, 0, NOTHING, NOTHING)
     before = contents(root + "/image")
-    for closed, line in ([0], b"nfsd: file\n"), ([1], b"nfsd: file\n"), ([2], NOTHING):
+    why = told("file", "/dev/null", "there is no such file")
+    for closed, line in ([0], why), ([1], why), ([2], NOTHING):
         ran = place.run(["once", "/image", "--time", "1"], command=enter, closed=closed)
         expect(f"with {closed[0]} closed", ran, 1, NOTHING, line)
         ran = place.run(["format", "/image"], command=enter, closed=closed)

@@ -113,7 +113,7 @@ pub formats_command : (first : FirstContents) (image : _) (blocks : Option ℕ) 
     → device ≡ Some new → later.unread ≡ client.unread
     → FormatsDevice (device_of first size) inodes time client.written outcome new later.written
     → DoesCommand first (Format image blocks inodes time) client outcome device later
-formats_command first image blocks size inodes time new client (Err fault.File) device later asked back unread
+formats_command first image blocks size inodes time new client (Err (fault.File trouble)) device later asked back unread
     formats = absurd formats
 formats_command first image blocks size inodes time new client outcome device later asked back unread formats =
     (size, new, asked, back, unread, formats)
@@ -123,7 +123,7 @@ pub serves_command : (first : FirstContents) (image : _) (size time : ℕ) (new 
     (outcome : Outcome) (device : Option Device) (later : Client) → device ≡ Some new
     → ServesDevice (device_of first size) time client outcome new later
     → DoesCommand first (Once image time) client outcome device later
-serves_command first image size time new client (Err fault.File) device later back serves = absurd serves
+serves_command first image size time new client (Err (fault.File trouble)) device later back serves = absurd serves
 serves_command first image size time new client outcome device later back serves = (size, new, back, serves)
 
 -- clients were served from the device of the image's file, so the command was done
@@ -131,9 +131,9 @@ pub listens_command : (first : FirstContents) (image listen : _) (workers connec
     (outcome : Outcome) (device : Option Device) (later : Client) → later.unread ≡ client.unread
     → ServesClients (device_of first size) client.written outcome device later.written
     → DoesCommand first (Serve image listen workers connections) client outcome device later
-listens_command first image listen workers connections size client (Err fault.File) device later unread serves =
+listens_command first image listen workers connections size client (Err (fault.File trouble)) device later unread serves =
     absurd serves
-listens_command first image listen workers connections size client (Err fault.Address) device later unread
+listens_command first image listen workers connections size client (Err (fault.Address trouble)) device later unread
     serves = absurd serves
 listens_command first image listen workers connections size client outcome device later unread serves =
     (size, unread, serves)

@@ -1,5 +1,5 @@
 -- What the program does for its arguments: what it prints, and which fault it tells.
-use Rattle.std.specs.Prelude.{◌≡◌, ℕ, ◌-◌, ◌≤◌, List, ◌++◌, [], ◌∷◌, Option, Some, None, Result, Ok, Err, OnOk, IfSome, codes}
+use Rattle.std.specs.Prelude.{◌≡◌, ℕ, ◌-◌, ◌≤◌, List, ◌++◌, [], ◌∷◌, Option, Some, None, Result, Ok, Err, OnOk, IfSome, ◌⊎◌, codes}
 use Rattle.std.specs.Fmt.{decimal}
 use Rattle.std.specs.Io.KnownBytes.{Appends}
 use Rattle.std.specs.declared.io.Error.{Error}
@@ -22,7 +22,7 @@ use Rattle.server.specs.declared.serving.ServeFault.TheVariants as server
 use Rattle.session.specs.declared.serving.SessionFault.TheVariants as session
 use Rattle.nfsd.specs.declared.fault.Fault.{Fault}
 use Rattle.nfsd.specs.declared.fault.Fault.TheVariants as fault
-use Rattle.nfsd.specs.Faults.{as_line, fault_line, status_of_outcome}
+use Rattle.nfsd.specs.Faults.{IsAbout, as_line, fault_line, status_of_outcome}
 
 -- what came of the program: it is done, or there is a fault
 abbrev pub Outcome : Type 0
@@ -102,18 +102,25 @@ abbrev pub AreAsked : Option ℕ → ℕ → Type 0
 AreAsked None size = size ≤ MOST_BLOCKS
 AreAsked (Some asked) size = size ≡ asked
 
+-- the image of a command
+abbrev pub image_of : Args → Text
+image_of (Format image blocks inodes time) = image.now
+image_of (Once image time) = image.now
+image_of (Serve image listen workers connections) = image.now
+
 -- The command that is asked for was done to the device of a file that held this, this came of it, and the device
 -- is handed back as that left it, but for a device that was served from; or there is no device, and the fault is
--- that of the file or of the address.
+-- that of the image's file, of what closed streams are filled from, or of the address.
 abbrev pub DoesCommand : FirstContents → Args → Client → Outcome → Option Device → Client → Type 0
-DoesCommand first args client (Err fault.File) device later = (later ≡ client) × (device ≡ None)
+DoesCommand first args client (Err (fault.File trouble)) device later = (later ≡ client) × (device ≡ None)
+    × (IsAbout trouble (image_of args) ⊎ IsAbout trouble (codes "/dev/null"))
 DoesCommand first (Format image blocks inodes time) client outcome device later = (size : ℕ) × (new : Device)
     × AreAsked blocks size × (device ≡ Some new) × (later.unread ≡ client.unread)
     × FormatsDevice (device_of first size) inodes time client.written outcome new later.written
 DoesCommand first (Once image time) client outcome device later = (size : ℕ) × (new : Device)
     × (device ≡ Some new) × ServesDevice (device_of first size) time client outcome new later
-DoesCommand first (Serve image listen workers connections) client (Err fault.Address) device later =
-    (later ≡ client) × (device ≡ None)
+DoesCommand first (Serve image listen workers connections) client (Err (fault.Address trouble)) device later =
+    (later ≡ client) × (device ≡ None) × IsAbout trouble listen.now
 DoesCommand first (Serve image listen workers connections) client outcome device later = (size : ℕ)
     × (later.unread ≡ client.unread)
     × ServesClients (device_of first size) client.written outcome device later.written

@@ -1,5 +1,5 @@
 -- What the program prints of a fault, and the status that it ends with.
-use Rattle.std.specs.Prelude.{ℕ, List, [], ◌∷◌, ◌++◌, Option, None, Some, Result, Ok, Err, codes}
+use Rattle.std.specs.Prelude.{◌≡◌, ℕ, List, [], ◌∷◌, ◌++◌, Option, None, Some, IfSome, Result, Ok, Err, codes, string_bytes}
 use Rattle.std.specs.IoError.{error_kind}
 use Rattle.std.specs.declared.io.Error as io
 use Rattle.std.specs.declared.io.ErrorKind.TheVariants as io_kind
@@ -14,6 +14,9 @@ use Rattle.store_promise.specs.declared.fault.OpenFault.{OpenFault}
 use Rattle.store_promise.specs.declared.fault.OpenFault.TheVariants as opening
 use Rattle.nfsd.specs.declared.fault.Fault.{Fault}
 use Rattle.nfsd.specs.declared.fault.Fault.TheVariants as fault
+use Rattle.nfsd.specs.declared.trouble.Reason.{Reason}
+use Rattle.nfsd.specs.declared.trouble.Reason.TheVariants as reason
+use Rattle.nfsd.specs.declared.trouble.Trouble.{Trouble}
 
 -- a text as a line of its own
 abbrev pub as_line : List ℕ → List ℕ
@@ -44,17 +47,75 @@ session_line session.NoMemory = as_line (codes "nfsd: 4 NoMemory")
 session_line session.Truncated = as_line (codes "nfsd: 5 Truncated")
 session_line session.Device = as_line (codes "nfsd: 6 Device")
 
--- the line of a fault; of arguments that don't parse their parser tells
+-- why a file can't be opened, made, locked, given its length or settled
+abbrev pub reason_of_file : io.Error → Reason
+reason_of_file error = elim (error_kind error) [
+  | io_kind.NotFound ↦ reason.Missing
+  | io_kind.PermissionDenied ↦ reason.NotAllowed
+  | io_kind.IsADirectory ↦ reason.Directory
+  | io_kind.NotADirectory ↦ reason.NoDirectory
+  | io_kind.InvalidInput ↦ reason.NoFile
+  | io_kind.WouldBlock ↦ reason.Held
+  | io_kind.ReadOnlyFilesystem ↦ reason.ReadOnly
+  | io_kind.StorageFull ↦ reason.NoRoom
+  | io_kind.QuotaExceeded ↦ reason.NoRoom
+  | io_kind.FileTooLarge ↦ reason.TooLarge
+  | io_kind.InvalidFilename ↦ reason.BadName
+  | io_kind.OutOfMemory ↦ reason.NoMemory
+  | _ ↦ reason.Other
+]
+
+-- why nothing listens at an address
+abbrev pub reason_of_address : io.Error → Reason
+reason_of_address error = elim (error_kind error) [
+  | io_kind.AddrInUse ↦ reason.PortTaken
+  | io_kind.PermissionDenied ↦ reason.NotAllowed
+  | io_kind.AddrNotAvailable ↦ reason.NotHere
+  | io_kind.InvalidInput ↦ reason.NoAddress
+  | io_kind.Uncategorized ↦ reason.NameUnknown
+  | io_kind.OutOfMemory ↦ reason.NoMemory
+  | _ ↦ reason.Other
+]
+
+-- what is told of such a reason
+abbrev pub reason_text : Reason → List ℕ
+reason_text reason.Missing = codes "there is no such file"
+reason_text reason.NotAllowed = codes "permission denied"
+reason_text reason.Directory = codes "it is a directory"
+reason_text reason.NoDirectory = codes "a part of its path is no directory"
+reason_text reason.NoFile = codes "it is neither a file nor a block device"
+reason_text reason.Held = codes "another program has it"
+reason_text reason.ReadOnly = codes "it can only be read here"
+reason_text reason.NoRoom = codes "there is no room for it"
+reason_text reason.TooLarge = codes "it can't have so many blocks"
+reason_text reason.BadName = codes "its name is too long"
+reason_text reason.PortTaken = codes "another program has the port"
+reason_text reason.NotHere = codes "this machine has no such address"
+reason_text reason.NoAddress = codes "it is no address with a port, as 127.0.0.1:2049 is"
+reason_text reason.NameUnknown = codes "its name isn't known"
+reason_text reason.NoMemory = codes "there is no memory"
+reason_text reason.Other = codes "the system refuses it"
+
+-- what is told of a file or an address is of this name, where anything is told
+abbrev pub IsAbout : Option Trouble → List ℕ → Type 0
+IsAbout trouble name = IfSome trouble (λ it. string_bytes it.name ≡ name)
+
+-- the second line of a fault, `nfsd: NAME: REASON`, where a file or an address is known that can't be had
+abbrev pub trouble_line : Option Trouble → List ℕ
+trouble_line None = []
+trouble_line (Some it) = as_line (codes "nfsd: " ++ string_bytes it.name ++ codes ": " ++ reason_text it.reason)
+
+-- The line of a fault, or its two lines; of arguments that don't parse their parser tells.
 abbrev pub fault_line : Fault → Option (List ℕ)
 fault_line fault.NotText = Some (as_line (codes "nfsd: arguments"))
 fault_line fault.Memory = Some (as_line (codes "nfsd: memory"))
 fault_line (fault.Words error) = None
-fault_line fault.File = Some (as_line (codes "nfsd: file"))
+fault_line (fault.File trouble) = Some (as_line (codes "nfsd: file") ++ trouble_line trouble)
 fault_line (fault.Format why) = Some (format_line why)
 fault_line (fault.Open why) = Some (open_line why)
 fault_line (fault.Session why) = Some (session_line why)
 fault_line fault.Print = Some (as_line (codes "nfsd: output"))
-fault_line fault.Address = Some (as_line (codes "nfsd: address"))
+fault_line (fault.Address trouble) = Some (as_line (codes "nfsd: address") ++ trouble_line trouble)
 
 -- 2 where the arguments aren't text or don't parse, and 1 at every other fault
 abbrev pub status_of : Fault → ℕ

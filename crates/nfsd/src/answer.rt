@@ -12,6 +12,7 @@ use crate::fault_stream::FaultStream;
 use crate::image_files::{make_image, open_for_threads, open_image};
 use crate::streams::{Streams, fill};
 use crate::tcp::{listen_at, serve_clients};
+use crate::trouble::Trouble;
 use disk::{BlockFile, FileDisk, FirstContents};
 use nfsd_words::{Args, words};
 use session::Input;
@@ -105,7 +106,10 @@ where
     };
     let _fillers = match fill(rt) {
         Ok(fillers) => fillers,
-        Err(_) => return (None, Err(Fault::File)),
+        Err(error) => {
+            let trouble = Trouble::of_file(rt.alloc(), "/dev/null", &error);
+            return (None, Err(Fault::File(trouble)));
+        }
     };
     command(rt, args, first, reader, writer)
 }
@@ -143,7 +147,10 @@ where
         } => {
             let made = match make_image(rt, image, blocks) {
                 Ok(made) => made,
-                Err(_) => return (None, Err(Fault::File)),
+                Err(error) => {
+                    let trouble = Trouble::of_file(rt.alloc(), image, &error);
+                    return (None, Err(Fault::File(trouble)));
+                }
             };
             let mut disk = made.beginning_with(first);
             let outcome = format_device(rt.alloc(), &mut disk, inodes, time, writer);
@@ -152,7 +159,10 @@ where
         Args::Once { image, time } => {
             let opened = match open_image(rt, image) {
                 Ok(opened) => opened,
-                Err(_) => return (None, Err(Fault::File)),
+                Err(error) => {
+                    let trouble = Trouble::of_file(rt.alloc(), image, &error);
+                    return (None, Err(Fault::File(trouble)));
+                }
             };
             let disk = opened.beginning_with(first);
             let (disk, outcome) = serve_device(rt.alloc(), disk, time, reader, writer);
@@ -166,11 +176,14 @@ where
         } => {
             let listening = match listen_at(rt, rt.alloc(), listen) {
                 Ok(listening) => listening,
-                Err(fault) => return (None, Err(fault)),
+                Err(trouble) => return (None, Err(Fault::Address(trouble))),
             };
             let opened = match open_for_threads(rt, image) {
                 Ok(opened) => opened,
-                Err(_) => return (None, Err(Fault::File)),
+                Err(error) => {
+                    let trouble = Trouble::of_file(rt.alloc(), image, &error);
+                    return (None, Err(Fault::File(trouble)));
+                }
             };
             let disk = opened.beginning_with(first);
             let alloc = rt.alloc();

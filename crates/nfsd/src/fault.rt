@@ -3,6 +3,7 @@ ghost use Rattle.std.specs.Prelude.{◌≡◌};
 ghost use Rattle.nfsd.specs.Faults.{fault_of_reading, fault_of_words, status_of};
 
 use crate::lines::{format_line, open_line, session_line};
+use crate::trouble::Trouble;
 use clap::error::ErrorKind;
 use session::SessionFault;
 use std::{fmt, io};
@@ -18,8 +19,8 @@ pub enum Fault {
     /// The arguments don't parse.
     Words(clap::Error),
     /// The image's file can't be made, opened, locked, given its length or settled, or a closed stream's
-    /// descriptor can't be taken.
-    File,
+    /// descriptor can't be taken: which of them, and why.
+    File(Option<Trouble>),
     /// The image can't be made.
     Format(FormatFault),
     /// The image can't be opened.
@@ -28,8 +29,8 @@ pub enum Fault {
     Session(SessionFault),
     /// The line of the answer can't be printed.
     Print,
-    /// The address can't be had.
-    Address,
+    /// The address can't be had: which, and why.
+    Address(Option<Trouble>),
 }
 
 impl Fault {
@@ -75,12 +76,23 @@ impl fmt::Display for Fault {
             Fault::NotText => f.write_str("nfsd: arguments\n"),
             Fault::Memory => f.write_str("nfsd: memory\n"),
             Fault::Words(error) => write!(f, "{error}"),
-            Fault::File => f.write_str("nfsd: file\n"),
+            Fault::File(None) => f.write_str("nfsd: file\n"),
+            Fault::File(Some(it)) => {
+                write!(f, "nfsd: file\nnfsd: {}: {}\n", it.name, it.reason.text())
+            }
             Fault::Format(fault) => f.write_str(format_line(*fault)),
             Fault::Open(fault) => f.write_str(open_line(*fault)),
             Fault::Session(fault) => f.write_str(session_line(*fault)),
             Fault::Print => f.write_str("nfsd: output\n"),
-            Fault::Address => f.write_str("nfsd: address\n"),
+            Fault::Address(None) => f.write_str("nfsd: address\n"),
+            Fault::Address(Some(it)) => {
+                write!(
+                    f,
+                    "nfsd: address\nnfsd: {}: {}\n",
+                    it.name,
+                    it.reason.text()
+                )
+            }
         }
     }
 }

@@ -10,6 +10,7 @@ mod image_files;
 mod lines;
 mod streams;
 mod tcp;
+mod trouble;
 
 use crate::answer::{answer, conclude};
 use crate::arguments::arguments;

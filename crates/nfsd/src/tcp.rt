@@ -3,8 +3,10 @@ ghost use Rattle.std.specs.Prelude.{◌≡◌, IfErr, IfOk, OnOk};
 ghost use Rattle.std.specs.Io.KnownBytes.{Appends};
 ghost use Rattle.disk.specs.File.{file_device, first_in};
 ghost use Rattle.nfsd.specs.Done.{ServesClients, device_in, listening_line, outcome_of_server};
+ghost use Rattle.nfsd.specs.Faults.{IsAbout};
 
 use crate::fault::Fault;
+use crate::trouble::Trouble;
 use disk::{BlockFile, FileDisk};
 use server::{ServeFault, serve_store};
 use session::SessionFault;
@@ -22,21 +24,23 @@ pub struct Listening {
     pub address: String,
 }
 
-/// Listens at an address. One that can't be had, or told, is the fault Address.
-pub fn listen_at<R>(rt: &R, alloc: Global, address: &str) -> Result<Listening, Fault>
+/// Listens at an address. Of one that can't be had, or told, it says why, but for want of memory.
+pub fn listen_at<R>(rt: &R, alloc: Global, address: &str) -> Result<Listening, Option<Trouble>>
 where
     R: Net<Listener = TcpListener, Stream = TcpStream>,
-    ensures { IfErr result (λ fault. fault ≡ Fault.Address) }
+    ensures { IfErr result (λ trouble. IsAbout trouble address.now) }
 {
-    let Ok(listener) = TcpListener::bind(rt, address) else {
-        return Err(Fault::Address);
+    let listener = match TcpListener::bind(rt, address) {
+        Ok(listener) => listener,
+        Err(error) => return Err(Trouble::of_address(alloc, address, &error)),
     };
-    let Ok(bound) = listener.local_addr() else {
-        return Err(Fault::Address);
+    let bound = match listener.local_addr() {
+        Ok(bound) => bound,
+        Err(error) => return Err(Trouble::of_address(alloc, address, &error)),
     };
     match format!(in alloc; "{bound}") {
         Ok(address) => Ok(Listening { listener, address }),
-        Err(_) => Err(Fault::Address),
+        Err(_) => Err(None),
     }
 }
 
