@@ -55,7 +55,7 @@ module _ (size : ℕ) (links : Links) where
 
 -- ---- steps
 
-led_same : (f h : ℕ → ℕ) (size : ℕ) → ((n : ℕ) → n < size → f n < size) → ((n : ℕ) → n < size → f n ≡ h n)
+pub led_same : (f h : ℕ → ℕ) (size : ℕ) → ((n : ℕ) → n < size → f n < size) → ((n : ℕ) → n < size → f n ≡ h n)
     → (steps n : ℕ) → n < size → led f steps n ≡ led h steps n
 unfolding led
 led_same f h size within same zero n inside = refl

@@ -1,0 +1,4 @@
+pub mod Below
+pub mod Facts
+pub mod Linked
+pub mod Whole
