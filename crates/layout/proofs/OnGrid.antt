@@ -1,4 +1,4 @@
--- The objects of an image lie behind the log, are one or apart, and begin in pieces of 128 bytes of their own.
+-- The objects of an image lie behind the log, are one or apart, and begin in pieces of an inode's bytes of their own.
 use Rattle.std.proofs.Common.{rules, ◌≡◌, ℕ, ◌+◌, ◌*◌, ◌/◌, ◌%◌, ◌<◌, ◌≤◌, ◌⊎◌, inl, inr, sym, ap, ◌∙◌, subst}
 use Rattle.std.proofs.Common.{arith, refl, suc, true, false, nat_le, nat_lt, Bool, ◌&&◌}
 use Rattle.std.proofs.Math.Bridge.{le_prop}
@@ -9,6 +9,7 @@ use Rattle.disk.specs.declared.block.BlockNo.{BlockNo}
 use Rattle.objects.specs.Addr.{Overlap}
 use Rattle.objects.specs.declared.addr.Addr.{Addr}
 use Rattle.layout.specs.declared.geometry.Geometry.{Geometry}
+use Rattle.layout.specs.declared.grid.TheConstants.{PIECE_BYTES}
 use Rattle.layout.specs.Geometry.{data_at}
 use Rattle.layout.specs.Places.{is_data}
 use Rattle.layout.specs.Objects.{IsObject, inode, bits, whole}
@@ -103,7 +104,7 @@ module _ (g : Geometry) (a b : Addr) (same : a.block.0 ≡ b.block.0) where
       let rules = g.lawful.1 in
       absurd (omega (arith, at, past, same, low, rules.2))
   apart (bits k few behind below offset len) (inode n low at from long) = absurd (omega (arith, at, below, same))
-  apart (bits k few behind below offset len) (bits j less past under from long) = spaced 512 k j offset from len long
+  apart (bits k few behind below offset len) (bits j less past under from long) = spaced PIECE_BYTES k j offset from len long
   apart (bits k few behind below offset len) (whole is from long) =
       let past = (data_within g b.block.0 is).0 in absurd (omega (arith, below, past, same))
   apart (whole is offset len) (inode n low at from long) =
@@ -127,16 +128,16 @@ one_or_apart g a b one other over =
 
 -- ---- where they begin
 
--- the piece of 128 bytes with which an object begins
+-- the piece with which an object begins, where blocks are cut into pieces of as many bytes as an inode has
 abbrev pub key_of : Addr → ℕ
-key_of addr = 32 * addr.block.0 + addr.offset / 128
+key_of addr = INODES_PER_BLOCK * addr.block.0 + addr.offset / INODE_BYTES
 
-at_least : (g : Geometry) (addr : Addr) → IsObject g addr → 128 ≤ addr.len
+at_least : (g : Geometry) (addr : Addr) → IsObject g addr → INODE_BYTES ≤ addr.len
 at_least g addr (inode number less at offset len) = omega (arith, len)
 at_least g addr (bits piece few from below offset len) = omega (arith, len)
 at_least g addr (whole is offset len) = omega (arith, len)
 
-pub key_below : (g : Geometry) (addr : Addr) → IsObject g addr → key_of addr < 32 * g.blocks
+pub key_below : (g : Geometry) (addr : Addr) → IsObject g addr → key_of addr < INODES_PER_BLOCK * g.blocks
 key_below g addr is =
     let low = (at_home g addr is).1 in let within = addr.within in let some = addr.some in
     omega (arith, low, within, some)
@@ -145,7 +146,7 @@ pub one_key : (g : Geometry) (a b : Addr) → IsObject g a → IsObject g b → 
 one_key g a b one other same =
     let a_in = a.within in let a_some = a.some in let b_in = b.within in let b_some = b.some in
     let block : a.block.0 ≡ b.block.0 = omega (arith, same, a_in, a_some, b_in, b_some) in
-    let cell : a.offset / 128 ≡ b.offset / 128 = omega (arith, same, block) in
+    let cell : a.offset / INODE_BYTES ≡ b.offset / INODE_BYTES = omega (arith, same, block) in
     let a_long = at_least g a one in let b_long = at_least g b other in
     elim (apart g a b block one other) [
       | inl is ↦ one_addr a b block is.0 is.1
