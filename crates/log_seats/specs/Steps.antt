@@ -1,14 +1,14 @@
 -- What a step of the logger or of the installer makes of the core, and of the call that is out.
 use Rattle.std.specs.Prelude.{◌≡◌, ℕ, Bool, true, false, if◌then◌else◌, Option, Some, None}
 use Rattle.disk.specs.Crash.{Image}
-use Rattle.txn_law.specs.Core.{CoreState, past}
+use Rattle.txn_law.specs.Core.{CoreState, past, with_inst_call, with_log_call}
 use Rattle.txn_law.specs.CoreWindow.{IsHomeOf, KeepsHome, KeepsReads}
 use Rattle.txn_law.specs.Leaves.{Leaves, in_memory, is_fetching, taken_by}
 use Rattle.wal_law.specs.Calls.{InstCallComesBack, InstCallGoesOut, LogCallComesBack, LogCallGoesOut, home_after}
-use Rattle.wal_law.specs.Installer.{IsNextInstCall, is_inst_out, may_install, with_inst_back, with_inst_out}
+use Rattle.wal_law.specs.Installer.{IsNextInstCall, is_inst_out, may_install, with_inst_back}
 use Rattle.wal_law.specs.Io.{Io, IsCallWithin}
 use Rattle.wal_law.specs.Log.{Log, installed_place}
-use Rattle.wal_law.specs.Logger.{IsNextLogCall, is_log_out, may_log, with_log_back, with_log_out}
+use Rattle.wal_law.specs.Logger.{IsNextLogCall, is_log_out, may_log, with_log_back}
 use Rattle.log_seats.specs.Making.{answered_ok}
 use Rattle.log_seats.specs.declared.stepped.Stepped.{Stepped}
 use Rattle.log_seats.specs.declared.stepped.Stepped.TheVariants.{Next, Done}
@@ -18,7 +18,7 @@ use Rattle.log_seats.specs.declared.stepped.Stepped.TheVariants.{Next, Done}
 -- The core handed out the logger's next call.
 pub record LogGoesOut (old : CoreState) (io : Io) (new : CoreState) : Type 0 where
   pub may : may_log old.log ≡ true
-  pub core : new ≡ record old { log = with_log_out old.log }
+  pub core : new ≡ with_log_call old
   pub blocks : new.log.blocks ≡ old.log.blocks
   pub within : IsCallWithin old.log.blocks io.call
   pub next : IsNextLogCall new.log io
@@ -39,7 +39,7 @@ pub record LogComesBack (old : CoreState) (io : Io) (ok : Bool) (new : CoreState
 -- The core handed out the installer's next call.
 pub record InstGoesOut (old : CoreState) (io : Io) (new : CoreState) : Type 0 where
   pub may : may_install old.log ≡ true
-  pub core : new ≡ record old { log = with_inst_out old.log }
+  pub core : new ≡ with_inst_call old
   pub blocks : new.log.blocks ≡ old.log.blocks
   pub within : IsCallWithin old.log.blocks io.call
   pub next : IsNextInstCall new.log io

@@ -114,6 +114,8 @@ impl Installer {
         ensures back { HasEnded InstComesBack core.old self.io self.made core.new }
         ensures blocks { core.new.log.blocks ≡ core.old.log.blocks }
         ensures inodes { core.new.inodes ≡ core.old.inodes }
+        ensures calls { (core.new.log_calls ≡ core.old.log_calls) × (core.new.inst_calls ≡ core.old.inst_calls) }
+        ensures boot { core.new.boot ≡ core.old.boot }
     {
         let Installer { io, made } = self;
         if let Some(io) = io {

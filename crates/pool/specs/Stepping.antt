@@ -29,14 +29,14 @@ use Rattle.pool.specs.declared.told.Told.TheVariants.{Nothing, Committed, KeptOf
 abbrev pub IsFree : Working → Type 0
 IsFree w = (w.worker.phase ≡ Idle) × (w.answer ≡ None)
 
--- a worker of this boot that was handed nothing yet
-abbrev pub seated_at : ℕ → Working
-seated_at boot = record { worker = at_rest boot; job = None; answer = None; told = Nothing }
+-- a worker that was handed nothing yet
+abbrev pub seated : Working
+seated = record { worker = at_rest; job = None; answer = None; told = Nothing }
 
 -- it was handed a job at this moment
 abbrev pub with_job : Job → Moment → Working → Working
 with_job job moment w = record {
-  worker = with_call (ctx_of job.credential moment w.worker.boot) job.call w.worker;
+  worker = with_call (ctx_of job.credential moment) job.call w.worker;
   job = Some job;
   answer = None;
   told = Nothing;

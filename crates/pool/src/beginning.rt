@@ -3,7 +3,7 @@ ghost use Rattle.std.specs.Prelude.{◌≡◌, ◌+◌, ◌<◌, length, IfOk, A
 
 use crate::{Locked, Seat, Shared};
 use log_seats::{Installer, Logger};
-use pool_calls::{Counter, IoSeat, Whole};
+use pool_calls::{IoSeat, Whole};
 use procs::Done;
 use std::alloc::{AllocError, Global};
 use std::sync::Mutex;
@@ -42,20 +42,21 @@ impl Ledgers {
     }
 }
 
-/// Puts a core behind the lock, with so many seats. The ledgers are those that the types stand for.
+/// Puts a core behind the lock, with so many seats. What they do bears the core's boot number. The ledgers are
+/// those that the types stand for.
 pub fn begin<L: Ledger, G: Whole, I: Whole>(
     alloc: Global,
     core: Core<Done>,
-    boot: u64,
     workers: u32,
     ledgers: Ledgers,
 ) -> Result<Pool<L, G, I>, AllocError>
     requires commits { (ledgers.commits.name ≡ L.name) × (ledgers.commits.parts ≡ L.parts)
         × (ledgers.commits.parts ≡ workers + 1) }
     requires logged { (ledgers.logged.name ≡ G.name) × (ledgers.logged.parts ≡ G.parts)
-        × (G.all ≡ G.parts) × (ledgers.logged.parts ≡ 1) }
+        × (G.all ≡ G.parts) × (ledgers.logged.parts ≡ 1) × (G.first ≡ core.log_calls) }
     requires installed { (ledgers.installed.name ≡ I.name) × (ledgers.installed.parts ≡ I.parts)
-        × (I.all ≡ I.parts) × (ledgers.installed.parts ≡ 1) }
+        × (I.all ≡ I.parts) × (ledgers.installed.parts ≡ 1) × (I.first ≡ core.inst_calls) }
+    requires boot { core.boot ≡ G.boot }
     ensures seats { IfOk result (λ pool. length pool.seats.items ≡ workers) }
 {
     let Ledgers {
@@ -65,15 +66,15 @@ pub fn begin<L: Ledger, G: Whole, I: Whole>(
     } = ledgers;
     let (mut commits, mut rest) = commits.open::<L>();
     commits.add(&mut rest, core.places().0);
-    let seats = seats(alloc, boot, workers, &mut rest)?;
+    let seats = seats(alloc, workers, &mut rest)?;
     let (logged, logs) = logged.open::<G>();
     let (installed, installs) = installed.open::<I>();
     Ok(Pool {
         shared: Shared::new(Locked {
             core,
             commits,
-            logged: Counter::new(logged),
-            installed: Counter::new(installed),
+            logged,
+            installed,
         }),
         seats,
         logger: IoSeat::new(logs),
@@ -84,7 +85,6 @@ pub fn begin<L: Ledger, G: Whole, I: Whole>(
 // So many seats, each with a part of the ledger of commits.
 fn seats<L: Ledger>(
     alloc: Global,
-    boot: u64,
     workers: u32,
     rest: &mut Share<L>,
 ) -> Result<Vec<Mutex<Seat<L>>>, AllocError>
@@ -93,7 +93,7 @@ fn seats<L: Ledger>(
 {
     let mut seats = Vec::with_capacity(alloc, workers as usize)?;
     for _made in 0..workers {
-        let seat = Seat::new(alloc, boot, rest.split_off(1, 0));
+        let seat = Seat::new(alloc, rest.split_off(1, 0));
         match seats.push(Mutex::new(seat)) {
             Ok(()) => {}
             Err(_) => unreachable!(),

@@ -1,18 +1,22 @@
 //! What lies behind the lock.
-ghost use Rattle.std.specs.Prelude.{◌≡◌};
+ghost use Rattle.std.specs.Prelude.{◌≡◌, ◌+◌};
 
-use pool_calls::{Counter, Whole};
+use pool_calls::Whole;
 use procs::Done;
 use std::sync::ledger::{Book, Ledger};
 use txn::Core;
 
-/// The core, the book of its commits, and the counts of the device calls that it has handed out. Its type keeps
-/// that the core's count of commits is the book's total.
+/// The core, the book of its commits, and those of the device calls that it has handed out. Its type keeps that the
+/// core's counts of commits and of device calls are the books' totals, with the calls that were handed out before the
+/// books began; and that the core has the boot number that the ledgers name.
 #[derive(Drop)]
 pub struct Locked<L: Ledger, G: Whole, I: Whole> {
     pub(crate) core: Core<Done>,
     pub(crate) commits: Book<L>,
-    pub(crate) logged: Counter<G>,
-    pub(crate) installed: Counter<I>,
+    pub(crate) logged: Book<G>,
+    pub(crate) installed: Book<I>,
     pub ghost counted: { commits.total ≡ core.log.places },
+    pub ghost log_calls: { logged.total + G.first ≡ core.log_calls },
+    pub ghost inst_calls: { installed.total + I.first ≡ core.inst_calls },
+    pub ghost booted: { core.boot ≡ G.boot },
 }

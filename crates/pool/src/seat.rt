@@ -19,19 +19,20 @@ pub struct Seat<L: Ledger> {
 
 impl<L: Ledger> Seat<L> {
     ghost use Rattle.std.specs.Prelude.{◌≡◌, ◌<◌, ◌↔◌, IsTrue, IsErr, IfErr, IfSome, OnOk, None, IsSomeAnd};
+    ghost use Rattle.model.specs.Sound.{SoundTime};
     ghost use Rattle.pool.specs.Answers.{HandsOver};
-    ghost use Rattle.pool.specs.Stepping.{IsFree, seated_at, with_job};
+    ghost use Rattle.pool.specs.Stepping.{IsFree, seated, with_job};
     ghost use Rattle.store_workers.specs.SourceReads.{place_awaited};
     ghost use Rattle.store_workers.specs.declared.workers.parts.Phase.TheVariants.{Reading};
 
-    /// A seat that has made no commit, in a store with this boot number.
-    pub fn new(alloc: Global, boot: u64, share: Share<L>) -> Seat<L>
+    /// A seat that has made no commit.
+    pub fn new(alloc: Global, share: Share<L>) -> Seat<L>
         requires { 0 < share.parts }
-        ensures work { result.work ≡ seated_at boot }
+        ensures work { result.work ≡ seated }
         ensures share { result.share ≡ share }
     {
         Seat {
-            work: Work::new(alloc, boot),
+            work: Work::new(alloc),
             share,
         }
     }
@@ -43,8 +44,10 @@ impl<L: Ledger> Seat<L> {
         self.work.is_free()
     }
 
-    /// Hands it a job at this moment. A seat that isn't free gives the job back.
+    /// Hands it a job at this moment, of less than a second of nanoseconds. A seat that isn't free gives the job
+    /// back.
     pub fn hand(&mut self, job: Job, moment: Moment) -> Result<(), Job>
+        requires { SoundTime moment }
         ensures took { OnOk result (self.new.work ≡ with_job job moment self.old.work) }
         ensures busy { IfErr result (λ back. (back ≡ job) × (self.new.work ≡ self.old.work)) }
         ensures cause { IsErr result ↔ (IsFree self.old.work → ⊥) }

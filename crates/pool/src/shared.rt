@@ -3,7 +3,7 @@ ghost use Rattle.std.specs.Prelude.{◌≡◌, ◌+◌, ◌≤◌, length, None,
 ghost use Rattle.log_seats.specs.Steps.{InstComesBack, InstGoesOut, LogComesBack, LogGoesOut};
 ghost use Rattle.pool.specs.Locking.{IsLawful};
 ghost use Rattle.pool.specs.Stepping.{HasStepped, grown};
-ghost use Rattle.pool_calls.specs.Sides.{HasTurned};
+ghost use Rattle.pool_calls.specs.Sides.{HandsOutNone, HasTurned};
 ghost use Rattle.txn.specs.Core.{CoreState};
 ghost use Rattle.wal_law.specs.Installer.{may_install};
 ghost use Rattle.wal_law.specs.Logger.{may_log};
@@ -130,7 +130,8 @@ impl<L: Ledger, G: Whole, I: Whole> Shared<L, G, I> {
 
 // Ends a seat.
 fn end_seat<L: Ledger, G: Whole, I: Whole>(locked: &mut Locked<L, G, I>, seat: Seat<L>)
-    ensures { locked.new.core.log ≡ locked.old.core.log }
+    ensures log { locked.new.core.log ≡ locked.old.core.log }
+    ensures calls { HandsOutNone locked.old.core locked.new.core }
 {
     let Seat { work, share: _ } = seat;
     work.end(&mut locked.core);
@@ -141,7 +142,8 @@ fn end_calls<L: Ledger, G: Whole, I: Whole, N: Whole, S: Caller>(
     locked: &mut Locked<L, G, I>,
     seat: IoSeat<N, S>,
 )
-    ensures { locked.new.core.log.places ≡ locked.old.core.log.places }
+    ensures places { locked.new.core.log.places ≡ locked.old.core.log.places }
+    ensures calls { HandsOutNone locked.old.core locked.new.core }
 {
     give_up(&mut locked.core, seat);
 }

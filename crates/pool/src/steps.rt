@@ -46,6 +46,7 @@ pub fn worker_step<L: Ledger, G: Whole, I: Whole>(
 }
 
 /// One step of the logger: one call of the core at most. A call that is handed out gets the next number.
+#[tactic(auto, using(crate::proofs::Calls::log_turned))]
 pub fn logger_step<L: Ledger, G: Whole, I: Whole>(
     locked: &mut Locked<L, G, I>,
     seat: &mut IoSeat<G, Logger>,
@@ -54,8 +55,8 @@ pub fn logger_step<L: Ledger, G: Whole, I: Whole>(
         result locked.new.core seat.new.side.io seat.new.side.made }
     ensures numbered { seat.old.side.io ≡ None → IsSome seat.new.side.io
         → length seat.new.number.items ≡ seat.old.calls.amount + 1 }
-    ensures counted { G.all ≡ G.parts → (length locked.old.logged.count.items ≡ seat.old.calls.amount)
-        × (length locked.new.logged.count.items ≡ seat.new.calls.amount) }
+    ensures counted { G.all ≡ G.parts → (locked.old.core.log_calls ≡ seat.old.calls.amount + G.first)
+        × (locked.new.core.log_calls ≡ seat.new.calls.amount + G.first) }
     ensures taken { seat.new.taken ≡ seat.old.taken }
     ensures lawful { IsLawful locked.old.core × IsLawful locked.new.core }
 {
@@ -72,6 +73,7 @@ pub fn logger_step<L: Ledger, G: Whole, I: Whole>(
 }
 
 /// One step of the installer: one call of the core at most. A call that is handed out gets the next number.
+#[tactic(auto, using(crate::proofs::Calls::inst_turned))]
 pub fn installer_step<L: Ledger, G: Whole, I: Whole>(
     locked: &mut Locked<L, G, I>,
     seat: &mut IoSeat<I, Installer>,
@@ -80,8 +82,8 @@ pub fn installer_step<L: Ledger, G: Whole, I: Whole>(
         result locked.new.core seat.new.side.io seat.new.side.made }
     ensures numbered { seat.old.side.io ≡ None → IsSome seat.new.side.io
         → length seat.new.number.items ≡ seat.old.calls.amount + 1 }
-    ensures counted { I.all ≡ I.parts → (length locked.old.installed.count.items ≡ seat.old.calls.amount)
-        × (length locked.new.installed.count.items ≡ seat.new.calls.amount) }
+    ensures counted { I.all ≡ I.parts → (locked.old.core.inst_calls ≡ seat.old.calls.amount + I.first)
+        × (locked.new.core.inst_calls ≡ seat.new.calls.amount + I.first) }
     ensures taken { seat.new.taken ≡ seat.old.taken }
     ensures lawful { IsLawful locked.old.core × IsLawful locked.new.core }
 {

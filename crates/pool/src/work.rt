@@ -64,18 +64,20 @@ impl Model for Work {
 
 impl Work {
     ghost use Rattle.std.specs.Prelude.{◌≡◌, ◌+◌, ◌↔◌, IsTrue, IsErr, IfErr, IfSome, OnOk, None, IsSomeAnd};
+    ghost use Rattle.model.specs.Sound.{SoundTime};
     ghost use Rattle.pool.specs.Answers.{HandsOver};
-    ghost use Rattle.pool.specs.Stepping.{HasStepped, IsFree, ReadsFrom, grown, seated_at, with_job};
+    ghost use Rattle.pool_calls.specs.Sides.{HandsOutNone};
+    ghost use Rattle.pool.specs.Stepping.{HasStepped, IsFree, ReadsFrom, grown, seated, with_job};
     ghost use Rattle.store_workers.specs.SourceReads.{place_awaited};
     ghost use Rattle.store_workers.specs.Ended.{GivesAllBack};
     ghost use Rattle.store_workers.specs.declared.workers.parts.Phase.TheVariants.{Reading};
 
-    /// An idle worker of a store with this boot number.
-    pub(crate) fn new(alloc: Global, boot: u64) -> Work
-        ensures { result ≡ seated_at boot }
+    /// An idle worker.
+    pub(crate) fn new(alloc: Global) -> Work
+        ensures { result ≡ seated }
     {
         Work {
-            worker: Worker::new(alloc, boot),
+            worker: Worker::new(alloc),
             held: None,
             answer: None,
             told: Told::Nothing,
@@ -89,8 +91,9 @@ impl Work {
         self.worker.is_idle() && self.answer.is_none()
     }
 
-    /// Hands it a job at this moment. One that isn't free gives the job back.
+    /// Hands it a job at this moment, of less than a second of nanoseconds. One that isn't free gives the job back.
     pub(crate) fn hand(&mut self, job: Job, moment: Moment) -> Result<(), Job>
+        requires { SoundTime moment }
         ensures took { OnOk result (self.new ≡ with_job job moment self.old) }
         ensures busy { IfErr result (λ back. (back ≡ job) × (self.new ≡ self.old)) }
         ensures cause { IsErr result ↔ (IsFree self.old → ⊥) }
@@ -151,6 +154,7 @@ impl Work {
     pub(crate) fn step(&mut self, alloc: Global, core: &mut Core<Done>) -> Turn
         ensures step { HasStepped self.old core.old result self.new core.new }
         ensures places { core.new.log.places ≡ core.old.log.places + grown self.new.told }
+        ensures calls { HandsOutNone core.old core.new }
     {
         let (made, given) = advance(alloc, core, &mut self.worker);
         let ready = self.answer.take();

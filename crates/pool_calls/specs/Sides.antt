@@ -1,5 +1,5 @@
 -- What one step of the logger or of the installer makes of the core and of its seat.
-use Rattle.std.specs.Prelude.{◌≡◌, Bool, true, false, Option, Some, None}
+use Rattle.std.specs.Prelude.{◌≡◌, ℕ, Bool, true, false, Option, Some, None}
 use Rattle.log_seats.specs.Steps.{ComesBack, GoesOut}
 use Rattle.txn_law.specs.Core.{CoreState}
 use Rattle.wal_law.specs.Io.{Io}
@@ -25,3 +25,15 @@ HasTurned may Goes Comes old (Some io) (Some ok) turn.Moved new next later =
     Comes old io ok new × (next ≡ None) × (later ≡ None)
 HasTurned may Goes Comes old (Some io) (Some ok) turn.Idle new next later = ⊥
 HasTurned may Goes Comes old (Some io) (Some ok) turn.Broken new next later = ⊥
+
+-- how many calls a step has handed out, by the call that was out before it and the one that is out then
+abbrev pub gone : Option Io → Option Io → ℕ
+gone None (Some io) = 1
+gone None None = 0
+gone (Some io) next = 0
+
+-- No device call is handed out, and the boot number stays.
+pub record HandsOutNone (old new : CoreState) : Type 0 where
+  pub log : new.log_calls ≡ old.log_calls
+  pub inst : new.inst_calls ≡ old.inst_calls
+  pub boot : new.boot ≡ old.boot

@@ -3,6 +3,7 @@ ghost use Rattle.std.specs.Prelude.{◌≡◌, ◌↔◌, IsTrue, IsSome, IfSome
 ghost use Rattle.log_seats.specs.Making.{IsTriedOn};
 ghost use Rattle.log_seats.specs.Steps.{HasEnded, HasStepped, InstComesBack, InstGoesOut, LogComesBack, LogGoesOut};
 ghost use Rattle.pool_calls.specs.Numbers.{IsShown};
+ghost use Rattle.pool_calls.specs.Sides.{HandsOutNone};
 ghost use Rattle.wal_law.specs.Installer.{may_install};
 ghost use Rattle.wal_law.specs.Logger.{may_log};
 
@@ -71,7 +72,8 @@ pub trait Caller {
     /// Gives back what is out.
     fn end<C: Change>(self, core: &mut Core<C>)
         ensures back { HasEnded comes core.old (out self) (made self) core.new }
-        ensures places { core.new.log.places ≡ core.old.log.places };
+        ensures places { core.new.log.places ≡ core.old.log.places }
+        ensures calls { HandsOutNone core.old core.new };
 }
 
 impl Caller for Logger {

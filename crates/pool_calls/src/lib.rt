@@ -3,17 +3,17 @@
 #![tactic(auto)]
 
 mod caller;
-mod counter;
 mod gate;
 mod handed;
 mod seat;
 mod steps;
 mod turn;
+mod whole;
 
 pub use caller::{Caller, Shown};
-pub use counter::{Counter, Whole};
 pub use gate::{Gate, NoGate, Point};
 pub use handed::HandedOut;
 pub use seat::IoSeat;
 pub use steps::{give_up, make_call, step_calls};
 pub use turn::Turn;
+pub use whole::Whole;

@@ -2,29 +2,31 @@
 ghost use Rattle.std.specs.Prelude.{◌≡◌, ◌+◌, ◌<◌, ◌∷◌, ◌++◌, [], length, None, Some, IsSome, IsTrue, ◌↔◌};
 ghost use Rattle.log_seats.specs.Steps.{HasEnded};
 ghost use Rattle.pool_calls.specs.Numbers.{IsTied, MakesCall, due, number_of, numbers, upto};
-ghost use Rattle.pool_calls.specs.Sides.{HasTurned};
+ghost use Rattle.pool_calls.specs.Sides.{HandsOutNone, HasTurned, gone};
 
-use crate::{Caller, Counter, Gate, HandedOut, IoSeat, Shown, Turn, Whole};
+use crate::{Caller, Gate, HandedOut, IoSeat, Shown, Turn, Whole};
 use disk::{Failed, Port};
 use http_server::Log;
 use log_seats::Stepped;
 use std::snapshot::Snapshot;
-use std::sync::ledger::Ledger;
+use std::sync::ledger::Book;
 use txn::{Change, Core};
 
 /// One step of the logger or of the installer: one call of the core at most. A call that is handed out gets the next
-/// number.
+/// number, and is written into the book.
+#[tactic(auto, using(crate::proofs::Gone::gone_next, crate::proofs::Gone::gone_done, crate::proofs::Gone::gone_idle, crate::proofs::Gone::gone_still))]
 pub fn step_calls<C: Change, G: Whole, S: Caller>(
     core: &mut Core<C>,
-    counter: &mut Counter<G>,
+    book: &mut Book<G>,
     seat: &mut IoSeat<G, S>,
 ) -> Turn
     ensures step { HasTurned S.may S.goes S.comes core.old (S.out seat.old.side) (S.made seat.old.side) result
         core.new (S.out seat.new.side) (S.made seat.new.side) }
     ensures numbered { S.out seat.old.side ≡ None → IsSome (S.out seat.new.side)
         → length seat.new.number.items ≡ seat.old.calls.amount + 1 }
-    ensures counted { G.all ≡ G.parts → (length counter.old.count.items ≡ seat.old.calls.amount)
-        × (length counter.new.count.items ≡ seat.new.calls.amount) }
+    ensures counted { G.all ≡ G.parts → (book.old.total ≡ seat.old.calls.amount)
+        × (book.new.total ≡ seat.new.calls.amount) }
+    ensures gone { book.new.total ≡ book.old.total + gone (S.out seat.old.side) (S.out seat.new.side) }
     ensures taken { seat.new.taken ≡ seat.old.taken }
 {
     let IoSeat {
@@ -33,14 +35,14 @@ pub fn step_calls<C: Change, G: Whole, S: Caller>(
         taken: _,
         number,
     } = seat;
-    counter.book.audit(calls);
+    book.audit(calls);
     if !side.is_out() && core.broken() {
         return Turn::Broken;
     }
     match side.step(core) {
         None => Turn::Idle,
         Some(Stepped::Next(_)) => {
-            counter.add(calls);
+            book.add(calls, 1);
             *number = number.and(&(), &());
             Turn::Moved
         }
@@ -52,6 +54,7 @@ pub fn step_calls<C: Change, G: Whole, S: Caller>(
 pub fn give_up<C: Change, G: Whole, S: Caller>(core: &mut Core<C>, seat: IoSeat<G, S>)
     ensures back { HasEnded S.comes core.old (S.out seat.side) (S.made seat.side) core.new }
     ensures places { core.new.log.places ≡ core.old.log.places }
+    ensures calls { HandsOutNone core.old core.new }
 {
     let IoSeat {
         side,

@@ -1,10 +1,14 @@
 -- What is told of a record is what it is, but that a call for which memory was refused is told as refused.
-use Rattle.std.proofs.Common.{◌≡◌, refl, sym, ap, subst, ℕ, Bool, true, false, true≢false, inl, inr, ◌⊎◌}
+use Rattle.std.proofs.Common.{◌≡◌, refl, sym, ap, subst, ℕ, List, Bool, true, false, true≢false, inl, inr, ◌⊎◌}
 use Rattle.nfs_types.specs.declared.ctx.Credential.{Credential}
 use Rattle.nfs_types.specs.declared.program.ProgramCall.{ProgramCall}
 use Rattle.nfs_types.specs.declared.program.ProgramCall.TheVariants.{Mount, Nfs}
 use Rattle.rpc.specs.declared.refusal.Refusal.{Refusal}
-use Rattle.session_wire.specs.Judging.{Judges}
+use Rattle.nfs_types.specs.declared.call.Call as nfs
+use Rattle.nfs_types.specs.Fits.{CallFits, ProgramCallFits}
+use Rattle.session_wire.specs.Judging.{Judges, judged}
+use Rattle.session_wire.proofs.CallLaws.{judged_takes}
+use Rattle.xdr.proofs.Coded.{IsBytes}
 use Rattle.session_wire.specs.declared.message.Judged.{Judged}
 use Rattle.session_wire.specs.declared.message.Judged.TheVariants.{Closed, Refused, Call}
 use Rattle.session_wire.specs.declared.message.ReplyBody.{ReplyBody}
@@ -36,6 +40,14 @@ called Closed xid credential call is = sym is
 called (Refused number why) xid credential call is = sym is
 called (Call number caller asked) xid credential call (inl is) = sym is
 called (Call number caller asked) xid credential call (inr is) = search
+
+-- and can be spelled
+pub fits : (message : List ℕ) (xid : ℕ) (credential : Credential) (call : nfs.Call) → IsBytes message
+    → Judges (Call xid credential (Nfs call)) (judged message) → CallFits call
+fits message xid credential call bytes told =
+    let t = judged_takes message xid credential (Nfs call) bytes
+    (called (judged message) xid credential (Nfs call) told) in
+    subst ProgramCallFits t.1.call_is t.1.spelled.call_fits
 
 other : {xid number : ℕ} {why : Refusal} {credential : Credential} {call : ProgramCall}
     → Refused xid why ≡ Call number credential call → ⊥

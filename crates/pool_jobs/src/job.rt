@@ -1,4 +1,5 @@
 //! A job: a call of NFS with the connection that it came from.
+ghost use Rattle.nfs_types.specs.Fits.{CallFits};
 ghost use Rattle.pool_jobs.specs.Spelled.{SpellsJob};
 
 use bytes::Bytes;
@@ -6,7 +7,7 @@ use nfs_types::{Call, Credential};
 use std::snapshot::Snapshot;
 
 /// What a connection hands to a worker: the connection's key and number, the call's number, who calls and what.
-/// Its type keeps that these are what a record spells.
+/// Its type keeps that these are what a record spells, and that the call can be spelled.
 #[derive(Drop)]
 pub struct Job {
     pub key: usize,
@@ -16,6 +17,7 @@ pub struct Job {
     pub call: Call,
     pub(crate) message: Snapshot<Bytes>,
     pub ghost spelled: { SpellsJob message.value xid credential call },
+    pub ghost fits: { CallFits call },
 }
 
 impl Job {

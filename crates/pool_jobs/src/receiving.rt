@@ -1,5 +1,5 @@
 //! From a record of a connection to a job, or to an answer where it begins no transaction.
-ghost use Rattle.std.specs.Prelude.{◌≡◌, ◌⊎◌};
+ghost use Rattle.std.specs.Prelude.{◌≡◌, ◌⊎◌, ◌<◌, ℕ, get_or};
 ghost use Rattle.model.specs.Mount.{mount_reply};
 ghost use Rattle.nfs_types.specs.declared.program.ProgramReply.TheVariants as program_replies;
 ghost use Rattle.pool_jobs.specs.Received.{IsReceived};
@@ -26,10 +26,11 @@ pub enum Received {
 }
 
 /// Receives a message, a whole record of the connection of this key and number.
-#[tactic(auto, using(crate::proofs::Judgements::closed, crate::proofs::Judgements::refused, crate::proofs::Judgements::called))]
+#[tactic(auto, using(crate::proofs::Judgements::closed, crate::proofs::Judgements::refused, crate::proofs::Judgements::called, crate::proofs::Judgements::fits))]
 pub fn receive(alloc: Global, key: usize, number: u64, message: &Bytes) -> Received
     ensures { IsReceived key number message.now result }
 {
+    are_bytes(message);
     match judge(alloc, message) {
         Judged::Closed => Received::Closed,
         Judged::Refused { xid, refusal } => Received::Answered(Answer {
@@ -60,6 +61,11 @@ pub fn receive(alloc: Global, key: usize, number: u64, message: &Bytes) -> Recei
         },
     }
 }
+
+// Each byte of a message is below 256.
+fn are_bytes(message: &[u8])
+    ensures { (index : ℕ) → get_or message.now index 0 < 256 }
+{}
 
 // What a call of MOUNT is answered.
 fn mounted(alloc: Global, call: &MountCall) -> ReplyBody

@@ -30,17 +30,13 @@ where
     F: BlockFile + Send + Sync,
     R: Threads + Wait + Clock + Sync,
 {
-    let (core, boot, disk) = parts(store);
+    let (core, _, disk) = parts(store);
     let Ok((log, home, sources)) = disk.split(alloc, workers as usize) else {
         return Err(ServeFault::Memory);
     };
     let sides = Sides { log, home, sources };
     let ledgers = Ledgers::new(workers);
-    let opened = Opened {
-        core,
-        boot,
-        workers,
-    };
+    let opened = Opened { core, workers };
     serve_opened::<Brand, Brand, Brand, F, R>(
         rt,
         alloc,
@@ -56,7 +52,6 @@ where
 #[derive(Drop)]
 struct Opened {
     core: Core<Done>,
-    boot: u64,
     workers: u32,
 }
 
@@ -79,16 +74,13 @@ where
     requires commits { (ledgers.commits.name ≡ L.name) × (ledgers.commits.parts ≡ L.parts)
         × (ledgers.commits.parts ≡ opened.workers + 1) }
     requires logged { (ledgers.logged.name ≡ G.name) × (ledgers.logged.parts ≡ G.parts)
-        × (G.all ≡ G.parts) × (ledgers.logged.parts ≡ 1) }
+        × (G.all ≡ G.parts) × (ledgers.logged.parts ≡ 1) × (G.first ≡ opened.core.log_calls) }
     requires installed { (ledgers.installed.name ≡ I.name) × (ledgers.installed.parts ≡ I.parts)
-        × (I.all ≡ I.parts) × (ledgers.installed.parts ≡ 1) }
+        × (I.all ≡ I.parts) × (ledgers.installed.parts ≡ 1) × (I.first ≡ opened.core.inst_calls) }
+    requires boot { opened.core.boot ≡ G.boot }
 {
-    let Opened {
-        core,
-        boot,
-        workers,
-    } = opened;
-    match begin::<L, G, I>(alloc, core, boot, workers, ledgers) {
+    let Opened { core, workers } = opened;
+    match begin::<L, G, I>(alloc, core, workers, ledgers) {
         Ok(pool) => serve(rt, alloc, pool, sides, listener, connections),
         Err(_) => Err(ServeFault::Memory),
     }

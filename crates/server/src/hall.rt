@@ -1,4 +1,6 @@
 //! What the threads share.
+ghost use Rattle.model.specs.Sound.{SoundTime};
+
 use crate::connection::Connection;
 use crate::jobs::Jobs;
 use crate::sizes::{MOST_KEPT_COMMITS, URGENT_COMMITS};
@@ -88,8 +90,10 @@ impl Signs {
         })
     }
 
-    /// The moment of a call.
-    pub fn moment<R: Wait + Clock>(&self, rt: &R) -> Moment {
+    /// The moment of a call, of less than a second of nanoseconds.
+    pub fn moment<R: Wait + Clock>(&self, rt: &R) -> Moment
+        ensures { SoundTime result }
+    {
         let now = match rt.since_1970() {
             Ok(time) => moment_of(time),
             Err(_) => None,

@@ -1,5 +1,6 @@
 //! Answering one record.
 ghost use Rattle.std.specs.Prelude.{◌≡◌, ℕ, ◌<◌, get_or};
+ghost use Rattle.model.specs.Sound.{SoundTime};
 ghost use Rattle.store_images.specs.Opening.{store_of};
 ghost use Rattle.store_images.specs.Settling.{IsIdle};
 ghost use Rattle.session.specs.Serving.{reply_for};
@@ -25,7 +26,8 @@ pub fn serve_record<D: CrashDisk, W: Write>(
     writer: &mut W,
     moment: Moment,
 ) -> Result<(), SessionFault>
-    requires { IsIdle store.old.core }
+    requires idle { IsIdle store.old.core }
+    requires timely { SoundTime moment }
     ensures idle { IsIdle store.new.core }
     ensures boot { store.new.boot ≡ store.old.boot }
     ensures model { D.keeps_model store.new.disk → D.keeps_model store.old.disk }
@@ -62,6 +64,7 @@ fn serve_call<D: CrashDisk, W: Write>(
     moment: Moment,
 ) -> Result<(), SessionFault>
     requires idle { IsIdle store.old.core }
+    requires timely { SoundTime moment }
     requires fits { TakesCall credential call }
     ensures idle { IsIdle store.new.core }
     ensures boot { store.new.boot ≡ store.old.boot }

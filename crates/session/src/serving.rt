@@ -2,6 +2,7 @@
 ghost use Rattle.std.specs.Prelude.{◌≡◌, ◌<◌, ◌≤◌, ◌⊎◌, ◌++◌, [], ◌∷◌, ℕ, List, Option, IfOk, IfErr, IfSome, IfNone};
 ghost use Rattle.std.specs.Prelude.{OnOk, OnErr, IsErrOf, length, take};
 ghost use Rattle.std.specs.Io.KnownBytes.{Consumes, IsAtEnd, Keeps};
+ghost use Rattle.model.specs.Sound.{SoundTime};
 ghost use Rattle.store_images.specs.Opening.{Opened, store_of};
 ghost use Rattle.store_images.specs.Settling.{IsIdle};
 ghost use Rattle.rpc.specs.Records.{HasBegun, IsRecord, IsTooLong};
@@ -46,9 +47,9 @@ pub enum SessionFault {
     Device,
 }
 
-/// Answers the records of a stream in their order, each call at the moment, and gives the count of the
-/// replies. At the end of the input everything is settled. The records before a fault are answered, and then,
-/// but after Output, what can be settled is settled too.
+/// Answers the records of a stream in their order, each call at the moment, which is one of less than a second
+/// of nanoseconds, and gives the count of the replies. At the end of the input everything is settled. The
+/// records before a fault are answered, and then, but after Output, what can be settled is settled too.
 #[tactic(auto, using(crate::specs::Serving::has_served))]
 pub fn serve<D: CrashDisk, R: Read, W: Write>(
     alloc: Global,
@@ -57,7 +58,8 @@ pub fn serve<D: CrashDisk, R: Read, W: Write>(
     writer: &mut W,
     moment: Moment,
 ) -> Result<u64, SessionFault>
-    requires { IsIdle store.old.core }
+    requires idle { IsIdle store.old.core }
+    requires timely { SoundTime moment }
     ensures idle { IsIdle store.new.core }
     ensures boot { store.new.boot ≡ store.old.boot }
     ensures model { D.keeps_model store.new.disk → D.keeps_model store.old.disk }
@@ -98,7 +100,8 @@ fn serve_all<D: CrashDisk, R: Read, W: Write>(
     writer: &mut W,
     moment: Moment,
 ) -> Result<u64, SessionFault>
-    requires { IsIdle store.old.core }
+    requires idle { IsIdle store.old.core }
+    requires timely { SoundTime moment }
     ensures idle { IsIdle store.new.core }
     ensures boot { store.new.boot ≡ store.old.boot }
     ensures model { D.keeps_model store.new.disk → D.keeps_model store.old.disk }
@@ -152,7 +155,8 @@ fn serve_piece<D: CrashDisk, W: Write>(
     moment: Moment,
     count: u64,
 ) -> Result<u64, SessionFault>
-    requires { IsIdle store.old.core }
+    requires idle { IsIdle store.old.core }
+    requires timely { SoundTime moment }
     ensures idle { IsIdle store.new.core }
     ensures boot { store.new.boot ≡ store.old.boot }
     ensures model { D.keeps_model store.new.disk → D.keeps_model store.old.disk }
@@ -202,7 +206,8 @@ fn serve_records<D: CrashDisk, W: Write>(
     moment: Moment,
     count: u64,
 ) -> Result<u64, SessionFault>
-    requires { IsIdle store.old.core }
+    requires idle { IsIdle store.old.core }
+    requires timely { SoundTime moment }
     ensures idle { IsIdle store.new.core }
     ensures boot { store.new.boot ≡ store.old.boot }
     ensures model { D.keeps_model store.new.disk → D.keeps_model store.old.disk }

@@ -68,8 +68,7 @@ use Rattle.store_images.proofs.StillOpen.{further_then, same_further}
 -- ---- a call begins
 
 abbrev handed_to : Outset → State
-handed_to o = with_call (ctx_of o.asked.credential o.asked.moment o.store.boot) o.asked.call
-    (at_rest o.store.boot)
+handed_to o = with_call (ctx_of o.asked.credential o.asked.moment) o.asked.call at_rest
 
 pub begins : (o : Outset) (worker : State) → SoundCall o.asked.credential o.asked.moment o.asked.call
     → IsIdle o.store.core
@@ -88,15 +87,13 @@ begins o worker sound idle is with opened = record {
       (subst (λ (es : List Entry). IsOpenAt opened.base o.store [] o.first es o.last)
       (sym (append-nil o.entries)) opened.opened);
   stands = subst (λ (w : State). IsWorkerAt o.store.boot (o.entries ++ []) w) (sym is) (record {
-    boot_is = refl;
     entry = refl;
     answer = refl;
-    stands = record { boot_is = refl; sound = sound };
+    stands = sound;
   });
   at_work = subst (λ (w : State). IsCoreAtWork w o.store.core) (sym is) (record {
     with = subst (λ (w : State). GoesWith w o.store.core) is with;
-    alone = starts_alone (handed_to o) o.store.core o.store.boot
-        (ctx_of o.asked.credential o.asked.moment o.store.boot) o.asked.call refl idle.out idle.fetches;
+    alone = starts_alone (handed_to o) o.store.core (ctx_of o.asked.credential o.asked.moment) o.asked.call refl idle.out idle.fetches;
     loads = tt;
     notes = tt;
   });
@@ -405,7 +402,6 @@ again_goes o now worker stepped planning with =
         opened = subst (λ fetches. IsOpenAt was.base now fetches o.first entries was.last)
             (ap (λ (p : phases.Phase). fetches_in p worker.begun.io) planning) was.opened;
         stands = record {
-          boot_is = was.stands.boot_is;
           entry = was.stands.entry;
           answer = was.stands.answer;
           stands = subst (λ (p : phases.Phase). StandsAt o.store.boot entries p (told worker)) planning
@@ -503,7 +499,7 @@ idle_by : (boot : ℕ) (done : List Entry) (state : State) (phase : phases.Phase
     → phase ≡ Phase.Idle
 idle_by boot done state Phase.Idle stands idle = refl
 idle_by boot done state Phase.Called stands idle =
-    absurd (none_of (IsJobOf boot) state.work.job _ stands idle)
+    absurd (none_of IsJobOf state.work.job _ stands idle)
 idle_by boot done state Phase.Planning stands idle =
     absurd (none_of (IsJobIn boot state.begun.tx) state.work.job _ stands idle)
 idle_by boot done state Phase.Reading stands idle =

@@ -27,9 +27,9 @@ use Rattle.store_workers.specs.declared.workers.parts.Phase.TheVariants.{Again}
 use Rattle.store_workers.specs.declared.workers.parts.State.{State}
 
 -- a worker that has just taken a call is alone where no fetch is pending
-pub starts_alone : (state : State) (core : CoreState) (boot : _) (ctx : Ctx) (call : Call)
-    → state ≡ with_call ctx call (at_rest boot) → core.out ≡ [] → FetchesOnly None core → IsAlone state core
-starts_alone state core boot ctx call is out none = subst (λ (s : State). IsAlone s core) (sym is)
+pub starts_alone : (state : State) (core : CoreState) (ctx : Ctx) (call : Call)
+    → state ≡ with_call ctx call at_rest → core.out ≡ [] → FetchesOnly None core → IsAlone state core
+starts_alone state core ctx call is out none = subst (λ (s : State). IsAlone s core) (sym is)
     (record { out = out; fetches = none; left = refl; plans = tt })
 
 -- one that begins again has no fetch but its own

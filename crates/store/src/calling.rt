@@ -43,8 +43,7 @@ pub fn a_settled_store_stays_open()
 pub(crate) fn a_call_begins()
     ensures { (o : Outset) (worker : State) → SoundCall o.asked.credential o.asked.moment o.asked.call
         → IsIdle o.store.core
-        → worker ≡ with_call (ctx_of o.asked.credential o.asked.moment o.store.boot) o.asked.call
-        (at_rest o.store.boot)
+        → worker ≡ with_call (ctx_of o.asked.credential o.asked.moment) o.asked.call at_rest
         → GoesWith worker o.store.core → IsOpenWith o.store o.first o.entries o.last
         → IsCalling o o.store worker }
 {}

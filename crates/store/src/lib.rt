@@ -13,5 +13,5 @@ pub use store_promise::{
     Answer, CallAnswer, Committed, Committing, Ending, Entry, Event, OpenFault, Run, Step, Verdict,
     Wish,
 };
-pub use store_runs::{format_and_run, run};
+pub use store_runs::{can_be_spelled, format_and_run, run};
 pub use store_workers::Worker;

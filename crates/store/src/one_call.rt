@@ -1,6 +1,8 @@
 //! One call to its answer, by one thread.
 ghost use Rattle.std.specs.Prelude.{◌≡◌, ◌≤◌, ◌⊎◌, length, true};
 ghost use Rattle.limits.specs.declared.TheConstants.{MOST_KEPT_COMMITS};
+ghost use Rattle.model.specs.Sound.{SoundTime};
+ghost use Rattle.nfs_types.specs.Fits.{CallFits};
 ghost use Rattle.store_workers.specs.Alone.{IsAlone, IsOutAlone, is_full};
 ghost use Rattle.store.specs.Calling.{Answers, HasAnswered, HasStepped, IsCalling, Outset, asked_of};
 ghost use Rattle.store.specs.Driving.{HasGoneOn, IsUnderWay, steps_left, waits_for_log};
@@ -26,10 +28,10 @@ use store_workers::Worker;
 /// Runs a call to its answer. Where the answer waits for its place everything is settled before; where the
 /// log is full, too, and so it is where more than MOST_KEPT_COMMITS commits are kept then, since that brings
 /// home what is logged. A call that isn't served is answered NOTSUPP, and NULL its reply; neither begins a
-/// transaction. Where the moment is sound and the device keeps its model, a store that is open with some
-/// entries is open with the same then, or with the call's besides, whose reply is answered; else the answer
-/// says why there is none. Each stop on the way leaves the files after a beginning of these entries, in which
-/// is each place that was settled before.
+/// transaction. The call can be spelled, and comes at a moment of less than a second of nanoseconds. Where the
+/// device keeps its model, a store that is open with some entries is open with the same then, or with the
+/// call's besides, whose reply is answered; else the answer says why there is none. Each stop on the way leaves
+/// the files after a beginning of these entries, in which is each place that was settled before.
 #[tactic(auto, using(crate::proofs::Driven::starts, crate::proofs::DrivenAlone::starts_alone))]
 pub fn procedure<D: CrashDisk>(
     alloc: Global,
@@ -38,7 +40,9 @@ pub fn procedure<D: CrashDisk>(
     moment: Moment,
     call: Call,
 ) -> Verdict
-    requires { IsIdle store.old.core }
+    requires idle { IsIdle store.old.core }
+    requires timely { SoundTime moment }
+    requires spelled { CallFits call }
     ensures idle { IsIdle store.new.core }
     ensures boot { store.new.boot ≡ store.old.boot }
     ensures answered { Answers (D.keeps_model store.new.disk)
@@ -49,7 +53,7 @@ pub fn procedure<D: CrashDisk>(
     ensures model { D.keeps_model store.new.disk → D.keeps_model store.old.disk }
 {
     a_call_begins();
-    let mut worker = Worker::new(alloc, store.boot);
+    let mut worker = Worker::new(alloc);
     worker.hand(credential, moment, call);
     let verdict = answer(alloc, store, &mut worker);
     worker.end(&mut store.core);

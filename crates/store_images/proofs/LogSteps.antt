@@ -94,9 +94,10 @@ same_transactions core = record {
   loaded = λ tx addr content some there. there;
 }
 
-pub log_alone : (old new : CoreState) → new ≡ record old { log = new.log }
+pub log_alone : (old new : CoreState) (log_calls inst_calls : ℕ)
+    → new ≡ record old { log = new.log; log_calls = log_calls; inst_calls = inst_calls }
     → ((tx : ℕ) → KeepsReads old new tx) → KeepsTransactions old new
-log_alone old new is stays = record {
+log_alone old new log_calls inst_calls is stays = record {
   inodes = ap (λ (c : CoreState). c.inodes) is;
   begun = ap (λ (c : CoreState). c.begun) is;
   out = ap (λ (c : CoreState). c.out) is;
@@ -123,15 +124,17 @@ fewer old new kept block pending = sym (kept.fetches block) ∙ pending
 
 pub same_core_places : (base : Image) (core : CoreState) → KeepsPlaces base core base core
 same_core_places base core = same_places base core core
-    (record { log = same_changes core.log core.log refl; inodes = refl; records = refl })
+    (record { log = same_changes core.log core.log refl; inodes = refl; records = refl; boot = refl })
 
 -- a step that changes nothing of the log but what it has out keeps the places
-pub log_places : (base : Image) (old new : CoreState) → new ≡ record old { log = new.log }
+pub log_places : (base : Image) (old new : CoreState) (log_calls inst_calls : ℕ)
+    → new ≡ record old { log = new.log; log_calls = log_calls; inst_calls = inst_calls }
     → HasSameChanges old.log new.log → KeepsPlaces base old base new
-log_places base old new is log = same_places base old new (record {
+log_places base old new log_calls inst_calls is log = same_places base old new (record {
   log = log;
   inodes = ap (λ (c : CoreState). c.inodes) is;
   records = ap (λ (c : CoreState). c.records) is;
+  boot = ap (λ (c : CoreState). c.boot) is;
 })
 
 -- ---- no step

@@ -256,7 +256,10 @@ module _ (before : Device) (tree : Tree) (first : ℕ) (holds : HoldsTree before
       inodes_are : (super : Super) → IsSuper content super → super.geometry.inodes ≡ raised.geometry.inodes
       inodes_are super is = is.inodes ∙ sym is_raised.inodes
 
-      pub is_new : (core : CoreState) → core ≡ record {
+      boots_are : (super : Super) → IsSuper content super → super.boot ≡ raised.boot
+      boots_are super is = is.boot ∙ sym is_raised.boot
+
+      pub is_new : (core : CoreState) (log_calls inst_calls : ℕ) → core ≡ record {
         log = log;
         inodes = found.geometry.inodes;
         begun = 0;
@@ -264,9 +267,12 @@ module _ (before : Device) (tree : Tree) (first : ℕ) (holds : HoldsTree before
         holds = [];
         present = [];
         records = [];
+        boot = raised.boot;
+        log_calls = log_calls;
+        inst_calls = inst_calls;
       } → AreTidy core → IsFresh log → log.broken ≡ false → IsUnspoiled now
           → (base : Image) × IsNewOver base later core
-      is_new core is tidy fresh sound spoiled =
+      is_new core log_calls inst_calls is tidy fresh sound spoiled =
           subst (λ (c : CoreState). AreTidy c → (base : Image) × IsNewOver base later c) (sym is) (λ tidy. (
             home,
             record {
@@ -292,5 +298,6 @@ module _ (before : Device) (tree : Tree) (first : ℕ) (holds : HoldsTree before
               sound = sound;
               inodes = λ super is_super_of.
                   inodes_are super is_super_of ∙ ap (λ (g : Geometry). g.inodes) geometry;
+              boot = boots_are;
             },
           )) tidy

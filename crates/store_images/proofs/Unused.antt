@@ -6,11 +6,10 @@ use Rattle.disk.specs.Device.{Content}
 use Rattle.disk.specs.declared.block.BlockNo.{BlockNo}
 use Rattle.objects.specs.Present.{content_in, is_pending, present_of}
 use Rattle.objects.specs.declared.present.Present.{Present}
-use Rattle.txn_law.specs.Core.{CoreState, past}
+use Rattle.txn_law.specs.Core.{CoreState, past, with_inst_call}
 use Rattle.txn_law.specs.Leaves.{in_memory, is_fetching}
-use Rattle.wal_law.specs.Installer.{with_inst_out}
 use Rattle.wal_law.specs.Io.{Io}
-use Rattle.wal_law.specs.Log.{Log, installed_place}
+use Rattle.wal_law.specs.Log.{installed_place}
 use Rattle.log_seats.specs.Steps.{InstComesBack, InstGoesOut}
 use Rattle.store_images.specs.BringingHome.{unused}
 
@@ -31,12 +30,10 @@ none_there (one ∷ rest) pending there = absurd (by one.content refl)
     by (Some content) is = there one.block content (ap content_in first ∙ is)
     by None is = true≢false (sym (ap is_pending first ∙ ap is_none is) ∙ pending one.block)
 
-pub stays_unused : (old mid new : CoreState) (io : Io) (ok : Bool) (inodes : ℕ) → old ≡ unused old.log inodes
-    → InstGoesOut old io mid → InstComesBack mid io ok new → new ≡ unused new.log inodes
-stays_unused old mid new io ok inodes is goes back =
-    let taken : Log = with_inst_out old.log in
-    let mid_is : mid ≡ unused taken inodes =
-    goes.core ∙ ap (λ (core : CoreState). record core { log = taken }) is in
+pub stays_unused : (old mid new : CoreState) (io : Io) (ok : Bool) → old ≡ unused old
+    → InstGoesOut old io mid → InstComesBack mid io ok new → new ≡ unused new
+stays_unused old mid new io ok is goes back =
+    let mid_is : mid ≡ unused mid = goes.core ∙ ap with_inst_call is ∙ sym (ap unused goes.core) in
     let none : new.present ≡ [] = none_there new.present
     (λ block. back.leaves.fetches block ∙ ap (λ (core : CoreState). is_fetching core block) mid_is)
     (λ block content some. let was : in_memory mid block ≡ Some content = back.leaves.comes block content some in
@@ -47,4 +44,5 @@ stays_unused old mid new io ok inodes is goes back =
       records = past (installed_place new.log) core.records;
       present = new.present;
     }) mid_is
-    ∙ ap (λ (present : List Present). record (unused new.log inodes) { present = present }) none
+    ∙ ap (λ (present : List Present). record (unused mid) { log = new.log; present = present }) none
+    ∙ sym (ap unused back.core)

@@ -18,17 +18,9 @@ use Rattle.store_promise.specs.declared.fault.OpenFault.{OpenFault}
 use Rattle.store_promise.specs.declared.fault.OpenFault.TheVariants as fault
 use Rattle.store_promise.specs.Openings.{AtEachStop, IsLater, IsOfAnother}
 
--- a core over a log, in which nothing was begun
-abbrev pub unused : Log → ℕ → CoreState
-unused log inodes = record {
-  log = log;
-  inodes = inodes;
-  begun = 0;
-  out = [];
-  holds = [];
-  present = [];
-  records = [];
-}
+-- the core, as one in which nothing was begun
+abbrev pub unused : CoreState → CoreState
+unused core = record core { begun = 0; out = []; holds = []; present = []; records = [] }
 
 -- An image that can be opened, whose blocks, with its log laid over them, are those of a first image with the
 -- log of that laid over them, save for the super block, which is this.

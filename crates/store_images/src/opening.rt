@@ -87,7 +87,8 @@ fn recover<D: CrashDisk>(alloc: Global, disk: &mut D) -> Result<(Core<Done>, u64
     };
     wal.lawful();
     layout::a_super_block_is_its_bytes();
-    let mut core = Core::new(alloc, wal, found.geometry.inodes);
+    let boot = found.boot + 1;
+    let mut core = Core::new(alloc, wal, found.geometry.inodes, boot);
     core.lawful();
     if let Err(fault) = install(disk, &mut core) {
         return Err(fault);
@@ -95,12 +96,12 @@ fn recover<D: CrashDisk>(alloc: Global, disk: &mut D) -> Result<(Core<Done>, u64
     core.lawful();
     let raised = Super {
         geometry: found.geometry,
-        boot: found.boot + 1,
+        boot,
     };
     if let Err(fault) = raise(alloc, disk, &mut block, raised) {
         return Err(fault);
     }
-    Ok((core, raised.boot))
+    Ok((core, boot))
 }
 
 // The super block and the log of an image that may be opened. It only reads.
@@ -206,14 +207,16 @@ fn super_in(block: &Block, blocks: u32) -> Result<Super, OpenFault>
 // Makes the calls of an installation of all that is logged.
 fn install<D: CrashDisk>(disk: &mut D, core: &mut Core<Done>) -> Result<(), OpenFault>
     requires size { (D.device disk.old).size ≡ core.old.log.blocks }
-    requires bare { core.old ≡ unused core.old.log core.old.inodes }
+    requires bare { core.old ≡ unused core.old }
     requires fresh { IsFresh core.old.log }
     requires quiet { IsQuiet core.old.log }
     requires sound { core.old.log.broken ≡ false }
     ensures quiet { IsQuiet core.new.log }
     ensures later { IsLater (D.device disk.old) (D.device disk.new) }
     ensures blocks { core.new.log.blocks ≡ core.old.log.blocks }
-    ensures bare { core.new ≡ unused core.new.log core.old.inodes }
+    ensures bare { core.new ≡ unused core.new }
+    ensures inodes { core.new.inodes ≡ core.old.inodes }
+    ensures boot { core.new.boot ≡ core.old.boot }
     ensures fresh { IsFresh core.new.log }
     ensures none { OnOk result ((core.new.log.broken ≡ false) × (may_install core.new.log ≡ false)) }
     ensures clean { OnOk result (IsUnspoiled (D.device disk.old) → IsUnspoiled (D.device disk.new)) }
@@ -237,13 +240,15 @@ fn install<D: CrashDisk>(disk: &mut D, core: &mut Core<Done>) -> Result<(), Open
 #[tactic(auto, using(log_seats::proofs::Made::made_size, log_seats::proofs::Made::made_later, log_seats::proofs::Made::made_clean))]
 fn install_one<D: CrashDisk>(disk: &mut D, core: &mut Core<Done>) -> bool
     requires size { (D.device disk.old).size ≡ core.old.log.blocks }
-    requires bare { core.old ≡ unused core.old.log core.old.inodes }
+    requires bare { core.old ≡ unused core.old }
     requires fresh { IsFresh core.old.log }
     requires quiet { IsQuiet core.old.log }
     ensures quiet { IsQuiet core.new.log }
     ensures later { IsLater (D.device disk.old) (D.device disk.new) }
     ensures blocks { core.new.log.blocks ≡ core.old.log.blocks }
-    ensures bare { core.new ≡ unused core.new.log core.old.inodes }
+    ensures bare { core.new ≡ unused core.new }
+    ensures inodes { core.new.inodes ≡ core.old.inodes }
+    ensures boot { core.new.boot ≡ core.old.boot }
     ensures fresh { IsFresh core.new.log }
     ensures may { result ≡ may_install core.old.log }
     ensures called { IsTrue result

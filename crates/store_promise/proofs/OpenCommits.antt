@@ -211,6 +211,7 @@ module _ (base : Image) (d : Device) (old new : CoreState) (logging installing :
           → IsOpenSince base d new logging installing boot first more led.0
       build home rs left records rest leads chain stamps = record {
         counted = counted;
+        boot_is = ap (λ (core : CoreState). core.boot) took.only ∙ since.boot_is;
         home = home;
         leads = leads;
         over = subst (λ (es : List Entry). IsOpenOver base d new logging installing boot home es

@@ -174,7 +174,7 @@ module _ (base : Image) (d : Device) (old new : CoreState) (logging installing :
       ∙ sym (after_commits-append homes (take n old.records) (drop n old.records))
       ∙ ap (λ (rs : List Footprint). after_commits homes rs) (take-append-drop n old.records)
 
-  module _ (inodes : new.inodes ≡ old.inodes) (sound : IsSoundCore home new)
+  module _ (inodes : new.inodes ≡ old.inodes) (boot_same : new.boot ≡ old.boot) (sound : IsSoundCore home new)
       (agrees : AgreesBeside d home new.log logging idle)
       (readable : IsReadable d new.log idle) where
     further : installed_place old.log + n ≡ installed_place new.log
@@ -213,6 +213,7 @@ module _ (base : Image) (d : Device) (old new : CoreState) (logging installing :
     pub open_over : IsOpenSince home d new logging idle boot first entries last
     open_over = record {
       counted = since.counted ∙ sym gone.places;
+      boot_is = boot_same ∙ since.boot_is;
       home = rest.0;
       leads = subst (λ (k : ℕ). after first (take k entries) rest.0) further
           (after_both first since.home rest.0 (installed_place old.log) n entries since.leads rest.1);

@@ -71,6 +71,7 @@ pub record HasSame (old new : CoreState) : Type 0 where
   pub log : HasSameChanges old.log new.log
   pub inodes : new.inodes ≡ old.inodes
   pub records : new.records ≡ old.records
+  pub boot : new.boot ≡ old.boot
 
 module _ (base : Image) (old new : CoreState) (same : HasSame old new) where
   pub homes_same : homes_of old.log.blocks (opening base old.log) ≡ homes_of new.log.blocks
@@ -124,6 +125,7 @@ module _ (base : Image) (old new : CoreState) (same : HasSame old new) where
     pub still_open : IsOpenSince base e new logged_next installing_next boot first entries last
     still_open = record {
       counted = since.counted ∙ sym same.log.places;
+      boot_is = same.boot ∙ since.boot_is;
       home = since.home;
       leads = subst (λ (n : ℕ). after first (take n entries) since.home) (sym installed_same) since.leads;
       over = subst (λ (n : ℕ). IsOpenOver base e new logged_next installing_next boot since.home

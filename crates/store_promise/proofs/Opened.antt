@@ -127,6 +127,7 @@ module _ (before opened : Device) (base : Image) (core : CoreState) (tree : Tree
   pub is_open : IsOpenSince base opened core pending.idle pending.idle (first + 1) tree [] tree
   is_open = record {
     counted = sym new.places;
+    boot_is = sym (new.boot good.super is_super) ∙ good.boot_is;
     home = tree;
     leads = subst (λ (n : ℕ). after tree (take n []) tree) (sym installed) refl;
     over = subst (λ (n : ℕ). IsOpenOver base opened core pending.idle pending.idle (first + 1) tree

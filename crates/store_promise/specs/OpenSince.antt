@@ -26,10 +26,11 @@ use Rattle.store_promise.specs.OpenStore.{IsBoot, IsOpenOver}
 use Rattle.store_promise.specs.Prefix.{HasPrefix}
 
 -- The files were a tree when the store was opened, and each commit since has its entry. Those that are home
--- lead to the tree at home, over which the store is open with the others.
+-- lead to the tree at home, over which the store is open with the others. The core has the boot number.
 pub record IsOpenSince (base : Image) (d : Device) (core : CoreState) (logging installing : Pending) (boot : ℕ)
     (first : Tree) (entries : List Entry) (last : Tree) : Type 0 where
   pub counted : length entries ≡ core.log.places
+  pub boot_is : core.boot ≡ boot
   pub home : Tree
   pub leads : after first (take (installed_place core.log) entries) home
   pub over : IsOpenOver base d core logging installing boot home (drop (installed_place core.log) entries) last
@@ -57,11 +58,12 @@ pub record IsSoundCore (base : Image) (core : CoreState) : Type 0 where
   pub tidy : AreTidy core
   pub home : IsHomeOf base core
 
--- a step has left the log, the commits and the counts as they were
+-- a step has left the log, the commits, the counts and the boot number as they were
 pub record StandsBeside (old new : CoreState) : Type 0 where
   pub log : new.log ≡ old.log
   pub inodes : new.inodes ≡ old.inodes
   pub records : new.records ≡ old.records
+  pub boot : new.boot ≡ old.boot
 
 -- what comes of a call, by the change that is committed and the reply
 abbrev pub outcome_of : Planned → Reply → Outcome

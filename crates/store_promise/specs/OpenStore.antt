@@ -79,3 +79,4 @@ pub record IsNewOver (base : Image) (d : Device) (core : CoreState) : Type 0 whe
   pub places : core.log.places ≡ 0
   pub sound : core.log.broken ≡ false
   pub inodes : (super : Super) → IsSuper (base SUPER_BLOCK) super → super.geometry.inodes ≡ core.inodes
+  pub boot : (super : Super) → IsSuper (base SUPER_BLOCK) super → super.boot ≡ core.boot

@@ -7,7 +7,7 @@ ghost use Rattle.model.specs.Entry.{Entry};
 ghost use Rattle.model.specs.Tree.{Tree};
 ghost use Rattle.txn.specs.Outcomes.{TakesPlace};
 ghost use Rattle.txn_law.specs.Commit.{IsReadBy, Planned};
-ghost use Rattle.txn_law.specs.Core.{CoreState, past};
+ghost use Rattle.txn_law.specs.Core.{CoreState, past, with_inst_call, with_log_call};
 ghost use Rattle.txn_law.specs.Object.{ObjectBytes};
 ghost use Rattle.txn_law.specs.Window.{IsAsRead, with_objects};
 ghost use Rattle.wal_law.specs.Calls.{Pending, home_after};
@@ -38,10 +38,10 @@ pub fn only_a_commit_changes_the_files()
     ensures beside { (base : Image) (old new : CoreState) → StandsBeside old new
         → file_blocks base new ≡ file_blocks base old }
     ensures logger { (base : Image) (core : CoreState) (ok : Bool)
-        → (file_blocks base (record core { log = with_log_out core.log }) ≡ file_blocks base core)
+        → (file_blocks base (with_log_call core) ≡ file_blocks base core)
         × (file_blocks base (record core { log = with_log_back core.log ok }) ≡ file_blocks base core) }
     ensures installer { (base : Image) (core : CoreState)
-        → file_blocks base (record core { log = with_inst_out core.log }) ≡ file_blocks base core }
+        → file_blocks base (with_inst_call core) ≡ file_blocks base core }
     ensures installed { (base : Image) (d : Device) (old new : CoreState)
         (logging installing : Pending) (ok : Bool) (boot : ℕ) (first last : Tree) (entries : List Entry)
         → IsOpenSince base d old logging installing boot first entries last

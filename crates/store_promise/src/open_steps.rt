@@ -12,13 +12,13 @@ ghost use Rattle.procedures.specs.Step.{step};
 ghost use Rattle.model.specs.Tree.{Tree};
 ghost use Rattle.txn.specs.Outcomes.{TakesPlace};
 ghost use Rattle.txn_law.specs.Commit.{Planned};
-ghost use Rattle.txn_law.specs.Core.{CoreState, past};
+ghost use Rattle.txn_law.specs.Core.{CoreState, past, with_inst_call, with_log_call};
 ghost use Rattle.wal_law.specs.Calls.{InstCallComesBack, InstCallGoesOut, LogCallComesBack, LogCallGoesOut};
 ghost use Rattle.wal_law.specs.Calls.{Pending, home_after, idle, out, was_made};
-ghost use Rattle.wal_law.specs.Installer.{is_inst_out, may_install, with_inst_back, with_inst_out};
+ghost use Rattle.wal_law.specs.Installer.{is_inst_out, may_install, with_inst_back};
 ghost use Rattle.wal_law.specs.Io.{HasMade, Io};
 ghost use Rattle.wal_law.specs.Log.{installed_place, settled_place};
-ghost use Rattle.wal_law.specs.Logger.{is_log_out, with_log_back, with_log_out};
+ghost use Rattle.wal_law.specs.Logger.{is_log_out, with_log_back};
 ghost use Rattle.store_promise.specs.GoodImage.{IsGoodImage};
 ghost use Rattle.store_promise.specs.OpenSince.{HasKeptFiles, IsOpenSince, IsSoundCore, KeepsFiles};
 ghost use Rattle.store_promise.specs.OpenSince.{LeavesBeginning, LeavesBlocks, StandsBeside, TellsOf};
@@ -63,7 +63,7 @@ pub fn the_logger_leaves_the_store_open()
     ensures taken { (base : Image) (d : Device) (old new : CoreState) (io : Io)
         (installing : Pending) (boot : ℕ) (first last : Tree) (entries : List Entry)
         → IsOpenSince base d old idle installing boot first entries last
-        → new ≡ record old { log = with_log_out old.log } → LogCallGoesOut old.log io new.log
+        → new ≡ with_log_call old → LogCallGoesOut old.log io new.log
         → IsSoundCore base new
         → IsOpenSince base d new (out io) installing boot first entries last }
     ensures made { (base : Image) (d later : Device) (core : CoreState) (io : Io) (answer : Result Unit Failed)
@@ -88,7 +88,7 @@ pub fn the_installer_leaves_the_store_open()
     ensures taken { (base : Image) (d : Device) (old new : CoreState) (io : Io) (logging : Pending) (boot : ℕ)
         (first last : Tree) (entries : List Entry)
         → IsOpenSince base d old logging idle boot first entries last → may_install old.log ≡ true
-        → new ≡ record old { log = with_inst_out old.log } → InstCallGoesOut old.log io new.log
+        → new ≡ with_inst_call old → InstCallGoesOut old.log io new.log
         → IsSoundCore base new
         → IsOpenSince base d new logging (out io) boot first entries last }
     ensures made { (base : Image) (d later : Device) (core : CoreState) (io : Io) (answer : Result Unit Failed)

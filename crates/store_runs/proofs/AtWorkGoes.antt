@@ -172,8 +172,8 @@ module _ (old new : Side) (boot number : ℕ) (entries : List Committed) where
       → TellsOf boot (planned_of done)
       (entry_by number (record { ctx = job.ctx; call = job.call; reply = done.reply }))
   tells job done next same runs = record {
-    boot_is = runs.handed.boot_is;
-    sound = runs.handed.sound;
+    boot_is = runs.boot_is;
+    sound = runs.handed;
     geometry = next.snap.geometry;
     blocks = next.plan.0.named.blocks;
     inodes = next.plan.0.named.inodes;

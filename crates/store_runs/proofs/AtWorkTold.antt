@@ -42,36 +42,36 @@ use Rattle.store_workers.specs.declared.workers.parts.State.{State}
 
 -- ---- beside the log
 
--- the log, the commits and the counts are as they were
+-- the log, the commits, the counts and the boot number are as they were
 pub record IsBeside (old new : CoreState) : Type 0 where
   pub beside : StandsBeside old new
   pub begun : new.begun ≡ old.begun
 
 beside_of : (old new : CoreState) → new.log ≡ old.log → new.inodes ≡ old.inodes → new.records ≡ old.records
-    → new.begun ≡ old.begun → IsBeside old new
-beside_of old new log inodes records begun =
-    record { beside = record { log = log; inodes = inodes; records = records }; begun = begun }
+    → new.boot ≡ old.boot → new.begun ≡ old.begun → IsBeside old new
+beside_of old new log inodes records boot begun =
+    record { beside = record { log = log; inodes = inodes; records = records; boot = boot }; begun = begun }
 
 same_core : (old new : CoreState) → new ≡ old → IsBeside old new
 same_core old new is = beside_of old new (ap (λ (c : CoreState). c.log) is)
     (ap (λ (c : CoreState). c.inodes) is) (ap (λ (c : CoreState). c.records) is)
-    (ap (λ (c : CoreState). c.begun) is)
+    (ap (λ (c : CoreState). c.boot) is) (ap (λ (c : CoreState). c.begun) is)
 
 taken_only : (old new : CoreState) → TakesOnly old new → IsBeside old new
 taken_only old new is = beside_of old new (ap (λ (c : CoreState). c.log) is)
     (ap (λ (c : CoreState). c.inodes) is) (ap (λ (c : CoreState). c.records) is)
-    (ap (λ (c : CoreState). c.begun) is)
+    (ap (λ (c : CoreState). c.boot) is) (ap (λ (c : CoreState). c.begun) is)
 
 aborted : (tx : ℕ) (old new : CoreState) → HasAborted tx old new → IsBeside old new
 aborted tx old new has = beside_of old new (ap (λ (c : CoreState). c.log) has.only)
     (ap (λ (c : CoreState). c.inodes) has.only) (ap (λ (c : CoreState). c.records) has.only)
-    (ap (λ (c : CoreState). c.begun) has.only)
+    (ap (λ (c : CoreState). c.boot) has.only) (ap (λ (c : CoreState). c.begun) has.only)
 
 given_back : (ok : Bool) (io : Fetch) (old : Side) (made : Step) (new : Side) → HasGivenBack ok io old made new
     → IsBeside old.core new.core
 given_back ok io old made new has = beside_of old.core new.core (ap (λ (c : CoreState). c.log) has.only)
     (ap (λ (c : CoreState). c.inodes) has.only) (ap (λ (c : CoreState). c.records) has.only)
-    (ap (λ (c : CoreState). c.begun) has.only)
+    (ap (λ (c : CoreState). c.boot) has.only) (ap (λ (c : CoreState). c.begun) has.only)
 
 wanted : (old new : CoreState) (tx : ℕ) (addr : Addr) (mode : Mode) (answer : Want)
     → IsWanted old tx addr mode answer new → IsBeside old new
@@ -218,6 +218,7 @@ module _ (old new : Side) where
       log = ap (λ (c : CoreState). c.log) has.core;
       inodes = ap (λ (c : CoreState). c.inodes) has.core;
       records = ap (λ (c : CoreState). c.records) has.core;
+      boot = ap (λ (c : CoreState). c.boot) has.core;
     };
     not_begun = λ job why job_is served why_is core is none. (same_core old.core new.core core).beside;
     replied = λ job job_is served core is none. (same_core old.core new.core core).beside;

@@ -183,7 +183,6 @@ entry_still entries more (suc index) entry is = entry_before entries more index 
 pub stands_still : (boot : ℕ) (entries more : List Entry) (worker : State) → IsWorkerAt boot entries worker
     → IsWorkerAt boot (entries ++ more) worker
 stands_still boot entries more worker at = record {
-  boot_is = at.boot_is;
   entry = at.entry;
   answer = at.answer;
   stands = by worker.phase at.stands;

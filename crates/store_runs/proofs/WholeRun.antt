@@ -43,9 +43,9 @@ nothing_told boot = record { boot = boot; history = []; answers = []; steps = []
 none_fetched : (core : CoreState) → core.present ≡ [] → FetchesOnly None core
 none_fetched core none block = ap (λ (present : List Present). is_pending (present_of present block)) none
 
-new_at_work : (boot : ℕ) (core : CoreState) → IsLawful core.log.blocks core.inodes
-    → IsAtWork (worker.at_rest boot) core
-new_at_work boot core lawful = record {
+new_at_work : (core : CoreState) → IsLawful core.log.blocks core.inodes
+    → IsAtWork worker.at_rest core
+new_at_work core lawful = record {
   with = record {
     sound = record { transaction = refl; fetch = refl; ready = refl };
     core_of = record { out = tt; reads = tt; lawful = lawful };
@@ -55,8 +55,8 @@ new_at_work boot core lawful = record {
   notes = tt;
 }
 
-module _ (boot : ℕ) (core : CoreState) (workers : List State) (out : core.out ≡ []) (none : core.present ≡ [])
-    (rest : (number : ℕ) (one : State) → IsOneOf workers number one → one ≡ worker.at_rest boot) where
+module _ (core : CoreState) (workers : List State) (out : core.out ≡ []) (none : core.present ≡ [])
+    (rest : (number : ℕ) (one : State) → IsOneOf workers number one → one ≡ worker.at_rest) where
   no_tx : (number tx : ℕ) (one : State) → IsOneOf workers number one → one.begun.tx ≡ Some tx → ⊥
   no_tx number tx one is has =
       let never : None ≡ Some tx = sym (ap (λ (s : State). s.begun.tx) (rest number one is)) ∙ has in cc
@@ -84,7 +84,7 @@ module _ (b : Beginning) (o : Setting) (base : Image) (core : CoreState) (worker
     (calls_are : AreQuiet calls) (told_boot : told.boot ≡ boot)
     (empty : (told.history.items ≡ []) × (told.answers.items ≡ []) × (told.steps.items ≡ []))
     (count : length workers ≡ b.workers)
-    (rest : (number : ℕ) (one : State) → IsOneOf workers number one → one ≡ worker.at_rest boot)
+    (rest : (number : ℕ) (one : State) → IsOneOf workers number one → one ≡ worker.at_rest)
     (lawful : IsLawful core.log.blocks core.inodes) where
   told_is : transcript_of told ≡ nothing_told (b.first + 1)
   told_is = λ i. record {
@@ -98,8 +98,8 @@ module _ (b : Beginning) (o : Setting) (base : Image) (core : CoreState) (worker
       → IsSoFar b base core (nothing_told (b.first + 1)) number one
   first_so number one is =
       subst (λ (s : State). IsSoFar b base core (nothing_told (b.first + 1)) number s) (sym (rest number one is)) (record {
-        stands = record { boot_is = boot_is; entry = refl; answer = refl; stands = tt };
-        at_work = new_at_work boot core lawful;
+        stands = record { entry = refl; answer = refl; stands = tt };
+        at_work = new_at_work core lawful;
         progress = refl;
         fetched = All-nil (IsFetchOver base core);
       })
@@ -122,18 +122,18 @@ module _ (b : Beginning) (o : Setting) (base : Image) (core : CoreState) (worker
     so_far = subst (λ (t : Transcript). AreSoFar b base core t workers) (sym told_is) (record {
       count = count;
       each = first_so;
-      share = share_first boot core workers out none rest;
+      share = share_first core workers out none rest;
     });
   }
 
 -- each of those is at rest
-pub all_at_rest : (boot : ℕ) (workers : List Worker) → All (IsAtRest boot) workers → (number : ℕ) (one : State)
-    → IsOneOf (states_of workers) number one → one ≡ worker.at_rest boot
-all_at_rest boot [] all number one is = cc
-all_at_rest boot (first ∷ later) all zero one is =
-    let same : first.state ≡ one = cc in sym same ∙ All-head (IsAtRest boot) first later all
-all_at_rest boot (first ∷ later) all (suc number) one is =
-    all_at_rest boot later (All-tail (IsAtRest boot) first later all) number one is
+pub all_at_rest : (workers : List Worker) → All IsAtRest workers → (number : ℕ) (one : State)
+    → IsOneOf (states_of workers) number one → one ≡ worker.at_rest
+all_at_rest [] all number one is = cc
+all_at_rest (first ∷ later) all zero one is =
+    let same : first.state ≡ one = cc in sym same ∙ All-head IsAtRest first later all
+all_at_rest (first ∷ later) all (suc number) one is =
+    all_at_rest later (All-tail IsAtRest first later all) number one is
 
 -- ---- an event
 

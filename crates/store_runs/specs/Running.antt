@@ -43,8 +43,8 @@ abbrev pub states_of : List Worker → List State
 states_of workers = map (λ (worker : Worker). worker.state) workers
 
 -- it has done nothing yet
-abbrev pub IsAtRest : ℕ → Worker → Type 0
-IsAtRest boot worker = worker.state ≡ at_rest boot
+abbrev pub IsAtRest : Worker → Type 0
+IsAtRest worker = worker.state ≡ at_rest
 
 -- it fits each core that it fitted
 abbrev pub KeepsFits : Worker → Worker → Type 0

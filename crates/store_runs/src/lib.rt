@@ -12,4 +12,4 @@ pub use at_work::{
     a_workers_step_may_be_made, what_was_fetched_stays,
 };
 pub use formatted_run::format_and_run;
-pub use runs::run;
+pub use runs::{can_be_spelled, run};

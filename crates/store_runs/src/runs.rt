@@ -7,15 +7,18 @@ ghost use Rattle.store_promise.specs.Transcript.{report_of};
 mod going;
 mod going_workers;
 mod running;
+mod sound;
 
 use disk::CrashDisk;
 use running::Running;
+pub use sound::can_be_spelled;
 use std::alloc::Global;
 use store_images::{close, open};
 use store_promise::{Event, OpenFault, Run};
 
-/// Opens a store and takes events one by one, with so many workers. An event that doesn't apply does nothing; each
-/// other makes one step. All events are taken, or fewer where there was no memory to tell of the next, which is noted.
+/// Opens a store and takes events one by one, with so many workers. An event that doesn't apply does nothing, nor
+/// does a call that can't be spelled, or that comes at a moment of a second of nanoseconds or more; each other makes
+/// one step. All events are taken, or fewer where there was no memory to tell of the next, which is noted.
 /// The disk comes back as the run left it. What it promises of a device that keeps its model is `promised`: it holds
 /// at each stop of the run, its opening included.
 pub fn run<D: CrashDisk>(

@@ -60,7 +60,7 @@ takes_none boot entries state phase stands busy = by phase stands busy
         → IsStepOfCall (progress_in phase state.work.job (begun_of state.begun.tx (seen_in state.work.snap)
         state.known) state.asked state.known) None
     by Idle stands busy = absurd (busy refl)
-    by Called stands busy = has (IsJobOf boot) (told.Called (known_in state.known)) stands
+    by Called stands busy = has IsJobOf (told.Called (known_in state.known)) stands
     by Planning stands busy = runs _ stands
     by Reading stands busy = runs _ stands.0
     by (Read ok) stands busy = runs _ stands.0
@@ -71,17 +71,16 @@ takes_none boot entries state phase stands busy = by phase stands busy
 pub call_told : (boot : ℕ) (entries : List Entry) (credential : Credential) (moment : Moment) (call : Call)
     (old new : State) (made : Option Step) → SoundCall credential moment call
     → IsWorkerAt boot entries old
-    → TakesCall (ctx_of credential moment old.boot) call old made new
+    → TakesCall (ctx_of credential moment) call old made new
     → TellsCall boot entries (record { credential = credential; moment = moment; call = call }) old made new
 call_told boot entries credential moment call old new (Some made) sound at takes = record {
   may = subst (λ p. IsStepOfCall (progress_in p old.work.job (begun_of old.begun.tx (seen_in old.work.snap)
       old.known) old.asked old.known) (Some made)) (sym takes.1) (ap (λ m. Some m) takes.0);
   progress = ap progress_of takes.2;
   stands = subst (λ s. IsWorkerAt boot entries s) (sym takes.2) (record {
-    boot_is = at.boot_is;
     entry = at.entry;
     answer = at.answer;
-    stands = record { boot_is = at.boot_is; sound = sound };
+    stands = sound;
   });
 }
 call_told boot entries credential moment call old new None sound at takes = record {
@@ -195,7 +194,6 @@ module _ (boot : ℕ) (entries : List Entry) (old : State) (ok : Bool) (io : Fet
         ∙ ap (λ w. was (Read ok) (Some job_is.0) w) wish_is.1
         ∙ sym (ap (progress_after broken (Some (step.Read io.block ok))) was_reading);
     stands = record {
-      boot_is = at.boot_is;
       entry = at.entry;
       answer = at.answer;
       stands = (

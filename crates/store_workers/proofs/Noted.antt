@@ -26,11 +26,11 @@ as_noted worker event clock None = refl
 as_noted worker event clock (Some entry) = refl
 
 module _ (boot number clock : ℕ) (old : Side) (made : Option Step) (new : Side) (before after : Run)
-    (at : IsWorkerAt boot (entries_of (transcript_of before)) old.worker)
+    (at : IsWorkerAt boot (entries_of (transcript_of before)) old.worker) (booted : old.core.boot ≡ boot)
     (places : old.core.log.places ≡ length before.history.items)
     (has : HasWorked number clock old made new before after) where
   tells : TellsStep boot number (entries_of (transcript_of before)) old made (side has.state new.core)
-  tells = step_tells boot number (entries_of (transcript_of before)) old (side has.state new.core) at
+  tells = step_tells boot number (entries_of (transcript_of before)) old (side has.state new.core) at booted
       (places ∙ sym (length-map before.history.items entry_of)) made has.goes
 
   noted_entries : entries_of (transcript_of after)

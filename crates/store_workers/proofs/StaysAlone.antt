@@ -338,7 +338,7 @@ module _ (old new : Side) (tidy : AreTidy old.core) (alone : IsOutAlone old.work
           → HasTaken new.worker new.core
       by None at saw = absurd saw
       by (Some seen) at saw =
-          has_so new.worker new.core (numbered number job) number seen
+          has_so new.worker new.core (numbered old.core.boot number job) number seen
           (ap (λ (s : State). s.work.job) has.worker)
           (ap (λ (s : State). s.begun.tx) has.worker) at (record {
             blocks = saw.blocks ∙ sym (ap (λ (c : CoreState). c.log.blocks) has.core);

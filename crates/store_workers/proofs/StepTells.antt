@@ -140,7 +140,7 @@ at_some : {X : Type 0} (P : X → Type 0) (found : Option X) (x : X) → found �
 at_some P found x is so = subst (λ o. IsSomeAnd o P) is so
 
 module _ (boot number : ℕ) (entries : List Entry) (old new : Side) (at : IsWorkerAt boot entries old.worker)
-    (places : old.core.log.places ≡ length entries) where
+    (booted : old.core.boot ≡ boot) (places : old.core.log.places ≡ length entries) where
   abbrev old_begun : told.Begun
   old_begun = begun_of old.worker.begun.tx (seen_in old.worker.work.snap) old.worker.known
 
@@ -178,7 +178,7 @@ module _ (boot number : ℕ) (entries : List Entry) (old new : Side) (at : IsWor
 
   -- an answer does, and the worker is idle
   module _ (phase : Phase) (made : Step) (base : State) (heard : Verdict) (place : Option Seq) (job : Job)
-      (stage : Stage) (stage_is : was phase ≡ told.At (handed job) stage) (same_boot : base.boot ≡ boot)
+      (stage : Stage) (stage_is : was phase ≡ told.At (handed job) stage)
       (gives : (t : Transcript) (answer : Answer)
       → HasReplies t (with_ready number entries base) → answer.verdict ≡ heard
       → answer.place ≡ place → HasVerdict t job.call stage made answer) where
@@ -198,7 +198,7 @@ module _ (boot number : ℕ) (entries : List Entry) (old new : Side) (at : IsWor
     answers entry = record {
       entry = entry;
       answer = record { ends = sym (ap (λ p. not (is_idle p) && true) stage_is); is_of = is_answer };
-      stands = record { boot_is = same_boot; entry = refl; answer = refl; stands = tt };
+      stands = record { entry = refl; answer = refl; stands = tt };
     }
 
   -- no transaction is begun, or none is needed
@@ -210,7 +210,7 @@ module _ (boot number : ℕ) (entries : List Entry) (old new : Side) (at : IsWor
   unbegun made job heard job_is entry gives is =
       so Called (Some made) (with_answer heard None old.worker) is
       (answers Called made old.worker heard None job (told.Called (known_in old.worker.known))
-      (with_job Called job job_is) at.boot_is
+      (with_job Called job job_is)
       (λ t answer has v p. gives t answer (p, v)) entry)
 
   -- its transaction comes back
@@ -221,32 +221,33 @@ module _ (boot number : ℕ) (entries : List Entry) (old new : Side) (at : IsWor
 
   -- a call that goes on
   goes_on : (phase : Phase) (made : Step) (state : State) (job : Job) → state.work.job ≡ Some job
-      → has_job state.phase ≡ true → state.boot ≡ boot → state.work.answer ≡ None
+      → has_job state.phase ≡ true → state.work.answer ≡ None
       → TellsEntry boot (length entries) (was phase) (Some made) state.work.entry
       → StandsAt boot (with_ready number entries state) state.phase (telling.told state)
       → Leaves phase (Some made) state
-  goes_on phase made state job job_is busy same_boot answer entry stands = record {
+  goes_on phase made state job job_is busy answer entry stands = record {
     entry = entry;
     answer = none_told phase (Some made) state answer
         (ap (λ b. not (is_idle (was phase)) && b)
         (not_idle state.phase job state.work.job _ state.asked state.known job_is busy)
         ∙ and_false (not (is_idle (was phase))));
-    stands = record { boot_is = same_boot; entry = refl; answer = refl; stands = stands };
+    stands = record { entry = refl; answer = refl; stands = stands };
   }
 
   begins : (job : Job) (begun : ℕ) → old.worker.work.job ≡ Some job → HasBegun job old begun new
       → LeavesIt Called (Some (step.Begun (Ok begun)))
   begins job begun job_is has phase_is stands =
       so Called (Some (step.Begun (Ok begun))) _ has.worker
-      (goes_on Called (step.Begun (Ok begun)) _ (numbered begun job) refl refl at.boot_is at.answer at.entry
+      (goes_on Called (step.Begun (Ok begun)) _ (numbered old.core.boot begun job) refl refl at.answer at.entry
       (record {
-        handed = record { boot_is = job_of.boot_is; sound = job_of.sound };
+        handed = job_of;
+        boot_is = booted;
         transaction = refl;
         counted = has.counted;
       }))
     where
-      job_of : IsJobOf boot job
-      job_of = at_some (IsJobOf boot) old.worker.work.job job job_is stands
+      job_of : IsJobOf job
+      job_of = at_some IsJobOf old.worker.work.job job job_is stands
 
   -- ---- while it plans
 
@@ -294,8 +295,7 @@ module _ (boot number : ℕ) (entries : List Entry) (old new : Side) (at : IsWor
           → Leaves Planning (Some (step.Wanted addr mode (wish_of answer))) (once_wanted addr mode answer)
       left answer busy stands_then =
           goes_on Planning (step.Wanted addr mode (wish_of answer)) (once_wanted addr mode answer)
-          next.job next.job_is busy
-          at.boot_is at.answer at.entry stands_then
+          next.job next.job_is busy at.answer at.entry stands_then
 
       by : (answer : Want) → IsWanted old.core tx addr mode answer new.core
           → Leaves Planning (Some (step.Wanted addr mode (wish_of answer))) (once_wanted addr mode answer)
@@ -319,8 +319,7 @@ module _ (boot number : ℕ) (entries : List Entry) (old new : Side) (at : IsWor
           → Leaves Planning (Some (step.Claimed block (claim_wish answer))) (once_claimed block answer)
       left answer busy stands_then =
           goes_on Planning (step.Claimed block (claim_wish answer)) (once_claimed block answer) next.job
-          next.job_is busy
-          at.boot_is at.answer at.entry stands_then
+          next.job_is busy at.answer at.entry stands_then
 
       by : (answer : Claim) → IsClaimed old.core tx has.core.0 answer new.core
           → Leaves Planning (Some (step.Claimed block (claim_wish answer))) (once_claimed block answer)
@@ -339,7 +338,7 @@ module _ (boot number : ℕ) (entries : List Entry) (old new : Side) (at : IsWor
       so Planning _ _ has.worker
       (answers Planning (step.Ended ending.NoMemory)
       (record (with_snap new.worker old.worker) { begun = none_begun })
-      verdict.NoMemory None job (told.Planning old_begun) (with_job Planning job job_is) at.boot_is
+      verdict.NoMemory None job (told.Planning old_begun) (with_job Planning job job_is)
       (λ t answer has v p. (p, v)) at.entry)
 
   module _ (job : Job) (tx : ℕ) (done : Outcome) (added : List BlockNo) (tx_is : old.worker.begun.tx ≡ Some tx)
@@ -358,7 +357,7 @@ module _ (boot number : ℕ) (entries : List Entry) (old new : Side) (at : IsWor
       job = handed job;
       begun = old_begun;
       planned = with_job Planning job job_is;
-      ctx = ap₂ (λ (b t : ℕ). record job.ctx { boot = b; transaction = t }) its.handed.boot_is
+      ctx = ap₂ (λ (b t : ℕ). record job.ctx { boot = b; transaction = t }) its.boot_is
           (sym (ap (λ (t : Option ℕ). unwrap_or t 0) its.transaction));
       call = refl;
     }
@@ -380,7 +379,6 @@ module _ (boot number : ℕ) (entries : List Entry) (old new : Side) (at : IsWor
             (with_entry job done.reply (told_of true job done.reply place planned)) at.answer
             (and_false (not (is_idle (was Planning))));
         stands = record {
-          boot_is = at.boot_is;
           entry = refl;
           answer = refl;
           stands = record {
@@ -415,7 +413,7 @@ module _ (boot number : ℕ) (entries : List Entry) (old new : Side) (at : IsWor
                 };
           };
         };
-        stands = record { boot_is = at.boot_is; entry = refl; answer = refl; stands = tt };
+        stands = record { entry = refl; answer = refl; stands = tt };
       }
 
     back_in : (back : ℕ) (made : Step) (phase : Phase) → back ≡ tx → has_job phase ≡ true
@@ -425,7 +423,7 @@ module _ (boot number : ℕ) (entries : List Entry) (old new : Side) (at : IsWor
         (telling.told (with_tx back phase planned)))
         → Leaves Planning (Some made) (with_tx back phase planned)
     back_in back made phase back_is busy entry stands_then =
-        goes_on Planning made (with_tx back phase planned) job job_is busy at.boot_is at.answer entry
+        goes_on Planning made (with_tx back phase planned) job job_is busy at.answer entry
         (stands_then (runs tx back tx_is back_is stands))
 
     commits_by : (answer : Commit Outcome) → IsCommit old.core tx (planned_of done) done answer new.core
@@ -437,7 +435,7 @@ module _ (boot number : ℕ) (entries : List Entry) (old new : Side) (at : IsWor
         back_in back (step.Commit added committing.Full) Planning is.0.transaction refl at.entry (λ r. r)
     commits_by (commit.Foreign back same) is =
         goes_on Planning (step.Commit added committing.Foreign)
-        (record (with_tx back Again planned) { known = without_off planned.known }) job job_is refl at.boot_is
+        (record (with_tx back Again planned) { known = without_off planned.known }) job job_is refl
         at.answer at.entry (runs tx back tx_is is.0.transaction stands)
     commits_by (commit.NoMemory back same) is =
         back_in back (step.Commit added committing.NoMemory) (Refused cause.NoMemory)
@@ -476,10 +474,9 @@ module _ (boot number : ℕ) (entries : List Entry) (old new : Side) (at : IsWor
     where
       by : (well : Bool) (job : Job) → old.worker.work.job ≡ Some job
           → Leaves (Read ok) (Some (given_step well io)) (once_given well)
-      by true job job_is = goes_on (Read ok) (step.Fetched io.block) (once_given true) job job_is refl
-          at.boot_is at.answer at.entry stands.0
+      by true job job_is = goes_on (Read ok) (step.Fetched io.block) (once_given true) job job_is refl at.answer at.entry stands.0
       by false job job_is = goes_on (Read ok) (step.FetchFailed io.block) (once_given false) job job_is
-          refl at.boot_is at.answer at.entry stands.0
+          refl at.answer at.entry stands.0
 
   refuses : (why : Cause) (job : Job) (tx : ℕ) (made : Step) → old.worker.work.job ≡ Some job
       → HasRefused why job tx old made new → LeavesIt (Refused why) (Some (step.Ended ending.Refused))
@@ -487,15 +484,15 @@ module _ (boot number : ℕ) (entries : List Entry) (old new : Side) (at : IsWor
       so (Refused why) _ _ has.worker
       (answers (Refused why) (step.Ended ending.Refused) (record old.worker { begun = none_begun })
       (refusal job.call why) None job (told.Refused old_begun why)
-      (with_job (Refused why) job job_is) at.boot_is
+      (with_job (Refused why) job job_is)
       (λ t answer has v p. (p, v)) at.entry)
 
   leaves : (tx : ℕ) (made : Step) → HasLeft tx old made new → LeavesIt Again (Some (step.Ended ending.Again))
   leaves tx made has phase_is stands =
       let (job, job_is, is) = some_of old.worker.work.job stands in
       so Again _ _ has.worker (goes_on Again (step.Ended ending.Again)
-      (record old.worker { phase = Called; begun = none_begun }) job job_is refl at.boot_is at.answer at.entry
-      (subst (λ j. IsSomeAnd j (IsJobOf boot)) (sym job_is) is.handed))
+      (record old.worker { phase = Called; begun = none_begun }) job job_is refl at.answer at.entry
+      (subst (λ j. IsSomeAnd j IsJobOf) (sym job_is) is.handed))
 
   waits : (place : Seq) (made : Step) → (has : Waits place old made new)
       → LeavesIt (Waiting place) (Some (step.Stable place has.settled))
@@ -511,7 +508,7 @@ module _ (boot number : ℕ) (entries : List Entry) (old new : Side) (at : IsWor
           ≡ with_answer (verdict.Reply reply) (Some place) (without_reply old.worker)) old.worker.work.reply
           kept.entry.reply kept.reply is)
           (answers (Waiting place) (step.Stable place true) (without_reply old.worker)
-          (verdict.Reply kept.entry.reply) (Some place) kept.job (told.Waiting place.0) stage_is at.boot_is
+          (verdict.Reply kept.entry.reply) (Some place) kept.job (told.Waiting place.0) stage_is
           (λ t answer has v p.
           let (c, c_is, reply) = has place.0 kept.entry (stays_at entries _ place.0 kept.entry kept.entry_is) in
           record {
@@ -529,8 +526,7 @@ module _ (boot number : ℕ) (entries : List Entry) (old new : Side) (at : IsWor
           old.worker.work.broken_reply (refused status.Io kept.job.call) kept.broken_reply is)
           (answers (Waiting place) (step.Stable place false) (without_broken_reply old.worker)
           (verdict.Reply (refused status.Io kept.job.call)) (Some place) kept.job
-          (told.Waiting place.0) stage_is
-          at.boot_is (λ t answer has v p. (p, v)) at.entry)
+          (told.Waiting place.0) stage_is (λ t answer has v p. (p, v)) at.entry)
 
       still : new.worker ≡ old.worker → Leaves (Waiting place) (Some (step.Stable place false)) new.worker
       still same = so (Waiting place) _ old.worker same (record {
@@ -540,7 +536,6 @@ module _ (boot number : ℕ) (entries : List Entry) (old new : Side) (at : IsWor
             (ap (λ p. is_idle (was p)) phase_is ∙ ap is_idle stage_is)
             ∙ and_false (not (is_idle (was (Waiting place)))));
         stands = record {
-          boot_is = at.boot_is;
           entry = refl;
           answer = refl;
           stands = subst (λ p. StandsAt boot (with_ready number entries old.worker) p (telling.told old.worker))
@@ -570,7 +565,6 @@ module _ (boot number : ℕ) (entries : List Entry) (old new : Side) (at : IsWor
     answer = none_told phase None old.worker at.answer
         (ap (λ p. not (is_idle (was phase)) && is_idle (was p)) phase_is ∙ both (is_idle (was phase)));
     stands = record {
-      boot_is = at.boot_is;
       entry = refl;
       answer = refl;
       stands = longer old.worker.phase at.stands;

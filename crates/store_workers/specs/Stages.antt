@@ -90,14 +90,14 @@ abbrev pub entry_at : List Entry → ℕ → Option Entry
 entry_at entries zero = None
 entry_at entries (suc index) = slice_get entries index
 
--- a call that can be spelled was handed over in this boot,
-pub record IsJobOf (boot : ℕ) (job : Job) : Type 0 where
-  pub boot_is : job.ctx.boot ≡ boot
-  pub sound : SoundCall job.ctx.credential job.ctx.moment job.call
+-- a call that can be spelled was handed over,
+abbrev pub IsJobOf : Job → Type 0
+IsJobOf job = SoundCall job.ctx.credential job.ctx.moment job.call
 
--- and runs in this transaction
+-- and runs in this boot and in this transaction
 pub record IsJobIn (boot : ℕ) (tx : Option ℕ) (job : Job) : Type 0 where
-  pub handed : IsJobOf boot job
+  pub handed : IsJobOf job
+  pub boot_is : job.ctx.boot ≡ boot
   pub transaction : tx ≡ Some job.ctx.transaction
   pub counted : job.ctx.transaction < 2 ^ 64
 
@@ -125,7 +125,7 @@ pub record WaitsFor (entries : List Entry) (place : Seq) (state : State) : Type 
 -- what holds of it in each phase
 abbrev pub StandsAt : ℕ → List Entry → Phase → State → Type 0
 StandsAt boot entries Idle state = Unit {0}
-StandsAt boot entries Called state = IsSomeAnd state.work.job (IsJobOf boot)
+StandsAt boot entries Called state = IsSomeAnd state.work.job IsJobOf
 StandsAt boot entries Planning state = RunsIn boot state
 StandsAt boot entries Reading state = RunsIn boot state × IsFetchOf state
 StandsAt boot entries (Read ok) state = RunsIn boot state × IsFetchOf state
@@ -135,7 +135,6 @@ StandsAt boot entries (Waiting place) state = WaitsFor entries place state
 
 -- A worker of a store of this boot, in which these procedures were committed: all that it gave is told.
 pub record IsWorkerAt (boot : ℕ) (entries : List Entry) (state : State) : Type 0 where
-  pub boot_is : state.boot ≡ boot
   pub entry : state.work.entry ≡ None
   pub answer : state.work.answer ≡ None
   pub stands : StandsAt boot entries state.phase state

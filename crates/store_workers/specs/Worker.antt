@@ -71,10 +71,9 @@ HasBytes len (want.Loading back) = Unit {0}
 HasBytes len (want.Outside back) = Unit {0}
 HasBytes len (want.NoMemory back) = Unit {0}
 
--- the context of a call that begins no transaction yet
-abbrev pub ctx_of : Credential → Moment → ℕ → Ctx
-ctx_of credential moment boot =
-    record { credential = credential; moment = moment; boot = boot; transaction = 0 }
+-- the context of a call that has begun no transaction yet: boot number and transaction are then those of the core
+abbrev pub ctx_of : Credential → Moment → Ctx
+ctx_of credential moment = record { credential = credential; moment = moment; boot = 0; transaction = 0 }
 
 -- an idle worker that has taken a call
 abbrev pub with_call : Ctx → Call → State → State
@@ -85,9 +84,8 @@ with_call ctx call state = record state {
 }
 
 -- a worker that has done nothing yet
-abbrev pub at_rest : ℕ → State
-at_rest boot = record {
-  boot = boot;
+abbrev pub at_rest : State
+at_rest = record {
   phase = Idle;
   work = record { job = None; snap = None; reply = None; broken_reply = None; entry = None; answer = None };
   begun = record { tx = None; io = None };

@@ -80,9 +80,9 @@ IsNoBeginning fault.Broken core = core.log.broken ≡ true
 IsNoBeginning fault.Spent core = (core.log.broken ≡ false) × (core.begun + 1 ≡ 2 ^ 64)
 IsNoBeginning fault.NoMemory core = (core.log.broken ≡ false) × (core.begun + 1 < 2 ^ 64)
 
--- the job, in the transaction of this number
-abbrev pub numbered : ℕ → Job → Job
-numbered number job = record job { ctx = record job.ctx { transaction = number } }
+-- the job, in this boot and in the transaction of this number
+abbrev pub numbered : ℕ → ℕ → Job → Job
+numbered boot number job = record job { ctx = record job.ctx { boot = boot; transaction = number } }
 
 -- nothing was read yet, of the core's image
 pub record SawNothing (core : CoreState) (seen : Seen) : Type 0 where
@@ -92,7 +92,7 @@ pub record SawNothing (core : CoreState) (seen : Seen) : Type 0 where
   pub objects : seen.objects ≡ []
   pub claims : seen.claims ≡ []
 
--- The next transaction was begun for the job, in which nothing was read yet.
+-- The next transaction was begun for the job, in the boot of the core, and nothing was read in it yet.
 pub record HasBegun (job : Job) (old : Side) (number : ℕ) (new : Side) : Type 0 where
   pub next : number ≡ old.core.begun + 1
   pub counted : number < 2 ^ 64
@@ -101,7 +101,7 @@ pub record HasBegun (job : Job) (old : Side) (number : ℕ) (new : Side) : Type 
   pub worker : new.worker ≡ record old.worker {
     phase = Planning;
     begun = record { tx = Some number; io = None };
-    work = record old.worker.work { job = Some (numbered number job); snap = new.worker.work.snap };
+    work = record old.worker.work { job = Some (numbered old.core.boot number job); snap = new.worker.work.snap };
     known = given_back old.worker.known;
   }
   pub seen : IsSomeAnd (seen_in new.worker.work.snap) (SawNothing old.core)

@@ -45,20 +45,21 @@ impl Worker {
     ghost use Rattle.store_workers.specs.Ended.{GivesAllBack};
     ghost use Rattle.store_images.specs.Fetches.{FetchesOnly};
     ghost use Rattle.layout.specs.Geometry.{IsLawful};
+    ghost use Rattle.model.specs.Sound.{SoundTime};
+    ghost use Rattle.nfs_types.specs.Fits.{CallFits};
     ghost use Rattle.store_workers.specs.Knowing.{nothing_known};
     ghost use Rattle.store_workers.specs.Phases.{block_due};
     ghost use Rattle.store_workers.specs.Worker.{Fits, at_rest, ctx_of, with_call};
     ghost use Rattle.store_workers.specs.WorkerReads.{HasReadBlock};
     ghost use Rattle.store_workers.specs.WorkerSteps.{GoesOn, KeepsHomeOf, KeepsReadsOf, side};
 
-    /// An idle worker of a store with this boot number. It has begun nothing.
-    pub fn new(alloc: Global, boot: u64) -> Worker
+    /// An idle worker. It has begun nothing.
+    pub fn new(alloc: Global) -> Worker
         ensures fits { (core : CoreState) → IsLawful core.log.blocks core.inodes → Fits result core }
-        ensures state { result.state ≡ at_rest boot }
+        ensures state { result.state ≡ at_rest }
     {
         Worker {
             state: State {
-                boot,
                 phase: Phase::Idle,
                 work: Work {
                     job: None,
@@ -94,12 +95,16 @@ impl Worker {
         Some(io.block())
     }
 
-    /// Hands a worker a call, and answers whether it took it: a busy one does nothing.
+    /// Hands a worker a call that can be spelled, at a moment of less than a second of nanoseconds, and answers
+    /// whether it took it: a busy one does nothing. Its boot number and its transaction are those of the core that
+    /// begins it.
     pub fn hand(&mut self, credential: Credential, moment: Moment, call: Call) -> bool
+        requires timely { SoundTime moment }
+        requires spelled { CallFits call }
         ensures fits { (core : CoreState) → Fits self.old core → Fits self.new core }
         ensures taken { IsTrue result ↔ (self.old.state.phase ≡ Idle) }
         ensures took { IsTrue result → self.new.state
-            ≡ with_call (ctx_of credential moment self.old.state.boot) call self.old.state }
+            ≡ with_call (ctx_of credential moment) call self.old.state }
         ensures busy { IsFalse result → self.new ≡ self.old }
     {
         if !self.is_idle() {
@@ -108,7 +113,7 @@ impl Worker {
         let ctx = Ctx {
             credential,
             moment,
-            boot: self.state.boot,
+            boot: 0,
             transaction: 0,
         };
         self.state.take_call(ctx, call);
@@ -194,7 +199,6 @@ impl Worker {
     {
         let Worker { state } = self;
         let State {
-            boot: _,
             phase: _,
             work,
             begun,

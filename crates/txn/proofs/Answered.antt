@@ -17,7 +17,7 @@ use Rattle.txn_law.specs.Tidy.{AreTidy}
 use Rattle.txn_law.specs.Wishes.{IsWhole}
 use Rattle.txn_law.proofs.CoreLaws.{home_held, home_fetch, home_claim, lawful_held, lawful_fetch, lawful_claim}
 use Rattle.txn_law.proofs.CoreLaws.{lawful_commit, lawful_begun}
-use Rattle.txn_law.proofs.HeldReads.{reads_held, reads_fetch, reads_claim, reads_log}
+use Rattle.txn_law.proofs.HeldReads.{reads_held, reads_fetch, reads_claim}
 use Rattle.txn_law.proofs.Homes.{commit_home, commit_sets}
 use Rattle.txn_law.proofs.OtherReads.{reads_commit}
 use Rattle.txn_law.proofs.Leaves.{leaves_held, leaves_fetch, leaves_claim, leaves_commit}
@@ -81,12 +81,12 @@ module _ (K : ℕ → ℕ → Type 0) where
   log_counts old new blocks inodes k =
       subst (λ (n : ℕ). K n new.inodes) (sym blocks) (subst (λ (n : ℕ). K old.log.blocks n) (sym inodes) k)
 
-  pub next_counts : {X : Type 0} (o : Option X) (old new : CoreState) (log : Log)
-      → (IsSome o → new ≡ record old { log = log }) → (IsNone o → new ≡ old) → log.blocks ≡ old.log.blocks
-      → Counted old → Counted new
-  next_counts (Some x) old new log some none blocks k =
-      subst Counted (sym (some refl)) (subst (λ (n : ℕ). K n old.inodes) (sym blocks) k)
-  next_counts None old new log some none blocks k = same_counts old new (none refl) k
+  pub next_counts : {X : Type 0} (o : Option X) (old new next : CoreState)
+      → (IsSome o → new ≡ next) → (IsNone o → new ≡ old) → next.log.blocks ≡ old.log.blocks
+      → next.inodes ≡ old.inodes → Counted old → Counted new
+  next_counts (Some x) old new next some none blocks inodes k =
+      subst Counted (sym (some refl)) (log_counts old next blocks inodes k)
+  next_counts None old new next some none blocks inodes k = same_counts old new (none refl) k
 
 same_home : (old new : CoreState) → new ≡ old → KeepsHome old new
 same_home old new e base h = subst (λ (core : CoreState). IsHomeOf base core) (sym e) h
@@ -172,16 +172,16 @@ commit_keeps old new tx plan change (commit.Spent back same) lawful tidy h base 
     same_home old new h.0.core base home
 
 -- the log's or the installer's next call goes out, or there is none
-module _ {X : Type 0} (old new : CoreState) (log : Log) where
-  pub next_home : (o : Option X) → (IsSome o → new ≡ record old { log = log }) → (IsNone o → new ≡ old)
-      → KeepsHome old (record old { log = log }) → KeepsHome old new
+module _ {X : Type 0} (old new next : CoreState) where
+  pub next_home : (o : Option X) → (IsSome o → new ≡ next) → (IsNone o → new ≡ old)
+      → KeepsHome old next → KeepsHome old new
   next_home (Some x) some none keeps base h =
       subst (λ (core : CoreState). IsHomeOf base core) (sym (some refl)) (keeps base h)
   next_home None some none keeps base h = subst (λ (core : CoreState). IsHomeOf base core) (sym (none refl)) h
 
   pub next_law : (P : ℕ → ℕ → List ObjectBytes → List ObjectBytes → Type 0) (o : Option X)
-      → (IsSome o → new ≡ record old { log = log }) → (IsNone o → new ≡ old) → IsLawful new.log
-      → (IsLawful log → IsLawfulCore P (record old { log = log })) → IsLawfulCore P old → IsLawfulCore P new
+      → (IsSome o → new ≡ next) → (IsNone o → new ≡ old) → IsLawful new.log
+      → (IsLawful next.log → IsLawfulCore P next) → IsLawfulCore P old → IsLawfulCore P new
   next_law P (Some x) some none lawful made h =
       subst (λ (core : CoreState). IsLawfulCore P core) (sym (some refl))
       (made (subst IsLawful (ap (λ (core : CoreState). core.log) (some refl)) lawful))
@@ -240,12 +240,12 @@ claimed_reads old new tx addr (claim.Loading back) h other = same_reads old new 
 claimed_reads old new tx addr (claim.Outside back) h other = same_reads old new h.2 other
 claimed_reads old new tx addr (claim.NoMemory back) h other = same_reads old new h.2 other
 
-pub next_reads : {X : Type 0} (o : Option X) (old new : CoreState) (log : Log)
-    → (IsSome o → new ≡ record old { log = log }) → (IsNone o → new ≡ old) → (other : ℕ)
+pub next_reads : {X : Type 0} (o : Option X) (old new next : CoreState)
+    → (IsSome o → new ≡ next) → (IsNone o → new ≡ old) → (other : ℕ) → KeepsReads old next other
     → KeepsReads old new other
-next_reads (Some x) old new log some none other =
-    subst (λ (core : CoreState). KeepsReads old core other) (sym (some refl)) (reads_log old log other)
-next_reads None old new log some none other = same_reads old new (none refl) other
+next_reads (Some x) old new next some none other keeps =
+    subst (λ (core : CoreState). KeepsReads old core other) (sym (some refl)) keeps
+next_reads None old new next some none other keeps = same_reads old new (none refl) other
 
 pub begun_reads : (old new : CoreState) (answer : Result ℕ BeginFault)
     → IfOk answer (λ tx. (tx ≡ old.begun + 1) × (new ≡ with_begun old)) → OnErr answer (new ≡ old)

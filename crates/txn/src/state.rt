@@ -10,10 +10,10 @@ ghost use Rattle.wal_law.specs.Log.{IsLawful};
 ghost use Rattle.txn_law.specs.Group.{blocks_of};
 ghost use Rattle.wal_law.specs.Calls.{LogCallGoesOut, LogCallComesBack, InstCallGoesOut, InstCallComesBack};
 ghost use Rattle.wal_law.specs.Io.{IsCallWithin};
-ghost use Rattle.wal_law.specs.Logger.{IsNextLogCall, may_log, with_log_out, is_log_out, with_log_back};
-ghost use Rattle.wal_law.specs.Installer.{IsNextInstCall, may_install, with_inst_out, is_inst_out};
+ghost use Rattle.wal_law.specs.Logger.{IsNextLogCall, may_log, is_log_out, with_log_back};
+ghost use Rattle.wal_law.specs.Installer.{IsNextInstCall, may_install, is_inst_out};
 ghost use Rattle.wal_law.specs.Installer.{with_inst_back};
-ghost use Rattle.txn_law.specs.Core.{IsOut, with_begun, without, ended, installed};
+ghost use Rattle.txn_law.specs.Core.{IsOut, with_begun, with_log_call, with_inst_call, without, ended, installed};
 ghost use Rattle.txn_law.specs.Wishes.{IsInside};
 ghost use Rattle.objects.specs.declared.present.Present.{Present};
 
@@ -22,6 +22,7 @@ use crate::records::{Record, forget, unpin_holds};
 use crate::{Change, Object, Stable, Tx};
 use disk::BlockNo;
 use groups::blocks_of_objects;
+use http_server::Log;
 use limits::FIRST_HOME_BLOCK;
 use locks::Table;
 use objects::{Addr, Residency};
@@ -46,10 +47,14 @@ pub(crate) struct State<C: Change> {
     pub(crate) present: Residency,
     // The commits that aren't installed, oldest first.
     pub(crate) records: VecDeque<Record<C>>,
+    pub(crate) boot: u64,
+    // How many device calls of the log were handed out, and how many of the installer: for proofs alone.
+    pub(crate) log_calls: Log<(), ()>,
+    pub(crate) inst_calls: Log<(), ()>,
 }
 
 impl<C: Change> Model for State<C> {
-    ghost use Rattle.std.specs.Prelude.{map};
+    ghost use Rattle.std.specs.Prelude.{map, length};
     ghost use Rattle.txn_law.specs.Commit.{footprint};
     ghost use Rattle.txn_law.specs.Core.{CoreState};
 
@@ -63,6 +68,9 @@ impl<C: Change> Model for State<C> {
       holds = c.holds;
       present = c.present.blocks;
       records = map (λ r. footprint r.place.0 (C.planned r.change)) c.records.items;
+      boot = c.boot;
+      log_calls = length c.log_calls.items;
+      inst_calls = length c.inst_calls.items;
     } };
 
     ghost use Rattle.txn.specs.Neat.{IsNeat};
@@ -72,8 +80,8 @@ impl<C: Change> Model for State<C> {
 }
 
 impl<C: Change> State<C> {
-    /// A core over a log, for an image with the log's blocks and this count of inodes.
-    pub(crate) fn new(alloc: Global, log: Wal, inodes: u32) -> State<C>
+    /// A core over a log, for an image with the log's blocks, this count of inodes, and this boot number.
+    pub(crate) fn new(alloc: Global, log: Wal, inodes: u32, boot: u64) -> State<C>
         ensures { result ≡ record {
           log = log;
           inodes = inodes;
@@ -82,6 +90,9 @@ impl<C: Change> State<C> {
           holds = [];
           present = [];
           records = [];
+          boot = boot;
+          log_calls = 0;
+          inst_calls = 0;
         } }
     {
         State {
@@ -92,6 +103,9 @@ impl<C: Change> State<C> {
             holds: Table::new(alloc),
             present: Residency::new(alloc),
             records: VecDeque::new(alloc),
+            boot,
+            log_calls: Log::new(),
+            inst_calls: Log::new(),
         }
     }
 
@@ -114,6 +128,13 @@ impl<C: Change> State<C> {
         ensures { result ≡ (self.now.log.blocks, self.now.inodes) }
     {
         (self.log.blocks(), self.inodes)
+    }
+
+    /// The boot number that the image was given by the opening.
+    pub(crate) fn boot(&self) -> u64
+        ensures { result ≡ self.now.boot }
+    {
+        self.boot
     }
 
     /// Whether the transaction of this number is out.
@@ -231,13 +252,17 @@ impl<C: Change> State<C> {
     /// The log's next device call, if there is one and none is out.
     pub(crate) fn log_next(&mut self) -> Option<LogIo>
         ensures causes { is_some result ≡ may_log self.old.log }
-        ensures some { IsSome result → self.new ≡ record self.old { log = with_log_out self.old.log } }
+        ensures some { IsSome result → self.new ≡ with_log_call self.old }
         ensures none { IsNone result → self.new ≡ self.old }
         ensures within { IfSome result (λ io. IsCallWithin self.new.log.blocks io.call) }
         ensures call { IfSome result (IsNextLogCall self.new.log) }
         ensures law { IfSome result (λ io. LogCallGoesOut self.old.log io self.new.log) }
     {
-        self.log.log_next()
+        let io = self.log.log_next();
+        if io.is_some() {
+            self.log_calls = self.log_calls.and(&(), &());
+        }
+        io
     }
 
     /// Gives the log's device call back, with whether it was answered Ok.
@@ -254,13 +279,17 @@ impl<C: Change> State<C> {
     /// The installer's next device call, if there is one and none is out.
     pub(crate) fn inst_next(&mut self) -> Option<InstIo>
         ensures causes { is_some result ≡ may_install self.old.log }
-        ensures some { IsSome result → self.new ≡ record self.old { log = with_inst_out self.old.log } }
+        ensures some { IsSome result → self.new ≡ with_inst_call self.old }
         ensures none { IsNone result → self.new ≡ self.old }
         ensures within { IfSome result (λ io. IsCallWithin self.new.log.blocks io.call) }
         ensures call { IfSome result (IsNextInstCall self.new.log) }
         ensures law { IfSome result (λ io. InstCallGoesOut self.old.log io self.new.log) }
     {
-        self.log.inst_next()
+        let io = self.log.inst_next();
+        if io.is_some() {
+            self.inst_calls = self.inst_calls.and(&(), &());
+        }
+        io
     }
 
     /// Gives the installer's device call back, with whether it was answered Ok.

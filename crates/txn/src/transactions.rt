@@ -9,10 +9,10 @@ ghost use Rattle.wal_law.specs.Calls.{AgreesBeside, Pending, home_after};
 ghost use Rattle.disk.specs.Device.{Device, current, newest as newest_content};
 ghost use Rattle.disk.specs.Crash.{Image};
 ghost use Rattle.wal_law.specs.Io.{IsCallWithin};
-ghost use Rattle.wal_law.specs.Logger.{IsNextLogCall, may_log, with_log_out, is_log_out, with_log_back};
-ghost use Rattle.wal_law.specs.Installer.{IsNextInstCall, may_install, with_inst_out, is_inst_out};
+ghost use Rattle.wal_law.specs.Logger.{IsNextLogCall, may_log, is_log_out, with_log_back};
+ghost use Rattle.wal_law.specs.Installer.{IsNextInstCall, may_install, is_inst_out};
 ghost use Rattle.wal_law.specs.Installer.{with_inst_back};
-ghost use Rattle.txn_law.specs.Core.{IsOut, with_begun, without, past};
+ghost use Rattle.txn_law.specs.Core.{IsOut, with_begun, with_log_call, with_inst_call, without, past};
 ghost use Rattle.txn_law.specs.CoreLaw.{IsFresh, IsLawfulCore};
 ghost use Rattle.txn_law.specs.CoreWindow.{IsHomeOf, KeepsHome, KeepsReads, IsPending};
 ghost use Rattle.txn_law.specs.Group.{blocks_of};
@@ -52,8 +52,9 @@ impl<C: Change> Model for Core<C> {
 }
 
 impl<C: Change> Core<C> {
-    /// A core over a log, for an image with the log's blocks and this count of inodes.
-    pub fn new(alloc: Global, log: Wal, inodes: u32) -> Core<C>
+    /// A core over a log, for an image with the log's blocks, this count of inodes, and this boot number. No device
+    /// call was handed out.
+    pub fn new(alloc: Global, log: Wal, inodes: u32, boot: u64) -> Core<C>
         requires fresh { IsFresh log }
         requires counts { C.are_counts log.blocks inodes }
         ensures { result ≡ record {
@@ -64,12 +65,15 @@ impl<C: Change> Core<C> {
           holds = [];
           present = [];
           records = [];
+          boot = boot;
+          log_calls = 0;
+          inst_calls = 0;
         } }
     {
         log.lawful();
         log.whole();
         Core {
-            state: State::new(alloc, log, inodes),
+            state: State::new(alloc, log, inodes, boot),
         }
     }
 
@@ -93,6 +97,13 @@ impl<C: Change> Core<C> {
         ensures { result ≡ (self.now.log.blocks, self.now.inodes) }
     {
         self.state.counts()
+    }
+
+    /// The boot number that the image was given by the opening.
+    pub fn boot(&self) -> u64
+        ensures { result ≡ self.now.boot }
+    {
+        self.state.boot()
     }
 
     /// Whether the transaction of this number is out.
@@ -260,7 +271,7 @@ impl<C: Change> Core<C> {
     /// The log's next device call, if there is one and none is out.
     pub fn log_next(&mut self) -> Option<LogIo>
         ensures causes { is_some result ≡ may_log self.old.log }
-        ensures some { IsSome result → self.new ≡ record self.old { log = with_log_out self.old.log } }
+        ensures some { IsSome result → self.new ≡ with_log_call self.old }
         ensures none { IsNone result → self.new ≡ self.old }
         ensures within { IfSome result (λ io. IsCallWithin self.new.log.blocks io.call) }
         ensures call { IfSome result (IsNextLogCall self.new.log) }
@@ -290,7 +301,7 @@ impl<C: Change> Core<C> {
     /// The installer's next device call, if there is one and none is out.
     pub fn inst_next(&mut self) -> Option<InstIo>
         ensures causes { is_some result ≡ may_install self.old.log }
-        ensures some { IsSome result → self.new ≡ record self.old { log = with_inst_out self.old.log } }
+        ensures some { IsSome result → self.new ≡ with_inst_call self.old }
         ensures none { IsNone result → self.new ≡ self.old }
         ensures within { IfSome result (λ io. IsCallWithin self.new.log.blocks io.call) }
         ensures call { IfSome result (IsNextInstCall self.new.log) }

@@ -19,7 +19,7 @@ use Rattle.wal_law.specs.Logger.{with_log_out, with_log_back}
 use Rattle.wal_law.specs.Log.{Log, IsLawful, newest, installed_place, blocks_of as group_blocks}
 use Rattle.wal_law.proofs.Effects.{seen_inst_done}
 use Rattle.txn_law.specs.Commit.{Planned, IsOwn, committed}
-use Rattle.txn_law.specs.Core.{CoreState, with_begun, past, installed, ended}
+use Rattle.txn_law.specs.Core.{CoreState, with_begun, with_log_call, with_inst_call, past, installed, ended}
 use Rattle.txn_law.specs.CoreLaw.{IsFresh, IsPlanned, IsLawfulCore}
 use Rattle.txn_law.specs.CoreWindow.{held_of, IsCoreWindow, AreBlocks, IsHomeOf, KeepsHome}
 use Rattle.txn_law.specs.Fetch.{Fetch}
@@ -41,7 +41,7 @@ use Rattle.txn_law.proofs.OtherHome.{either}
 use Rattle.txn_law.proofs.Swept.{or-true, window_swept, core_installed}
 use Rattle.txn_law.proofs.TidyCommit.{tidy_commit}
 use Rattle.txn_law.proofs.Tidied.{tidy_held, tidy_fetch, tidy_claim, tidy_end, tidy_fetched, tidy_failed}
-use Rattle.txn_law.proofs.Tidied.{tidy_installed, tidy_log}
+use Rattle.txn_law.proofs.Tidied.{tidy_installed, tidy_log, tidy_call}
 use Rattle.txn_law.proofs.Wishes.{core_held, core_fetch, core_claim, core_end}
 
 -- Steps that keep the window of the core, over the same blocks at home.
@@ -72,7 +72,7 @@ pub home_failed : (old : CoreState) (block : BlockNo) → KeepsHome old (fetch_f
 home_failed old block base h = record { whole = h.whole; window = core_fetch_failed base old block h.window }
 
 pub home_log_out : (old : CoreState) → IsLawful old.log
-    → KeepsHome old (record old { log = with_log_out old.log })
+    → KeepsHome old (with_log_call old)
 home_log_out old lawful base h = record {
   whole = h.whole;
   window = window_log_out base old.log old.records (held_of old.present) lawful h.window;
@@ -128,7 +128,7 @@ out_changes log = elim (nat_lt 0 log.installing) as (λ t. (if t then record log
     ]
 
 pub home_inst_out : (old : CoreState) → IsLawful old.log
-    → KeepsHome old (record old { log = with_inst_out old.log })
+    → KeepsHome old (with_inst_call old)
 home_inst_out old lawful base h = record {
   whole = subst (λ (n : ℕ). AreBlocks n base) (sym (out_blocks old.log)) h.whole;
   window = window_inst_out base old.log old.records (held_of old.present) lawful h.window;
@@ -204,7 +204,7 @@ done_changes log true true h = first (nat_lt log.inst_step log.installing)
 -- What is true of every core.
 
 module _ (P : ℕ → ℕ → List ObjectBytes → List ObjectBytes → Type 0) where
-  pub lawful_new : (log : Log) (inodes : ℕ) → IsLawful log → IsFresh log → All IsWholeChange log.changes
+  pub lawful_new : (log : Log) (inodes boot : ℕ) → IsLawful log → IsFresh log → All IsWholeChange log.changes
       → IsLawfulCore P (record {
         log = log;
         inodes = inodes;
@@ -213,8 +213,11 @@ module _ (P : ℕ → ℕ → List ObjectBytes → List ObjectBytes → Type 0) 
         holds = [];
         present = [];
         records = [];
+        boot = boot;
+        log_calls = 0;
+        inst_calls = 0;
       })
-  lawful_new log inodes lawful fresh whole = record {
+  lawful_new log inodes boot lawful fresh whole = record {
     log = lawful;
     tidy = record {
       owned = λ k d lt. absurd (omega (arith, lt));
@@ -320,10 +323,11 @@ module _ (P : ℕ → ℕ → List ObjectBytes → List ObjectBytes → Type 0) 
   }
 
   pub lawful_log_out : (old : CoreState) → IsLawful (with_log_out old.log) → IsLawfulCore P old
-      → IsLawfulCore P (record old { log = with_log_out old.log })
+      → IsLawfulCore P (with_log_call old)
   lawful_log_out old lawful h = record {
     log = lawful;
-    tidy = tidy_log old (with_log_out old.log) refl refl h.tidy;
+    tidy = tidy_call old (with_log_out old.log) (old.log_calls + 1) old.inst_calls
+        (tidy_log old (with_log_out old.log) refl refl h.tidy);
     home = (h.home.0, home_log_out old h.log h.home.0 h.home.1);
     planned = h.planned;
   }
@@ -346,10 +350,11 @@ module _ (P : ℕ → ℕ → List ObjectBytes → List ObjectBytes → Type 0) 
   }
 
   pub lawful_inst_out : (old : CoreState) → IsLawful (with_inst_out old.log) → IsLawfulCore P old
-      → IsLawfulCore P (record old { log = with_inst_out old.log })
+      → IsLawfulCore P (with_inst_call old)
   lawful_inst_out old lawful h = record {
     log = lawful;
-    tidy = tidy_log old (with_inst_out old.log) (out_blocks old.log) (out_changes old.log) h.tidy;
+    tidy = tidy_call old (with_inst_out old.log) old.log_calls (old.inst_calls + 1)
+        (tidy_log old (with_inst_out old.log) (out_blocks old.log) (out_changes old.log) h.tidy);
     home = (h.home.0, home_inst_out old h.log h.home.0 h.home.1);
     planned = subst (λ (n : ℕ). All (IsPlanned P n old.inodes) old.records)
         (sym (out_blocks old.log)) h.planned;

@@ -115,6 +115,13 @@ reads_failed old block t =
 pub reads_log : (old : CoreState) (log : Log) (t : ℕ) → KeepsReads old (record old { log = log }) t
 reads_log old log t = keeps old (record old { log = log }) t (λ a reads. reads) (λ a c reads e. e)
 
+-- whatever is counted, too
+pub reads_call : (old : CoreState) (log : Log) (log_calls inst_calls t : ℕ)
+    → KeepsReads old (record old { log = log; log_calls = log_calls; inst_calls = inst_calls }) t
+reads_call old log log_calls inst_calls t =
+    keeps old (record old { log = log; log_calls = log_calls; inst_calls = inst_calls }) t (λ a reads. reads)
+    (λ a c reads e. e)
+
 pub reads_installed : (spare : Present → Bool) (old : CoreState) (log : Log) (t : ℕ) → KeepsReads old
     (installed spare old log) t
 reads_installed spare old log t =

@@ -509,3 +509,17 @@ tidy_log old log same e tidy = record {
       (λ x h none. ap (λ xs. newest_of xs x.block.0) e ∙ h none) old.present tidy.pending;
   changes = subst (All IsWholeChange) (sym e) tidy.changes;
 }
+
+-- how many device calls were handed out changes nothing of it
+pub tidy_call : (old : CoreState) (log : Log) (log_calls inst_calls : ℕ) → AreTidy (record old { log = log })
+    → AreTidy (record old { log = log; log_calls = log_calls; inst_calls = inst_calls })
+tidy_call old log log_calls inst_calls tidy = record {
+  owned = tidy.owned;
+  placed = tidy.placed;
+  apart = tidy.apart;
+  read = tidy.read;
+  claimed = tidy.claimed;
+  once = tidy.once;
+  pending = tidy.pending;
+  changes = tidy.changes;
+}

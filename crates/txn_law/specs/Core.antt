@@ -1,7 +1,9 @@
 -- What a contract sees of the core. Its lists have no promised order, but that of the commits.
 use Rattle.std.specs.Prelude.{◌≡◌, ℕ, ◌+◌, Bool, not, true, List, ◌∷◌, nat_eq, nat_lt}
 use Rattle.std.specs.List.{filter, list_any}
+use Rattle.wal_law.specs.Installer.{with_inst_out}
 use Rattle.wal_law.specs.Log.{Log, installed_place}
+use Rattle.wal_law.specs.Logger.{with_log_out}
 use Rattle.txn_law.specs.Holds.{released}
 use Rattle.txn_law.specs.Records.{swept}
 use Rattle.txn_law.specs.Window.{Footprint}
@@ -23,6 +25,11 @@ pub record CoreState : Type 0 where
   pub present : List Present
   -- the commits that aren't installed, oldest first
   pub records : List Footprint
+  -- the boot number that the image was given by the opening
+  pub boot : ℕ
+  -- how many device calls of the log were handed out, and how many of the installer
+  pub log_calls : ℕ
+  pub inst_calls : ℕ
 
 -- the transaction is out
 abbrev pub IsOut : CoreState → ℕ → Type 0
@@ -31,6 +38,14 @@ IsOut core tx = list_any (λ other. nat_eq other tx) core.out ≡ true
 -- the core once a transaction was begun, by the next number
 abbrev pub with_begun : CoreState → CoreState
 with_begun core = record core { begun = core.begun + 1; out = (core.begun + 1) ∷ core.out }
+
+-- the core once the log's next device call is handed out,
+abbrev pub with_log_call : CoreState → CoreState
+with_log_call core = record core { log = with_log_out core.log; log_calls = core.log_calls + 1 }
+
+-- and the installer's
+abbrev pub with_inst_call : CoreState → CoreState
+with_inst_call core = record core { log = with_inst_out core.log; inst_calls = core.inst_calls + 1 }
 
 -- the transactions that are out once this one has ended
 abbrev pub without : ℕ → List ℕ → List ℕ

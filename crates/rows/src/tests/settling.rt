@@ -11,7 +11,7 @@ use nfs_types::{Call, Credential, Handle, NewAttributes, NumberList, Reply, SetT
 use plain_image::read_image;
 use std::alloc::{AllocError, Global};
 use std::test::Fail;
-use store::{Store, Verdict, procedure};
+use store::{Store, Verdict, can_be_spelled, procedure};
 use worked_messages::NOW;
 
 /// The opened store of an image.
@@ -40,6 +40,9 @@ pub fn call(alloc: Global, store: &mut Store<MemDisk>, call: Call) -> Verdict
         gid: 0,
         gids: NumberList::new(Vec::new(alloc)),
     };
+    if !can_be_spelled(&call) {
+        return Verdict::NoMemory;
+    }
     procedure(alloc, store, owner, NOW, call)
 }
 

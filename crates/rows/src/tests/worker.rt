@@ -15,7 +15,7 @@ use nfs_types::Reply;
 use procs::Done;
 use std::alloc::Global;
 use std::test::Fail;
-use store::{CallAnswer, Verdict, Worker};
+use store::{CallAnswer, Verdict, Worker, can_be_spelled};
 use txn::Core;
 use wal::Wal;
 use worked_messages::{GETATTR, NOW};
@@ -47,7 +47,7 @@ fn core_of<D: CrashDisk>(alloc: Global, disk: &mut D) -> Result<Core<Done>, Fail
     let found = super_of(alloc, disk)?;
     let log = recover(alloc, disk)?;
     let wal = Wal::new(alloc, found.geometry.blocks, log)?;
-    Ok(Core::new(alloc, wal, found.geometry.inodes))
+    Ok(Core::new(alloc, wal, found.geometry.inodes, 1))
 }
 
 // The read that is due, and a step.
@@ -88,7 +88,10 @@ fn answer<D: CrashDisk>(
 fn told<D: CrashDisk>(alloc: Global, disk: &mut D) -> Result<Option<CallAnswer>, Fail> {
     let mut core = core_of(alloc, disk)?;
     let (credential, call) = asked(alloc, &GETATTR)?;
-    let mut worker = Worker::new(alloc, 1);
+    if !can_be_spelled(&call) {
+        return Ok(None);
+    }
+    let mut worker = Worker::new(alloc);
     worker.hand(credential, NOW, call);
     let told = answer(alloc, disk, &mut core, &mut worker);
     worker.end(&mut core);

@@ -28,7 +28,7 @@ pub(super) fn a_call_leaves_a_run_going()
         (store : StoreSide) (workers later : List State) (worker new : State) (made : Option Step)
         (before after : Run) → IsNextEvent b (event.Call number credential moment call) before
         → Replaces workers number worker new later
-        → TakesCall (ctx_of credential moment worker.boot) call worker made new
+        → TakesCall (ctx_of credential moment) call worker made new
         → (GoesWith worker store.core → GoesWith new store.core) → NotesStep made before after
         → IsGoing b store workers before → IsGoing b store later after }
 {

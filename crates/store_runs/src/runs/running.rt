@@ -2,6 +2,8 @@
 ghost use Rattle.std.specs.Prelude.{◌≡◌, ◌+◌, ◌^◌, ◌<◌, ◌≤◌, ◌++◌, All, IsTrue, [], None, length, vec_len};
 ghost use Rattle.std.specs.Prelude.{IsFalse, false, vec_capacity};
 ghost use Rattle.layout.specs.Geometry.{IsLawful};
+ghost use Rattle.model.specs.Sound.{SoundTime};
+ghost use Rattle.nfs_types.specs.Fits.{CallFits};
 ghost use Rattle.store_promise.specs.Room.{HasRoom};
 ghost use Rattle.store_promise.specs.Running.{IsLogStep};
 ghost use Rattle.store_promise.specs.Transcript.{calls_device, refusals};
@@ -19,6 +21,7 @@ ghost use Rattle.store_workers.specs.WorkerSteps.{side};
 
 use super::going::{a_log_event_leaves_a_run_going, a_work_event_leaves_a_run_going};
 use super::going_workers::{a_call_leaves_a_run_going, a_read_leaves_a_run_going};
+use super::sound::{can_be_spelled, is_moment};
 use disk::CrashDisk;
 use log_seats::{Installer, Logger, Stepped};
 use nfs_types::{Call, Credential, Moment};
@@ -63,14 +66,13 @@ impl<D: CrashDisk> Running<D> {
         ensures store { result.store ≡ store }
         ensures lawful { IsLawful result.store.core.log.blocks result.store.core.inodes }
         ensures count { length result.workers.items ≡ workers }
-        ensures workers { All (IsAtRest store.boot) result.workers.items }
+        ensures workers { All IsAtRest result.workers.items }
         ensures calls { AreQuiet result.calls }
         ensures clock { result.clock ≡ 0 }
     {
-        let boot = store.boot();
         Running {
             store,
-            workers: new_workers(alloc, boot, workers, room),
+            workers: new_workers(alloc, workers, room),
             calls: Calls {
                 logger: Logger::new(),
                 installer: Installer::new(),
@@ -154,7 +156,7 @@ impl<D: CrashDisk> Running<D> {
         }
     }
 
-    // Hands a worker a call.
+    // Hands a worker a call. One that can't be spelled, or at a moment that is none, does nothing.
     fn hand(
         &mut self,
         worker: usize,
@@ -167,11 +169,16 @@ impl<D: CrashDisk> Running<D> {
         ensures rest { self.new ≡ record self.old { workers = self.new.workers } }
         ensures absent { (worker < length self.old.workers.items → ⊥)
             → (result ≡ None) × (self.new ≡ self.old) }
-        ensures step { worker < length self.old.workers.items → MovesOne self.old.workers.items worker
-            (λ old new. TakesCall (ctx_of credential moment old.state.boot) call old.state result new.state
+        ensures unsound { (SoundTime moment → CallFits call → ⊥) → (result ≡ None) × (self.new ≡ self.old) }
+        ensures step { worker < length self.old.workers.items → SoundTime moment → CallFits call
+            → MovesOne self.old.workers.items worker
+            (λ old new. TakesCall (ctx_of credential moment) call old.state result new.state
             × KeepsFits old new) self.new.workers.items }
     {
         if worker >= self.workers.len() {
+            return None;
+        }
+        if !is_moment(moment) || !can_be_spelled(&call) {
             return None;
         }
         if self.workers[worker].hand(credential, moment, call) {
@@ -355,15 +362,15 @@ impl<D: CrashDisk> Running<D> {
 }
 
 // As many workers as room is made for, which have done nothing yet.
-fn new_workers(alloc: Global, boot: u64, workers: usize, room: Vec<Worker>) -> Vec<Worker>
+fn new_workers(alloc: Global, workers: usize, room: Vec<Worker>) -> Vec<Worker>
     requires empty { room.items ≡ [] }
     requires room { workers ≤ vec_capacity room }
     ensures count { length result.items ≡ workers }
-    ensures rest { All (IsAtRest boot) result.items }
+    ensures rest { All IsAtRest result.items }
 {
     let mut all = room;
     'each: for _ in 0..workers {
-        all.push_reserved(Worker::new(alloc, boot));
+        all.push_reserved(Worker::new(alloc));
     }
     all
 }

@@ -41,7 +41,6 @@ pub(crate) enum Phase {
 
 // What a worker is, whatever it may need in its phase.
 pub(crate) struct State {
-    pub(crate) boot: u64,
     pub(crate) phase: Phase,
     pub(crate) work: Work,
     pub(crate) begun: Begun,

@@ -91,6 +91,7 @@ impl State {
         match core.begin() {
             Ok(tx) => {
                 let number = tx.number();
+                job.ctx.boot = core.boot();
                 job.ctx.transaction = number;
                 core.counted();
                 let (blocks, inodes) = core.counts();

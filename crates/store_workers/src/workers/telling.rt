@@ -25,14 +25,14 @@ ghost use Rattle.store_promise.specs.declared.transcript.Run.{Run};
 /// step, and once they are told the worker stands between the events again.
 pub fn a_worker_tells_its_steps()
     ensures { (boot number : ℕ) (entries : List Entry) (old new : Side) (made : Option Step)
-        → IsWorkerAt boot entries old.worker → old.core.log.places ≡ length entries
+        → IsWorkerAt boot entries old.worker → old.core.boot ≡ boot → old.core.log.places ≡ length entries
         → GoesOn old.worker.phase old made new → TellsStep boot number entries old made new }
 {}
 
 /// A run notes just what its worker tells, where its history has what was committed so far.
 pub fn a_run_notes_its_workers_steps()
     ensures { (boot number clock : ℕ) (old new : Side) (made : Option Step) (before after : Run)
-        → IsWorkerAt boot (entries_of (transcript_of before)) old.worker
+        → IsWorkerAt boot (entries_of (transcript_of before)) old.worker → old.core.boot ≡ boot
         → old.core.log.places ≡ length before.history.items → HasWorked number clock old made new before after
         → NotesWork boot number clock old made new before after }
 {}
@@ -42,7 +42,7 @@ pub fn a_worker_tells_its_call()
     ensures { (boot : ℕ) (entries : List Entry) (credential : Credential) (moment : Moment) (call : Call)
         (old new : State) (made : Option Step) → SoundCall credential moment call
         → IsWorkerAt boot entries old
-        → TakesCall (ctx_of credential moment old.boot) call old made new
+        → TakesCall (ctx_of credential moment) call old made new
         → TellsCall boot entries (record { credential = credential; moment = moment; call = call })
         old made new }
 {}

@@ -71,7 +71,7 @@ impl Bench<MemDisk> {
         Ok(Bench {
             alloc,
             disk,
-            core: Core::new(alloc, wal, INODES),
+            core: Core::new(alloc, wal, INODES, 1),
         })
     }
 
@@ -94,7 +94,7 @@ impl Bench<MemDisk> {
         Ok(Bench {
             alloc,
             disk,
-            core: Core::new(alloc, wal, INODES),
+            core: Core::new(alloc, wal, INODES, 1),
         })
     }
 }

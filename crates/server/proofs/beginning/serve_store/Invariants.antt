@@ -7,10 +7,18 @@ abbrev pub ghosts-serve_opened-G-Ledger : goal.ghosts-serve_opened-G-Ledger
 ghosts-serve_opened-G-Ledger g a = record { name = a.ledgers.logged.name; parts = a.ledgers.logged.parts }
 
 abbrev pub ghosts-serve_opened-G-Whole : goal.ghosts-serve_opened-G-Whole
-ghosts-serve_opened-G-Whole g a = record { all = a.ledgers.logged.parts }
+ghosts-serve_opened-G-Whole g a = record {
+  all = a.ledgers.logged.parts;
+  first = a.opened.core.log_calls;
+  boot = a.opened.core.boot;
+}
 
 abbrev pub ghosts-serve_opened-I-Ledger : goal.ghosts-serve_opened-I-Ledger
 ghosts-serve_opened-I-Ledger g a = record { name = a.ledgers.installed.name; parts = a.ledgers.installed.parts }
 
 abbrev pub ghosts-serve_opened-I-Whole : goal.ghosts-serve_opened-I-Whole
-ghosts-serve_opened-I-Whole g a = record { all = a.ledgers.installed.parts }
+ghosts-serve_opened-I-Whole g a = record {
+  all = a.ledgers.installed.parts;
+  first = a.opened.core.inst_calls;
+  boot = a.opened.core.boot;
+}

@@ -8,6 +8,9 @@ use Rattle.session.specs.Replying.{IsCallAnswered, IsMountReply, IsSpelled}
 use Rattle.session.proofs.Courses.{delivers_so}
 use Rattle.session.proofs.answering.serve_call.Goals as goal
 
+pub procedure-verdict-requires-clause-spelled : goal.procedure-verdict-requires-clause-spelled
+procedure-verdict-requires-clause-spelled g c = subst ProgramCallFits c.in-Nfs.is c.requires.fits.fits
+
 pub returns-in-Nfs-clause-serves : goal.returns-in-Nfs-clause-serves
 returns-in-Nfs-clause-serves g c =
     let device = g.D.CrashDisk.device in

@@ -20,7 +20,7 @@ reads-init g c =
     let keeps = g.D.CrashDisk.keeps_model was.disk in
     let old = store_of (g.D.CrashDisk.device was.disk) was.core was.boot in
     let written = g.W.Write.contents c.args.writer.now in (
-      c.requires,
+      c.requires.idle,
       inl c.new-records.ensures,
       refl,
       λ keeps. keeps,

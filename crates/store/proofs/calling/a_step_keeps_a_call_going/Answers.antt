@@ -23,7 +23,8 @@ returns-clause-goes c = λ o now worker new made calling goes home reads lawful 
     now.boot o.first
     calling.last entries runs tells_so (λ other differs. refl) runs.inodes worker new made goes calling.at_work
     stands)
-    (c.a_worker_tells_its_steps.ensures now.boot 0 entries old new made stands (sym since.counted) goes)
+    (c.a_worker_tells_its_steps.ensures now.boot 0 entries old new made stands since.boot_is (sym since.counted)
+    goes)
     (c.a_workers_step_is_told.ensures setting told 0 so_far tells_so worker new since.over.lawful
     lawful runs.position made goes)
     (c.a_core_at_work_stays_so.ensures old new made now.boot entries calling.at_work stands

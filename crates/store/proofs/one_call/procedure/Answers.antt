@@ -37,9 +37,9 @@ returns-then-keeps_too_many-clause-answered g c = λ first last entries keeps so
     let at_rest_is = c.new-worker.ensures.state in
     let took = c.hand.ensures.took (c.hand.ensures.taken.1 (ap (λ (s : State). s.phase) at_rest_is)) in
     let state_is = took
-    ∙ ap (λ (s : State). with_call (ctx_of c.args.credential c.args.moment s.boot) c.args.call s) at_rest_is in
+    ∙ ap (λ (s : State). with_call (ctx_of c.args.credential c.args.moment) c.args.call s) at_rest_is in
     let fits = c.hand.ensures.fits was.core (c.new-worker.ensures.fits was.core was.lawful) in
-    let begun = c.a_call_begins.ensures o c.hand.new.self.state sound c.requires state_is
+    let begun = c.a_call_begins.ensures o c.hand.new.self.state sound c.requires.idle state_is
     (goes_with c.hand.new.self was.core fits) opened in
     let verdict = c.answer-verdict.result in
     let mid = c.answer-verdict.new.store in
@@ -69,9 +69,9 @@ returns-else-keeps_too_many-clause-answered g c = λ first last entries keeps so
     let at_rest_is = c.new-worker.ensures.state in
     let took = c.hand.ensures.took (c.hand.ensures.taken.1 (ap (λ (s : State). s.phase) at_rest_is)) in
     let state_is = took
-    ∙ ap (λ (s : State). with_call (ctx_of c.args.credential c.args.moment s.boot) c.args.call s) at_rest_is in
+    ∙ ap (λ (s : State). with_call (ctx_of c.args.credential c.args.moment) c.args.call s) at_rest_is in
     let fits = c.hand.ensures.fits was.core (c.new-worker.ensures.fits was.core was.lawful) in
-    let begun = c.a_call_begins.ensures o c.hand.new.self.state sound c.requires state_is
+    let begun = c.a_call_begins.ensures o c.hand.new.self.state sound c.requires.idle state_is
     (goes_with c.hand.new.self was.core fits) opened in
     let verdict = c.answer-verdict.result in
     let mid = c.answer-verdict.new.store in

@@ -1,10 +1,10 @@
-use Rattle.std.proofs.Common.{◌≡◌, ◌∙◌, ◌≤◌, ap, refl, rules, subst, sym, is_ok, Some, true, arith, [], ◌∷◌}
+use Rattle.std.proofs.Common.{◌≡◌, ◌+◌, ◌∙◌, ◌≤◌, ap, refl, rules, subst, sym, is_ok, Some, true, arith, [], ◌∷◌}
 use Rattle.store_promise.specs.OpenSince.{IsOpenSince}
 use Rattle.store_promise.specs.Running.{IsLogStep, KeepsTransactions, at_rest, side}
 use Rattle.store_promise.specs.declared.events.Step.TheVariants as step
 use Rattle.store_promise.proofs.OpenSteps.{HasSameChanges, inst_out_same}
 use Rattle.store_promise.proofs.Places.{places_home}
-use Rattle.txn.specs.Core.{CoreState}
+use Rattle.txn.specs.Core.{CoreState, with_inst_call}
 use Rattle.wal_law.specs.Calls.{Pending, idle, out, was_made, home_after}
 use Rattle.wal_law.specs.Installer.{is_inst_out, may_install, with_inst_out}
 use Rattle.wal_law.specs.Io.{IsCallWithin}
@@ -67,10 +67,10 @@ returns-clause-open g c =
     let calls = c.a_device_counts_the_calls_of_its_steps.ensures in
     let stays = c.what_is_settled_stays_settled.ensures.installer in
     let may : may_install old.log ≡ true = one.goes.may in
-    let is : mid ≡ record old { log = with_inst_out old.log } = one.goes.core in
+    let is : mid ≡ with_inst_call old = one.goes.core in
     let log_is : mid.log ≡ with_inst_out old.log = ap (λ (core : CoreState). core.log) is in
     let out_kept : KeepsTransactions old mid =
-    log_alone old mid (is ∙ ap (λ l. record old { log = l }) (sym log_is)) one.goes.reads in
+    log_alone old mid old.log_calls (old.inst_calls + 1) (is ∙ ap (λ l. record (with_inst_call old) { log = l }) (sym log_is)) one.goes.reads in
     let taken : IsLogStep MayInstall (at_rest d old) (Some (step.InstNext io.call)) (side d mid idle (out io)) =
     goes_on MayInstall (at_rest d old) (side d mid idle (out io)) (Some (step.InstNext io.call))
     (calls.none d (Some (step.InstNext io.call)) refl) out_kept
@@ -84,8 +84,8 @@ returns-clause-open g c =
     }))
     (λ base boot first last entries fetches since all.
     c.what_was_read_is_at_home.ensures.kept base old mid fetches (fewer old mid out_kept) all)
-    (λ base boot first last entries since. log_places base old mid
-    (is ∙ ap (λ l. record old { log = l }) (sym log_is))
+    (λ base boot first last entries since. log_places base old mid old.log_calls (old.inst_calls + 1)
+    (is ∙ ap (λ l. record (with_inst_call old) { log = l }) (sym log_is))
     (subst (HasSameChanges old.log) (sym log_is) (inst_out_same old.log))) in
     let ok_is : ok ≡ is_ok answer = answered.ok_is in
     let same : made ≡ was_made io answer =
@@ -192,7 +192,7 @@ returns-clause-stays g c =
     let laws = c.the_installer_leaves_the_store_open.ensures in
     let settled = c.what_is_settled_stays_settled.ensures.installer in
     let later = made_later d io answer e answered.call in
-    let is : out ≡ record core { log = with_inst_out core.log } = one.goes.core in
+    let is : out ≡ with_inst_call core = one.goes.core in
     let taken = laws.taken base d core out io idle boot first last entries since
     one.goes.may is one.goes.law
     (record {

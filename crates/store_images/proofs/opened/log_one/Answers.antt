@@ -1,9 +1,9 @@
-use Rattle.std.proofs.Common.{◌≡◌, ◌∙◌, ◌≤◌, ap, refl, rules, subst, sym, is_ok, Some, true, arith, [], ◌∷◌}
+use Rattle.std.proofs.Common.{◌≡◌, ◌+◌, ◌∙◌, ◌≤◌, ap, refl, rules, subst, sym, is_ok, Some, true, arith, [], ◌∷◌}
 use Rattle.store_promise.specs.OpenSince.{IsOpenSince}
 use Rattle.store_promise.specs.Running.{IsLogStep, KeepsTransactions, at_rest, side}
 use Rattle.store_promise.specs.declared.events.Step.TheVariants as step
 use Rattle.store_promise.proofs.OpenSteps.{HasSameChanges, log_given_same, log_out_same}
-use Rattle.txn.specs.Core.{CoreState}
+use Rattle.txn.specs.Core.{CoreState, with_log_call}
 use Rattle.wal_law.specs.Calls.{Pending, idle, out, was_made}
 use Rattle.wal_law.specs.Io.{IsCallWithin}
 use Rattle.wal_law.specs.Log.{Log, settled_place}
@@ -66,10 +66,10 @@ returns-clause-open g c =
     let law = c.the_logger_leaves_the_store_open.ensures in
     let calls = c.a_device_counts_the_calls_of_its_steps.ensures in
     let stays = c.what_is_settled_stays_settled.ensures.logger in
-    let is : mid ≡ record old { log = with_log_out old.log } = one.goes.core in
+    let is : mid ≡ with_log_call old = one.goes.core in
     let log_is : mid.log ≡ with_log_out old.log = ap (λ (core : CoreState). core.log) is in
     let out_kept : KeepsTransactions old mid =
-    log_alone old mid (is ∙ ap (λ l. record old { log = l }) (sym log_is)) one.goes.reads in
+    log_alone old mid (old.log_calls + 1) old.inst_calls (is ∙ ap (λ l. record (with_log_call old) { log = l }) (sym log_is)) one.goes.reads in
     let taken : IsLogStep MayLog (at_rest d old) (Some (step.LogNext io.call)) (side d mid (out io) idle) =
     goes_on MayLog (at_rest d old) (side d mid (out io) idle) (Some (step.LogNext io.call))
     (calls.none d (Some (step.LogNext io.call)) refl) out_kept
@@ -84,8 +84,8 @@ returns-clause-open g c =
     }))
     (λ base boot first last entries fetches since all.
     c.what_was_read_is_at_home.ensures.kept base old mid fetches (fewer old mid out_kept) all)
-    (λ base boot first last entries since. log_places base old mid
-    (is ∙ ap (λ l. record old { log = l }) (sym log_is))
+    (λ base boot first last entries since. log_places base old mid (old.log_calls + 1) old.inst_calls
+    (is ∙ ap (λ l. record (with_log_call old) { log = l }) (sym log_is))
     (subst (HasSameChanges old.log) (sym log_is) (log_out_same old.log))) in
     let ok_is : ok ≡ is_ok answer = answered.ok_is in
     let same : made ≡ was_made io answer =
@@ -102,7 +102,7 @@ returns-clause-open g c =
     (λ base boot first last entries fetches since all. all)
     (λ base boot first last entries since. same_core_places base mid) in
     let back_kept : KeepsTransactions mid new =
-    log_alone mid new one.back.core one.back.reads in
+    log_alone mid new mid.log_calls mid.inst_calls one.back.core one.back.reads in
     let given : IsLogStep MayLog (side e mid made idle) (Some (step.LogDone ok)) (at_rest e new) =
     goes_on MayLog (side e mid made idle) (at_rest e new) (Some (step.LogDone ok))
     (calls.none e (Some (step.LogDone ok)) refl) back_kept
@@ -119,7 +119,7 @@ returns-clause-open g c =
     }))
     (λ base boot first last entries fetches since all.
     c.what_was_read_is_at_home.ensures.kept base mid new fetches (fewer mid new back_kept) all)
-    (λ base boot first last entries since. log_places base mid new one.back.core
+    (λ base boot first last entries since. log_places base mid new mid.log_calls mid.inst_calls one.back.core
     (subst (HasSameChanges mid.log) (sym one.back.log)
     (log_given_same mid.log (is_log_out mid.log io) ok))) in
     let called : HasCalled old.log d new.log e =
@@ -182,7 +182,7 @@ returns-clause-stays g c =
     let laws = c.the_logger_leaves_the_store_open.ensures in
     let settled = c.what_is_settled_stays_settled.ensures.logger in
     let later = made_later d io answer e answered.call in
-    let is : out ≡ record core { log = with_log_out core.log } = one.goes.core in
+    let is : out ≡ with_log_call core = one.goes.core in
     let taken = laws.taken base d core out io idle boot first last entries since is one.goes.law
     (record {
       lawful = one.lawful.log;

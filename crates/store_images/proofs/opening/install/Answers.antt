@@ -1,7 +1,5 @@
 -- What each call keeps, all of them keep.
-use Rattle.std.proofs.Common.{arith, ap, ◌∙◌, subst, sym}
-use Rattle.txn_law.specs.Core.{CoreState}
-use Rattle.store_images.specs.BringingHome.{unused}
+use Rattle.std.proofs.Common.{arith, ◌∙◌, subst, sym}
 use Rattle.wal_law.specs.Recovery.{IsUnspoiled}
 use Rattle.store_promise.proofs.Later.{past_more}
 use Rattle.store_images.proofs.opening.install.Goals as goal
@@ -20,7 +18,9 @@ calls-preserved g c =
       later = past_more (g.D.CrashDisk.device c.args.disk.now) (g.D.CrashDisk.device c.calls.disk)
           (g.D.CrashDisk.device c.install_one.new.disk) old.later made.later;
       blocks = made.blocks ∙ old.blocks;
-      bare = made.bare ∙ ap (λ n. unused c.install_one.new.core.log n) (ap (λ (core : CoreState). core.inodes) old.bare);
+      bare = made.bare;
+      inodes = made.inodes ∙ old.inodes;
+      boot = made.boot ∙ old.boot;
       fresh = made.fresh;
       quiet = made.quiet;
       model = λ kept. old.model (made.model kept);

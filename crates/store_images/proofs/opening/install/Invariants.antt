@@ -12,7 +12,9 @@ abbrev pub invariant-calls : goal.invariant-calls
 invariant-calls g l = record {
   later : IsLater (g.D.CrashDisk.device l.fn.disk) (g.D.CrashDisk.device l.disk);
   blocks : l.core.log.blocks ≡ l.fn.core.log.blocks;
-  bare : l.core ≡ unused l.core.log l.fn.core.inodes;
+  bare : l.core ≡ unused l.core;
+  inodes : l.core.inodes ≡ l.fn.core.inodes;
+  boot : l.core.boot ≡ l.fn.core.boot;
   fresh : IsFresh l.core.log;
   quiet : IsQuiet l.core.log;
   model : g.D.CrashDisk.keeps_model l.disk → g.D.CrashDisk.keeps_model l.fn.disk;

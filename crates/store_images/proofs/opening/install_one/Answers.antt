@@ -15,8 +15,7 @@ use Rattle.store_images.proofs.opening.install_one.Goals as goal
 pub returns-clause-bare : goal.returns-clause-bare
 returns-clause-bare g c =
     let one = c.install_one.ensures.one (search rules) in
-    stays_unused c.args.core.now one.mid c.install_one.new.core one.io one.ok c.args.core.now.inodes
-    c.requires.bare one.goes one.back
+    stays_unused c.args.core.now one.mid c.install_one.new.core one.io one.ok c.requires.bare one.goes one.back
 
 pub returns-clause-home : goal.returns-clause-home
 returns-clause-home g c = λ before raised brings.

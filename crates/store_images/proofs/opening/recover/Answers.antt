@@ -1,5 +1,5 @@
 -- At each stop of an opening the image has its tree.
-use Rattle.std.proofs.Common.{ap, arith, ◌≡◌, ◌+◌, ◌∙◌, refl, sym, inl, inr, length, subst}
+use Rattle.std.proofs.Common.{ap, ap₂, ℕ, arith, ◌≡◌, ◌+◌, ◌∙◌, refl, sym, inl, inr, length, subst}
 use Rattle.limits.specs.declared.TheConstants.{BLOCK_BYTES}
 use Rattle.disk.specs.Device.{Device}
 use Rattle.layout.specs.declared.super_block.Super.{Super}
@@ -119,7 +119,11 @@ returns-clause-keeps g c = λ tree first holds kept.
     let over = is_new before tree first holds found (next found) (super_bytes (next found))
     is.is_super refl refl
     is_raised (full (next found)) home later log c.lawful-3.ensures.log empty raises blocks c.install.new.core
-    (c.install.ensures.bare ∙ ap (λ n. unused log n) (ap (λ (core : CoreState). core.inodes) c.new-core.ensures))
+    c.install.new.core.log_calls c.install.new.core.inst_calls
+    (c.install.ensures.bare
+    ∙ ap₂ (λ (n b : ℕ). record (unused c.install.new.core) { inodes = n; boot = b })
+    (c.install.ensures.inodes ∙ ap (λ (core : CoreState). core.inodes) c.new-core.ensures)
+    (c.install.ensures.boot ∙ ap (λ (core : CoreState). core.boot) c.new-core.ensures))
     c.lawful-3.ensures.tidy c.install.ensures.fresh none.0 clean in (
       next_boot before tree first holds found (next found) (super_bytes (next found)) is.is_super refl
           refl is_raised (full (next found)),

@@ -1,6 +1,6 @@
 use Rattle.std.proofs.Common.{refl}
-use Rattle.wal_law.specs.Installer.{with_inst_out}
-use Rattle.wal_law.specs.Logger.{with_log_back, with_log_out}
+use Rattle.txn_law.specs.Core.{with_inst_call, with_log_call}
+use Rattle.wal_law.specs.Logger.{with_log_back}
 use Rattle.store_promise.proofs.OpenCommits.{blocks_now}
 use Rattle.store_promise.proofs.OpenInstalls.{blocks_then}
 use Rattle.store_promise.proofs.OpenSteps.{blocks_same, inst_out_same, log_back_same, log_out_same}
@@ -12,19 +12,24 @@ returns-clause-commit c = blocks_now
 
 pub returns-clause-beside : goal.returns-clause-beside
 returns-clause-beside c = λ base old new beside. blocks_same base old new
-    (record { log = same_changes old.log new.log beside.log; inodes = beside.inodes; records = beside.records })
+    (record {
+      log = same_changes old.log new.log beside.log;
+      inodes = beside.inodes;
+      records = beside.records;
+      boot = beside.boot;
+    })
 
 pub returns-clause-logger : goal.returns-clause-logger
 returns-clause-logger c = λ base core ok. (
-  blocks_same base core (record core { log = with_log_out core.log })
-      (record { log = log_out_same core.log; inodes = refl; records = refl }),
+  blocks_same base core (with_log_call core)
+      (record { log = log_out_same core.log; inodes = refl; records = refl; boot = refl }),
   blocks_same base core (record core { log = with_log_back core.log ok })
-      (record { log = log_back_same core.log ok; inodes = refl; records = refl }),
+      (record { log = log_back_same core.log ok; inodes = refl; records = refl; boot = refl }),
 )
 
 pub returns-clause-installer : goal.returns-clause-installer
-returns-clause-installer c = λ base core. blocks_same base core (record core { log = with_inst_out core.log })
-    (record { log = inst_out_same core.log; inodes = refl; records = refl })
+returns-clause-installer c = λ base core. blocks_same base core (with_inst_call core)
+    (record { log = inst_out_same core.log; inodes = refl; records = refl; boot = refl })
 
 pub returns-clause-installed : goal.returns-clause-installed
 returns-clause-installed c = λ base d old new logging installing ok boot first last entries since back records.

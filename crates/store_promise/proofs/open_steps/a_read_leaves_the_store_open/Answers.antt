@@ -5,7 +5,7 @@ use Rattle.store_promise.proofs.open_steps.a_read_leaves_the_store_open.Goals as
 pub returns : goal.returns
 returns c = λ base d later core logging installing boot first last entries since read.
     still_open base core core
-    (record { log = same_changes core.log core.log refl; inodes = refl; records = refl })
+    (record { log = same_changes core.log core.log refl; inodes = refl; records = refl; boot = refl })
     d later logging installing logging installing boot first last entries since
     (record { lawful = since.over.lawful; tidy = since.over.tidy; home = since.over.files.home })
     (c.a_read_keeps_agreement.ensures d later base core.log logging installing since.over.lawful read

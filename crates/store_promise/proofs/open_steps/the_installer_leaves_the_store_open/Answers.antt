@@ -47,6 +47,7 @@ returns-clause-taken c = λ base d old new io logging boot first last entries si
       log = subst (HasSameChanges old.log) (sym log_is) (inst_out_same old.log);
       inodes = ap (λ (core : CoreState). core.inodes) is;
       records = ap (λ (core : CoreState). core.records) is;
+      boot = ap (λ (core : CoreState). core.boot) is;
     }) d d logging pending.idle logging (pending.out io) boot first last entries since sound
     (goes d base logging since.over.agrees)
     (subst (λ (log : Log). IsReadable d log (pending.out io)) (sym log_is)
@@ -56,7 +57,7 @@ returns-clause-taken c = λ base d old new io logging boot first last entries si
 pub returns-clause-made : goal.returns-clause-made
 returns-clause-made c = λ base d later core io answer logging boot first last entries since made.
     still_open base core core
-    (record { log = same_changes core.log core.log refl; inodes = refl; records = refl })
+    (record { log = same_changes core.log core.log refl; inodes = refl; records = refl; boot = refl })
     d later logging (pending.out io) logging (pending.was_made io answer) boot first last entries since
     (record { lawful = since.over.lawful; tidy = since.over.tidy; home = since.over.files.home })
     (c.a_call_of_the_installer_keeps_agreement.ensures.is_made d later io answer made base core.log logging
@@ -75,6 +76,7 @@ returns-clause-given_back c =
     ap (λ (t : Bool). if t then home_after base old.log ok else base) out in
     open_over base d old new logging (pending.was_made io answer) ok boot first last entries since is_back
     (ap (λ (core : CoreState). core.records) is) (ap (λ (core : CoreState). core.inodes) is)
+    (ap (λ (core : CoreState). core.boot) is)
     (subst (λ (home : Image). IsSoundCore home new) home_is sound)
     (back d base answer logging answered since.over.agrees)
     (subst (λ (log : Log). IsReadable d log pending.idle) (sym is_back)

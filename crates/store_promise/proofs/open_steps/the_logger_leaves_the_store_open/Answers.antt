@@ -23,6 +23,7 @@ returns-clause-taken c = λ base d old new io installing boot first last entries
       log = subst (HasSameChanges old.log) (sym log_is) (log_out_same old.log);
       inodes = ap (λ (core : CoreState). core.inodes) is;
       records = ap (λ (core : CoreState). core.records) is;
+      boot = ap (λ (core : CoreState). core.boot) is;
     }) d d pending.idle installing (pending.out io) installing boot first last entries since sound
     (goes d base installing since.over.agrees)
     (subst (λ (log : Log). IsReadable d log installing) (sym log_is)
@@ -31,7 +32,7 @@ returns-clause-taken c = λ base d old new io installing boot first last entries
 pub returns-clause-made : goal.returns-clause-made
 returns-clause-made c = λ base d later core io answer installing boot first last entries since made.
     still_open base core core
-    (record { log = same_changes core.log core.log refl; inodes = refl; records = refl })
+    (record { log = same_changes core.log core.log refl; inodes = refl; records = refl; boot = refl })
     d later (pending.out io) installing (pending.was_made io answer) installing boot first last entries since
     (record { lawful = since.over.lawful; tidy = since.over.tidy; home = since.over.files.home })
     (c.a_call_of_the_logger_keeps_agreement.ensures.is_made d later io answer made base core.log installing
@@ -46,6 +47,7 @@ returns-clause-given_back c =
       log = subst (HasSameChanges old.log) (sym log_is) (log_given_same old.log (is_log_out old.log io) ok);
       inodes = ap (λ (core : CoreState). core.inodes) is;
       records = ap (λ (core : CoreState). core.records) is;
+      boot = ap (λ (core : CoreState). core.boot) is;
     }) d d (pending.was_made io answer) installing pending.idle installing boot first last entries since sound
     (back d base answer installing answered since.over.agrees)
     (subst (λ (log : Log). IsReadable d log installing) (sym log_is)

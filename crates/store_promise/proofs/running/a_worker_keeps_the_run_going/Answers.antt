@@ -25,6 +25,7 @@ returns-clause-beside c =
             log = same_changes old.log new.log beside.log;
             inodes = beside.inodes;
             records = beside.records;
+            boot = beside.boot;
           })) run.placed;
     }
 

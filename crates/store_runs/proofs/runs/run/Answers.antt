@@ -50,7 +50,7 @@ events-init g c =
           opens.4.present opens.0 c.new-running.ensures.calls
           (c.new-run.ensures.boot ∙ c.boot.ensures) c.new-run.ensures.empty
           (length-map made.workers.items (λ (w : Worker). w.state) ∙ c.new-running.ensures.count)
-          (all_at_rest store.boot made.workers.items c.new-running.ensures.workers)
+          (all_at_rest made.workers.items c.new-running.ensures.workers)
           (subst (λ s. IsLawful s.core.log.blocks s.core.inodes) same c.new-running.ensures.lawful) in
           let none = c.new-running.ensures.clock in
           subst (λ s. HasGone before tree first c.args.workers c.args.events.items

@@ -5,6 +5,7 @@ use Rattle.store_workers.specs.Telling.{told}
 use Rattle.store_workers.specs.WorkerSteps.{side}
 use Rattle.store_workers.specs.declared.workers.parts.State.{State}
 use Rattle.pool_jobs.specs.declared.answer.Answer.{Answer}
+use Rattle.pool.proofs.Calls.{hands_out_none}
 use Rattle.pool.proofs.Places.{takes_places}
 use Rattle.pool.proofs.SeatedSteps.{next_seated}
 use Rattle.pool.specs.Seated.{IsSeated}
@@ -32,3 +33,10 @@ returns-clause-places c =
     let new = side e.0 c.advance-made.new.core in
     takes_places old new c.self.inside.worker.state.phase c.advance-made.result.0 e.1
     ∙ ap (λ (t : Told). c.args.core.now.log.places + grown t) (sym c.told_by-self-inside.ensures)
+
+pub returns-clause-calls : goal.returns-clause-calls
+returns-clause-calls c =
+    let e = c.advance-made.ensures in
+    let old = side c.self.inside.worker.state c.args.core.now in
+    let new = side e.0 c.advance-made.new.core in
+    hands_out_none old new c.self.inside.worker.state.phase c.advance-made.result.0 e.1

@@ -68,7 +68,7 @@ returns-clause-goes c =
     let counted : store.core.log.places ≡ length before.history.items =
     sym run.since.counted ∙ length-map before.history.items _ in
     let notes = c.a_run_notes_its_workers_steps.ensures boot number clock old (side new core) made before
-    mid so.stands counted worked in
+    mid so.stands run.since.boot_is counted worked in
     let all_placed : store.core.log.places ≡ _ = sym run.since.over.files.home.window.all in
     let before_it : o.blocks store.core.log.places ≡ file_blocks going.base store.core =
     ap o.blocks all_placed

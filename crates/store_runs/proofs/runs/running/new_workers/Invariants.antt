@@ -6,4 +6,4 @@ use Rattle.store_runs.proofs.runs.running.new_workers.Given as goal
 
 abbrev pub invariant-each : goal.invariant-each
 invariant-each l = (length l.all.items ≡ l.counter) × (l.workers ≤ vec_capacity l.all)
-    × All (IsAtRest l.boot) l.all.items
+    × All IsAtRest l.all.items

@@ -1,4 +1,4 @@
-use Rattle.std.proofs.Common.{◌≡◌, Bool, ◌∙◌, ap, map, sym, subst, List}
+use Rattle.std.proofs.Common.{◌≡◌, Bool, ◌∙◌, ap, map, sym, subst, List, length}
 use Rattle.txn.proofs.Counted.{swept_is}
 use Rattle.txn.proofs.Mapped.{ended_is}
 use Rattle.txn.proofs.Neat.{neat_ended}
@@ -45,6 +45,9 @@ returns g c =
       holds = core.holds;
       present = old.blocks;
       records = records;
+      boot = core.boot;
+      log_calls = length core.log_calls.items;
+      inst_calls = length core.inst_calls.items;
     } in (
       spare,
       ended_is spare seen tx c.leave.new.out.items c.release_all.new.self new.blocks

@@ -1,4 +1,4 @@
-use Rattle.std.proofs.Common.{◌≡◌, Bool, ◌∙◌, List, ap, map, subst, sym}
+use Rattle.std.proofs.Common.{◌≡◌, Bool, ◌∙◌, List, ap, map, subst, sym, length}
 use Rattle.objects.specs.Pins.{Residents, pins_of}
 use Rattle.objects.specs.Present.{filled}
 use Rattle.objects.specs.declared.present.Present.{Present}
@@ -42,6 +42,9 @@ returns g c =
       holds = core.holds;
       present = old.blocks;
       records = records;
+      boot = core.boot;
+      log_calls = length core.log_calls.items;
+      inst_calls = length core.inst_calls.items;
     } in (
       spare,
       ap (λ (present : List Present). record seen { present = present }) left

@@ -1,4 +1,4 @@
-use Rattle.std.proofs.Common.{◌≡◌, Bool, true, ◌≤◌, ◌∙◌, ◌-◌, ℕ, if◌then◌else◌, ap, map, sym, subst, List, nat_lt, arith}
+use Rattle.std.proofs.Common.{◌≡◌, Bool, true, ◌≤◌, ◌∙◌, ◌-◌, ℕ, if◌then◌else◌, ap, map, sym, subst, List, nat_lt, arith, length}
 use Rattle.wal_law.specs.Calls.{InstCallComesBack}
 use Rattle.wal_law.specs.Log.{Log, installed_place}
 use Rattle.objects.specs.Pins.{Residents, Unpins, pins_of}
@@ -47,6 +47,9 @@ returns-then-is_at_most-clause-others g c =
       holds = core.holds;
       present = resident.blocks;
       records = records;
+      boot = core.boot;
+      log_calls = length core.log_calls.items;
+      inst_calls = length core.inst_calls.items;
     } in (
       spare,
       installed_is spare seen log records resident.blocks (sym past_is)
@@ -126,6 +129,9 @@ returns-clause-others g c =
       holds = core.holds;
       present = old.blocks;
       records = before;
+      boot = core.boot;
+      log_calls = length core.log_calls.items;
+      inst_calls = length core.inst_calls.items;
     } in (
       spare,
       installed_is spare seen log records new.blocks kept_is left

@@ -41,6 +41,9 @@ keep-requires-clause-pinned g c =
       holds = core.holds;
       present = core.present.blocks;
       records = map (λ kept. footprint kept.place.0 (g.C.Change.planned kept.change)) core.records.items;
+      boot = core.boot;
+      log_calls = length core.log_calls.items;
+      inst_calls = length core.inst_calls.items;
     } in
     let own : IsOwn seen c.args.tx plan =
     subst (λ (old : CoreState). IsOwn old c.args.tx plan) (sym c.self.view_is) c.requires.own in
@@ -88,6 +91,9 @@ invariant_of-self-in-Appended g c =
       holds = core.holds;
       present = old.blocks;
       records = before;
+      boot = core.boot;
+      log_calls = length core.log_calls.items;
+      inst_calls = length core.inst_calls.items;
     } in
     let own : IsOwn seen c.args.tx plan =
     subst (λ (old : CoreState). IsOwn old c.args.tx plan) (sym c.self.view_is) c.requires.own in

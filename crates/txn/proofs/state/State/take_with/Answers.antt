@@ -1,4 +1,4 @@
-use Rattle.std.proofs.Common.{◌≡◌, ◌+◌, ◌-◌, ◌∙◌, ℕ, Bool, true, false, if◌then◌else◌, List, None, Some, ap, map}
+use Rattle.std.proofs.Common.{◌≡◌, ◌+◌, ◌-◌, ◌∙◌, ℕ, Bool, true, false, if◌then◌else◌, List, None, Some, ap, map, length}
 use Rattle.std.proofs.Common.{subst, sym, arith}
 use Rattle.disk.specs.Device.{Content}
 use Rattle.disk.specs.declared.block.BlockNo.{BlockNo}
@@ -58,6 +58,9 @@ returns-in-Err-clause-refused g c =
       holds = holds;
       present = present;
       records = records;
+      boot = core.boot;
+      log_calls = length core.log_calls.items;
+      inst_calls = length core.inst_calls.items;
     } in
     ap (λ (holds : List Hold). seen holds new.blocks) c.in-Err.ensures.refused
     ∙ ap (λ (present : List Present). seen core.holds present) back ∙ c.self.view_is

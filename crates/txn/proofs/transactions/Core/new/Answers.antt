@@ -7,7 +7,7 @@ use Rattle.txn.proofs.transactions.Core.new.Goals as goal
 pub invariant_of-result : goal.invariant_of-result
 invariant_of-result g c = (
   subst (λ (core : CoreState). IsLawfulCore g.C.Change.is_plan core) (sym c.new.ensures)
-      (lawful_new g.C.Change.is_plan c.args.log c.args.inodes c.lawful.ensures c.requires.fresh
+      (lawful_new g.C.Change.is_plan c.args.log c.args.inodes c.args.boot c.lawful.ensures c.requires.fresh
       c.whole.ensures),
   subst (λ (core : CoreState). g.C.Change.are_counts core.log.blocks core.inodes) (sym c.new.ensures)
       c.requires.counts,

@@ -33,7 +33,8 @@ returns-in-Some-Next-clause-step g c =
     let law = c.the_installer_leaves_the_store_open.ensures.taken in
     let log_is : new.log ≡ with_inst_out core.log = ap (λ (core : CoreState). core.log) one.goes.core in
     let kept : KeepsTransactions core new =
-    log_alone core new (one.goes.core ∙ ap (λ l. record core { log = l }) (sym log_is)) one.goes.reads in
+    log_alone core new core.log_calls (core.inst_calls + 1)
+    (one.goes.core ∙ ap (λ l. record (with_inst_call core) { log = l }) (sym log_is)) one.goes.reads in
     of_installer MayInstall (Some (step.InstNext c.in-Some-Next.call)) d d core new beside idle (out io) _ _
     (none_out calls.installer.io calls.installer.made one.none)
     (some_out next.io next.made io one.some one.unmade)
@@ -51,8 +52,8 @@ returns-in-Some-Next-clause-step g c =
     }))
     (λ base boot first last entries fetches since all.
     c.what_was_read_is_at_home.ensures.kept base core new fetches (fewer core new kept) all)
-    (λ base boot first last entries since. log_places base core new
-    (one.goes.core ∙ ap (λ l. record core { log = l }) (sym log_is))
+    (λ base boot first last entries since. log_places base core new core.log_calls (core.inst_calls + 1)
+    (one.goes.core ∙ ap (λ l. record (with_inst_call core) { log = l }) (sym log_is))
     (subst (HasSameChanges core.log) (sym log_is) (inst_out_same core.log)))))
 
 pub returns-in-Some-Done-clause-step : goal.returns-in-Some-Done-clause-step

@@ -32,7 +32,8 @@ returns-in-Some-Next-clause-step g c =
     let law = c.the_logger_leaves_the_store_open.ensures.taken in
     let log_is : new.log ≡ with_log_out core.log = ap (λ (core : CoreState). core.log) one.goes.core in
     let kept : KeepsTransactions core new =
-    log_alone core new (one.goes.core ∙ ap (λ l. record core { log = l }) (sym log_is)) one.goes.reads in
+    log_alone core new (core.log_calls + 1) core.inst_calls
+    (one.goes.core ∙ ap (λ l. record (with_log_call core) { log = l }) (sym log_is)) one.goes.reads in
     of_logger MayLog (Some (step.LogNext c.in-Some-Next.call)) d d core new beside idle (out io) _ _
     (none_out calls.logger.io calls.logger.made one.none)
     (some_out next.io next.made io one.some one.unmade)
@@ -50,8 +51,8 @@ returns-in-Some-Next-clause-step g c =
     }))
     (λ base boot first last entries fetches since all.
     c.what_was_read_is_at_home.ensures.kept base core new fetches (fewer core new kept) all)
-    (λ base boot first last entries since. log_places base core new
-    (one.goes.core ∙ ap (λ l. record core { log = l }) (sym log_is))
+    (λ base boot first last entries since. log_places base core new (core.log_calls + 1) core.inst_calls
+    (one.goes.core ∙ ap (λ l. record (with_log_call core) { log = l }) (sym log_is))
     (subst (HasSameChanges core.log) (sym log_is) (log_out_same core.log)))))
 
 pub returns-in-Some-Done-clause-step : goal.returns-in-Some-Done-clause-step
@@ -69,7 +70,7 @@ returns-in-Some-Done-clause-step g c =
     let io = one.io in
     let made = pending_of (Some io) (Some ok) in
     let law = c.the_logger_leaves_the_store_open.ensures.given_back in
-    let kept : KeepsTransactions core new = log_alone core new one.back.core one.back.reads in
+    let kept : KeepsTransactions core new = log_alone core new core.log_calls core.inst_calls one.back.core one.back.reads in
     let was = answered io ok in
     of_logger MayLog (Some (step.LogDone ok)) d d core new beside made idle _ _
     (some_made calls.logger.io calls.logger.made io ok one.some one.was_made)
@@ -88,7 +89,7 @@ returns-in-Some-Done-clause-step g c =
     }))
     (λ base boot first last entries fetches since all.
     c.what_was_read_is_at_home.ensures.kept base core new fetches (fewer core new kept) all)
-    (λ base boot first last entries since. log_places base core new one.back.core
+    (λ base boot first last entries since. log_places base core new core.log_calls core.inst_calls one.back.core
     (subst (HasSameChanges core.log) (sym one.back.log)
     (log_given_same core.log (is_log_out core.log io) ok))))
 

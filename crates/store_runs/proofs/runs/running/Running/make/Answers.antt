@@ -164,7 +164,7 @@ returns-in-Call-clause-goes g c = λ b keeps next at.
     worked_on b old new workers later before.clock after.clock told last at clock
     (ap (λ (s : StoreSide). s.device) (sym same))
     (by_number number (length before.workers.items) (λ there.
-    let moves = c.hand-step.ensures.step there in
+    let moves = c.hand-step.ensures.step there is_next.sound.timely is_next.sound.fits in
     subst (λ (s : StoreSide). IsGoing b s later last) same
     (c.a_call_leaves_a_run_going.ensures.goes b number c.in-Call.credential c.in-Call.moment c.in-Call.call old
     workers later moves.old.state moves.new.state made told last is_next moves.list moves.does.0

@@ -1,0 +1,26 @@
+//! A ledger of device calls whose parts a type may name.
+use std::marker::Brand;
+use std::sync::ledger::Ledger;
+
+/// A ledger of the device calls that a core hands out to a side. Who names it says how many parts it has, how many
+/// calls the core had handed out when the ledger began, and the core's boot number.
+pub trait Whole: Ledger {
+    ghost use Rattle.std.specs.Prelude.{ℕ};
+
+    /// Its parts.
+    ghost all: { ℕ };
+
+    /// How many calls were handed out before it.
+    ghost first: { ℕ };
+
+    /// The boot number of the core.
+    ghost boot: { ℕ };
+}
+
+impl Whole for Brand {
+    ghost all = { 0 };
+
+    ghost first = { 0 };
+
+    ghost boot = { 0 };
+}
