@@ -1,6 +1,8 @@
 -- What a step of the logger or of the installer makes of the core, and of the call that is out.
 use Rattle.std.specs.Prelude.{◌≡◌, ℕ, Bool, true, false, if◌then◌else◌, Option, Some, None}
 use Rattle.disk.specs.Crash.{Image}
+use Rattle.disk.specs.declared.block.Side.{Side}
+use Rattle.disk.specs.declared.block.Side.TheVariants.{Log as LogSide, Home}
 use Rattle.txn_law.specs.Core.{CoreState, past, with_inst_call, with_log_call}
 use Rattle.txn_law.specs.CoreWindow.{IsHomeOf, KeepsHome, KeepsReads}
 use Rattle.txn_law.specs.Leaves.{Leaves, in_memory, is_fetching, taken_by}
@@ -71,6 +73,15 @@ GoesOut = CoreState → Io → CoreState → Type 0
 
 abbrev pub ComesBack : Type 1
 ComesBack = CoreState → Io → Bool → CoreState → Type 0
+
+-- the same by the side: the logger works on the log's, the installer on the home side
+abbrev pub goes_out : Side → GoesOut
+goes_out LogSide = LogGoesOut
+goes_out Home = InstGoesOut
+
+abbrev pub comes_back : Side → ComesBack
+comes_back LogSide = LogComesBack
+comes_back Home = InstComesBack
 
 -- What one step makes of the core, of the call that is out, and of its answer, where the side may take a call as
 -- told: the one that was made is given back, or the next is taken, or nothing changes.

@@ -2,7 +2,6 @@
 ghost use Rattle.std.specs.Prelude.{◌≡◌, ◌+◌, ◌<◌, length, IfOk, All};
 
 use crate::{Locked, Seat, Shared};
-use log_seats::{Installer, Logger};
 use pool_calls::{IoSeat, Whole};
 use procs::Done;
 use std::alloc::{AllocError, Global};
@@ -14,8 +13,8 @@ use txn::Core;
 pub struct Pool<L: Ledger, G: Whole, I: Whole> {
     pub shared: Shared<L, G, I>,
     pub seats: Vec<Mutex<Seat<L>>>,
-    pub logger: IoSeat<G, Logger>,
-    pub installer: IoSeat<I, Installer>,
+    pub logger: IoSeat<G>,
+    pub installer: IoSeat<I>,
 }
 
 /// The ledgers of commits, of the logger's calls, and of the installer's, which no type stands for yet.

@@ -11,7 +11,7 @@ mod work;
 
 pub use beginning::{Ledgers, Pool, begin};
 pub use locked::Locked;
-pub use log_seats::{Installer, Logger};
+pub use log_seats::Caller;
 pub use pool_calls::{Gate, IoSeat, NoGate, Point, Turn, Whole};
 pub use pool_jobs::{Answer, Bearer, Connections, Job, Received, receive};
 pub use seat::Seat;

@@ -9,8 +9,8 @@ ghost use Rattle.wal_law.specs.Installer.{may_install};
 ghost use Rattle.wal_law.specs.Logger.{may_log};
 
 use crate::{Locked, Seat, installer_step, logger_step, worker_step};
-use log_seats::{Installer, Logger};
-use pool_calls::{Caller, IoSeat, Turn, Whole, give_up};
+use disk::Side;
+use pool_calls::{IoSeat, Turn, Whole, give_up};
 use procs::Done;
 use std::alloc::Global;
 use std::sync::ledger::Ledger;
@@ -60,11 +60,11 @@ impl<L: Ledger, G: Whole, I: Whole> Shared<L, G, I> {
     }
 
     /// One step of the logger, under the lock.
-    pub fn log<R: Wait>(&self, rt: &R, seat: &mut IoSeat<G, Logger>) -> Turn
+    pub fn log<R: Wait>(&self, rt: &R, seat: &mut IoSeat<G>) -> Turn
         ensures step { (before : CoreState) × (after : CoreState) × IsLawful before × IsLawful after
-            × HasTurned may_log LogGoesOut LogComesBack before seat.old.side.io seat.old.side.made result after
-            seat.new.side.io seat.new.side.made }
-        ensures numbered { seat.old.side.io ≡ None → IsSome seat.new.side.io
+            × HasTurned may_log LogGoesOut LogComesBack before seat.old.caller.io seat.old.caller.made result after
+            seat.new.caller.io seat.new.caller.made }
+        ensures numbered { seat.old.caller.io ≡ None → IsSome seat.new.caller.io
             → length seat.new.number.items ≡ seat.old.calls.amount + 1 }
         ensures taken { seat.new.taken ≡ seat.old.taken }
     {
@@ -73,11 +73,11 @@ impl<L: Ledger, G: Whole, I: Whole> Shared<L, G, I> {
     }
 
     /// One step of the installer, under the lock.
-    pub fn install<R: Wait>(&self, rt: &R, seat: &mut IoSeat<I, Installer>) -> Turn
+    pub fn install<R: Wait>(&self, rt: &R, seat: &mut IoSeat<I>) -> Turn
         ensures step { (before : CoreState) × (after : CoreState) × IsLawful before × IsLawful after
-            × HasTurned may_install InstGoesOut InstComesBack before seat.old.side.io seat.old.side.made result after
-            seat.new.side.io seat.new.side.made }
-        ensures numbered { seat.old.side.io ≡ None → IsSome seat.new.side.io
+            × HasTurned may_install InstGoesOut InstComesBack before seat.old.caller.io seat.old.caller.made result after
+            seat.new.caller.io seat.new.caller.made }
+        ensures numbered { seat.old.caller.io ≡ None → IsSome seat.new.caller.io
             → length seat.new.number.items ≡ seat.old.calls.amount + 1 }
         ensures taken { seat.new.taken ≡ seat.old.taken }
     {
@@ -105,15 +105,15 @@ impl<L: Ledger, G: Whole, I: Whole> Shared<L, G, I> {
     }
 
     /// Ends the logger's seat: a call that is out is given back with its port's answer, or as failed.
-    pub fn leave_log<R: Wait>(&self, rt: &R, seat: IoSeat<G, Logger>) {
+    pub fn leave_log<R: Wait>(&self, rt: &R, seat: IoSeat<G>) {
         let mut guard = self.lock.lock(rt);
-        end_calls(&mut *guard, seat);
+        end_calls(Side::Log, &mut *guard, seat);
     }
 
     /// Ends the installer's seat: a call that is out is given back with its port's answer, or as failed.
-    pub fn leave_install<R: Wait>(&self, rt: &R, seat: IoSeat<I, Installer>) {
+    pub fn leave_install<R: Wait>(&self, rt: &R, seat: IoSeat<I>) {
         let mut guard = self.lock.lock(rt);
-        end_calls(&mut *guard, seat);
+        end_calls(Side::Home, &mut *guard, seat);
     }
 
     /// The core, out of the lock.
@@ -138,12 +138,13 @@ fn end_seat<L: Ledger, G: Whole, I: Whole>(locked: &mut Locked<L, G, I>, seat: S
 }
 
 // Ends a seat of device calls.
-fn end_calls<L: Ledger, G: Whole, I: Whole, N: Whole, S: Caller>(
+fn end_calls<L: Ledger, G: Whole, I: Whole, N: Whole>(
+    side: Side,
     locked: &mut Locked<L, G, I>,
-    seat: IoSeat<N, S>,
+    seat: IoSeat<N>,
 )
     ensures places { locked.new.core.log.places ≡ locked.old.core.log.places }
     ensures calls { HandsOutNone locked.old.core locked.new.core }
 {
-    give_up(&mut locked.core, seat);
+    give_up(side, &mut locked.core, seat);
 }

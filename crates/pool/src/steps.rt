@@ -9,8 +9,7 @@ ghost use Rattle.wal_law.specs.Installer.{may_install};
 ghost use Rattle.wal_law.specs.Logger.{may_log};
 
 use crate::{Locked, Seat, Told};
-use disk::{Port, Source};
-use log_seats::{Installer, Logger};
+use disk::{Port, Side, Source};
 use pool_calls::{Gate, IoSeat, Point, Turn, Whole, make_call, step_calls};
 use std::alloc::Global;
 use std::sync::ledger::Ledger;
@@ -49,11 +48,11 @@ pub fn worker_step<L: Ledger, G: Whole, I: Whole>(
 #[tactic(auto, using(crate::proofs::Calls::log_turned))]
 pub fn logger_step<L: Ledger, G: Whole, I: Whole>(
     locked: &mut Locked<L, G, I>,
-    seat: &mut IoSeat<G, Logger>,
+    seat: &mut IoSeat<G>,
 ) -> Turn
-    ensures step { HasTurned may_log LogGoesOut LogComesBack locked.old.core seat.old.side.io seat.old.side.made
-        result locked.new.core seat.new.side.io seat.new.side.made }
-    ensures numbered { seat.old.side.io ≡ None → IsSome seat.new.side.io
+    ensures step { HasTurned may_log LogGoesOut LogComesBack locked.old.core seat.old.caller.io seat.old.caller.made
+        result locked.new.core seat.new.caller.io seat.new.caller.made }
+    ensures numbered { seat.old.caller.io ≡ None → IsSome seat.new.caller.io
         → length seat.new.number.items ≡ seat.old.calls.amount + 1 }
     ensures counted { G.all ≡ G.parts → (locked.old.core.log_calls ≡ seat.old.calls.amount + G.first)
         × (locked.new.core.log_calls ≡ seat.new.calls.amount + G.first) }
@@ -67,7 +66,7 @@ pub fn logger_step<L: Ledger, G: Whole, I: Whole>(
         installed: _,
     } = locked;
     core.lawful();
-    let turn = step_calls(core, logged, seat);
+    let turn = step_calls(Side::Log, core, logged, seat);
     core.lawful();
     turn
 }
@@ -76,11 +75,11 @@ pub fn logger_step<L: Ledger, G: Whole, I: Whole>(
 #[tactic(auto, using(crate::proofs::Calls::inst_turned))]
 pub fn installer_step<L: Ledger, G: Whole, I: Whole>(
     locked: &mut Locked<L, G, I>,
-    seat: &mut IoSeat<I, Installer>,
+    seat: &mut IoSeat<I>,
 ) -> Turn
-    ensures step { HasTurned may_install InstGoesOut InstComesBack locked.old.core seat.old.side.io seat.old.side.made
-        result locked.new.core seat.new.side.io seat.new.side.made }
-    ensures numbered { seat.old.side.io ≡ None → IsSome seat.new.side.io
+    ensures step { HasTurned may_install InstGoesOut InstComesBack locked.old.core seat.old.caller.io seat.old.caller.made
+        result locked.new.core seat.new.caller.io seat.new.caller.made }
+    ensures numbered { seat.old.caller.io ≡ None → IsSome seat.new.caller.io
         → length seat.new.number.items ≡ seat.old.calls.amount + 1 }
     ensures counted { I.all ≡ I.parts → (locked.old.core.inst_calls ≡ seat.old.calls.amount + I.first)
         × (locked.new.core.inst_calls ≡ seat.new.calls.amount + I.first) }
@@ -94,7 +93,7 @@ pub fn installer_step<L: Ledger, G: Whole, I: Whole>(
         installed,
     } = locked;
     core.lawful();
-    let turn = step_calls(core, installed, seat);
+    let turn = step_calls(Side::Home, core, installed, seat);
     core.lawful();
     turn
 }
@@ -118,33 +117,33 @@ pub fn worker_io<L: Ledger, S: Source, T: Gate>(
 /// Makes the logger's device call that is out, where it wasn't made, on its port, and leaves the port's answer in
 /// the seat. It answers whether there was one.
 pub fn logger_io<G: Whole, P: Port, T: Gate>(
-    seat: &mut IoSeat<G, Logger>,
+    seat: &mut IoSeat<G>,
     port: &mut P,
     gate: &T,
 ) -> bool
-    ensures made { MakesCall seat.old.side.io seat.old.side.made seat.new.side.made (P.calls port.old)
+    ensures made { MakesCall seat.old.caller.io seat.old.caller.made seat.new.caller.made (P.calls port.old)
         (P.calls port.new) }
-    ensures was_due { IsTrue result ↔ (due seat.old.side.io seat.old.side.made ≡ 1) }
-    ensures io { seat.new.side.io ≡ seat.old.side.io }
+    ensures was_due { IsTrue result ↔ (due seat.old.caller.io seat.old.caller.made ≡ 1) }
+    ensures io { seat.new.caller.io ≡ seat.old.caller.io }
     ensures tied { IsTied (P.calls port.old) seat.old.taken.items
         → IsTied (P.calls port.new) seat.new.taken.items }
 {
-    make_call(seat, port, gate)
+    make_call(Side::Log, seat, port, gate)
 }
 
 /// Makes the installer's device call that is out, where it wasn't made, on its port, and leaves the port's answer
 /// in the seat. It answers whether there was one.
 pub fn installer_io<G: Whole, P: Port, T: Gate>(
-    seat: &mut IoSeat<G, Installer>,
+    seat: &mut IoSeat<G>,
     port: &mut P,
     gate: &T,
 ) -> bool
-    ensures made { MakesCall seat.old.side.io seat.old.side.made seat.new.side.made (P.calls port.old)
+    ensures made { MakesCall seat.old.caller.io seat.old.caller.made seat.new.caller.made (P.calls port.old)
         (P.calls port.new) }
-    ensures was_due { IsTrue result ↔ (due seat.old.side.io seat.old.side.made ≡ 1) }
-    ensures io { seat.new.side.io ≡ seat.old.side.io }
+    ensures was_due { IsTrue result ↔ (due seat.old.caller.io seat.old.caller.made ≡ 1) }
+    ensures io { seat.new.caller.io ≡ seat.old.caller.io }
     ensures tied { IsTied (P.calls port.old) seat.old.taken.items
         → IsTied (P.calls port.new) seat.new.taken.items }
 {
-    make_call(seat, port, gate)
+    make_call(Side::Home, seat, port, gate)
 }

@@ -6,7 +6,7 @@ use Rattle.disk.specs.Ports.{AnsweredCalls}
 use Rattle.disk.specs.declared.device.Failed.{Failed}
 use Rattle.wal.specs.OnPorts.{call_with, port_call}
 use Rattle.wal_law.specs.Io.{Io}
-use Rattle.pool_calls.specs.declared.caller.Shown.{Shown}
+use Rattle.pool_calls.specs.declared.due.Shown.{Shown}
 use Rattle.pool_calls.specs.declared.handed.HandedOut.{HandedOut}
 
 -- the number of a value, in the order in which they were handed out, from 1

@@ -2,7 +2,7 @@
 //! one step of the core, and made on a port in between.
 #![tactic(auto)]
 
-mod caller;
+mod due;
 mod gate;
 mod handed;
 mod seat;
@@ -10,7 +10,7 @@ mod steps;
 mod turn;
 mod whole;
 
-pub use caller::{Caller, Shown};
+pub use due::Shown;
 pub use gate::{Gate, NoGate, Point};
 pub use handed::HandedOut;
 pub use seat::IoSeat;

@@ -1,11 +1,13 @@
 //! The steps of the logger and the installer on a core, and their device calls apart from it.
 ghost use Rattle.std.specs.Prelude.{◌≡◌, ◌+◌, ◌<◌, ◌∷◌, ◌++◌, [], length, None, Some, IsSome, IsTrue, ◌↔◌};
-ghost use Rattle.log_seats.specs.Steps.{HasEnded};
+ghost use Rattle.log_seats.specs.Steps.{comes_back, goes_out, HasEnded};
 ghost use Rattle.pool_calls.specs.Numbers.{IsTied, MakesCall, due, number_of, numbers, upto};
 ghost use Rattle.pool_calls.specs.Sides.{HandsOutNone, HasTurned, gone};
+ghost use Rattle.wal.specs.Sides.{may_call};
 
-use crate::{Caller, Gate, HandedOut, IoSeat, Shown, Turn, Whole};
-use disk::{Failed, Port};
+use crate::due::{due_of, point};
+use crate::{Gate, HandedOut, IoSeat, Shown, Turn, Whole};
+use disk::{Failed, Port, Side};
 use http_server::Log;
 use log_seats::Stepped;
 use std::snapshot::Snapshot;
@@ -15,31 +17,32 @@ use txn::{Change, Core};
 /// One step of the logger or of the installer: one call of the core at most. A call that is handed out gets the next
 /// number, and is written into the book.
 #[tactic(auto, using(crate::proofs::Gone::gone_next, crate::proofs::Gone::gone_done, crate::proofs::Gone::gone_idle, crate::proofs::Gone::gone_still))]
-pub fn step_calls<C: Change, G: Whole, S: Caller>(
+pub fn step_calls<C: Change, G: Whole>(
+    side: Side,
     core: &mut Core<C>,
     book: &mut Book<G>,
-    seat: &mut IoSeat<G, S>,
+    seat: &mut IoSeat<G>,
 ) -> Turn
-    ensures step { HasTurned S.may S.goes S.comes core.old (S.out seat.old.side) (S.made seat.old.side) result
-        core.new (S.out seat.new.side) (S.made seat.new.side) }
-    ensures numbered { S.out seat.old.side ≡ None → IsSome (S.out seat.new.side)
+    ensures step { HasTurned (may_call side) (goes_out side) (comes_back side) core.old seat.old.caller.io seat.old.caller.made result
+        core.new seat.new.caller.io seat.new.caller.made }
+    ensures numbered { seat.old.caller.io ≡ None → IsSome seat.new.caller.io
         → length seat.new.number.items ≡ seat.old.calls.amount + 1 }
     ensures counted { G.all ≡ G.parts → (book.old.total ≡ seat.old.calls.amount)
         × (book.new.total ≡ seat.new.calls.amount) }
-    ensures gone { book.new.total ≡ book.old.total + gone (S.out seat.old.side) (S.out seat.new.side) }
+    ensures gone { book.new.total ≡ book.old.total + gone seat.old.caller.io seat.new.caller.io }
     ensures taken { seat.new.taken ≡ seat.old.taken }
 {
     let IoSeat {
-        side,
+        caller,
         calls,
         taken: _,
         number,
     } = seat;
     book.audit(calls);
-    if !side.is_out() && core.broken() {
+    if caller.out().is_none() && core.broken() {
         return Turn::Broken;
     }
-    match side.step(core) {
+    match caller.step(side, core) {
         None => Turn::Idle,
         Some(Stepped::Next(_)) => {
             book.add(calls, 1);
@@ -51,45 +54,46 @@ pub fn step_calls<C: Change, G: Whole, S: Caller>(
 }
 
 /// Ends a seat: a call that is out is given back with its port's answer, or as failed where it wasn't made.
-pub fn give_up<C: Change, G: Whole, S: Caller>(core: &mut Core<C>, seat: IoSeat<G, S>)
-    ensures back { HasEnded S.comes core.old (S.out seat.side) (S.made seat.side) core.new }
+pub fn give_up<C: Change, G: Whole>(side: Side, core: &mut Core<C>, seat: IoSeat<G>)
+    ensures back { HasEnded (comes_back side) core.old seat.caller.io seat.caller.made core.new }
     ensures places { core.new.log.places ≡ core.old.log.places }
     ensures calls { HandsOutNone core.old core.new }
 {
     let IoSeat {
-        side,
+        caller,
         calls: _,
         taken: _,
         number: _,
     } = seat;
-    side.end(core);
+    caller.end(side, core);
 }
 
 /// Makes the device call that is out, where it wasn't made, on a port, and leaves the port's answer in the seat.
 /// It answers whether there was one.
-pub fn make_call<G: Whole, S: Caller, P: Port, T: Gate>(
-    seat: &mut IoSeat<G, S>,
+pub fn make_call<G: Whole, P: Port, T: Gate>(
+    side: Side,
+    seat: &mut IoSeat<G>,
     port: &mut P,
     gate: &T,
 ) -> bool
-    ensures made { MakesCall (S.out seat.old.side) (S.made seat.old.side) (S.made seat.new.side)
+    ensures made { MakesCall seat.old.caller.io seat.old.caller.made seat.new.caller.made
         (P.calls port.old) (P.calls port.new) }
-    ensures was_due { IsTrue result ↔ (due (S.out seat.old.side) (S.made seat.old.side) ≡ 1) }
-    ensures out { S.out seat.new.side ≡ S.out seat.old.side }
+    ensures was_due { IsTrue result ↔ (due seat.old.caller.io seat.old.caller.made ≡ 1) }
+    ensures out { seat.new.caller.io ≡ seat.old.caller.io }
     ensures tied { IsTied (P.calls port.old) seat.old.taken.items
         → IsTied (P.calls port.new) seat.new.taken.items }
 {
     let IoSeat {
-        side,
+        caller,
         calls: _,
         taken,
         number,
     } = seat;
-    let Some(shown) = side.due() else {
+    let Some(shown) = due_of(caller) else {
         return false;
     };
-    gate.pass(side.point(shown.call));
-    let Some(made) = side.make_on(port) else {
+    gate.pass(point(side, shown.call));
+    let Some(made) = caller.make_on(port) else {
         unreachable!();
     };
     let Shown { call, content } = shown;

@@ -22,15 +22,10 @@ use Rattle.txn.proofs.tx.FetchIo.TheSendSync as fetch
 use Rattle.txn.proofs.tx.Tx.TheSendSync as tx
 use Rattle.pool.proofs.Answer.TheSendSync as answer
 use Rattle.pool.proofs.told.Told.TheSendSync as told
-use Rattle.pool.proofs.Installer.TheSendSync as installs
-use Rattle.pool.proofs.Logger.TheSendSync as logs
+use Rattle.pool.proofs.Caller.TheSendSync as callers
 use Rattle.pool.proofs.shared.Shared.TheSendSync as shared
 use Rattle.pool.specs.contracts.Connections
-use Rattle.pool.specs.contracts.Installer
 use Rattle.pool.specs.contracts.IoSeat
-use Rattle.pool.specs.contracts.Logger
-use Rattle.pool_calls.specs.contracts.caller.InstallerCaller.TheImpl as by_installer
-use Rattle.pool_calls.specs.contracts.caller.LoggerCaller.TheImpl as by_logger
 use Rattle.pool.specs.contracts.Job
 use Rattle.pool.specs.contracts.seat.Seat
 use Rattle.pool.specs.contracts.shared.Shared
@@ -131,40 +126,28 @@ devices_sync P S p s = struct_sync (Declared.shape (Devices.the_type P S)) (
   (search (crosses, sendable) depth 20, (search (crosses, sendable) depth 20, tt)),
 )
 
+io_seat_send : (G : RattleType) (w : Whole.Ghosts G.Denot) (l : Ledger.Ghosts G.Denot)
+    → IsSend (IoSeat.the_row G w l)
+io_seat_send G w l =
+    recorded_send (IoSeat.the_field G w l).row _ _ (IoSeat.the_type G w l).to_one
+    (struct_send (Declared.shape (IoSeat.the_type G w l)) (
+      search (callers.the_send, sendable) depth 20,
+      (
+        share.the_send G l,
+        (search (crosses, sendable) depth 60 fits 20000, (search (crosses, sendable) depth 60 fits 20000, tt)),
+      ),
+    ))
+
 module _ (L G I : RattleType) (w : Whole.Ghosts G.Denot) (w' : Whole.Ghosts I.Denot)
     (l : Ledger.Ghosts L.Denot) (l' : Ledger.Ghosts G.Denot) (l'' : Ledger.Ghosts I.Denot) where
-  side_send : IsSend (IoSeat.the_row G Logger.the_row w by_logger.ghosts l')
-  side_send =
-      recorded_send (IoSeat.the_field G Logger.the_row w by_logger.ghosts l').row _ _
-      (IoSeat.the_type G Logger.the_row w by_logger.ghosts l').to_one
-      (struct_send (Declared.shape (IoSeat.the_type G Logger.the_row w by_logger.ghosts l')) (
-        search (logs.the_send, sendable) depth 20,
-        (
-          share.the_send G l',
-          (search (crosses, sendable) depth 60 fits 20000, (search (crosses, sendable) depth 60 fits 20000, tt)),
-        ),
-      ))
-
-  other_send : IsSend (IoSeat.the_row I Installer.the_row w' by_installer.ghosts l'')
-  other_send =
-      recorded_send (IoSeat.the_field I Installer.the_row w' by_installer.ghosts l'').row _ _
-      (IoSeat.the_type I Installer.the_row w' by_installer.ghosts l'').to_one
-      (struct_send (Declared.shape (IoSeat.the_type I Installer.the_row w' by_installer.ghosts l'')) (
-        search (installs.the_send, sendable) depth 20,
-        (
-          share.the_send I l'',
-          (search (crosses, sendable) depth 60 fits 20000, (search (crosses, sendable) depth 60 fits 20000, tt)),
-        ),
-      ))
-
   shared_sync : IsSync (Shared.the_row L G I w w' l l' l'')
   shared_sync = search (shared.the_sync, sendable) depth 60
 
   pub hall_sync : (P S : RattleType) → IsSend P → IsSend S → IsSync (Hall.the_row L G I P S w w' l l' l'')
   hall_sync P S p s =
       let seat = seat_send L l in
-      let logger = side_send in
-      let installer = other_send in
+      let logger = io_seat_send G w l' in
+      let installer = io_seat_send I w' l'' in
       let devices = devices_sync P S p s in
       recorded_sync (Hall.the_field L G I P S w w' l l' l'').row _ _ (Hall.the_type L G I P S w w' l l' l'').to_one
       (struct_sync (Declared.shape (Hall.the_type L G I P S w w' l l' l'')) (

@@ -5,7 +5,7 @@ use crate::connection::Connection;
 use crate::jobs::Jobs;
 use crate::sizes::{MOST_KEPT_COMMITS, URGENT_COMMITS};
 use nfs_types::Moment;
-use pool::{Answer, Connections, Installer, IoSeat, Logger, Look, Pool, Seat, Shared, Whole};
+use pool::{Answer, Connections, IoSeat, Look, Pool, Seat, Shared, Whole};
 use server_parts::{Bell, FreeSeats, Moments, Parking, Rounds, moment_of};
 use std::alloc::{AllocError, Global};
 use std::sync::ledger::Ledger;
@@ -25,8 +25,8 @@ pub struct Hall<L: Ledger, G: Whole, I: Whole, P, S> {
     pub alloc: Global,
     pub shared: Shared<L, G, I>,
     pub seats: Vec<Mutex<Seat<L>>>,
-    pub logger: Mutex<IoSeat<G, Logger>>,
-    pub installer: Mutex<IoSeat<I, Installer>>,
+    pub logger: Mutex<IoSeat<G>>,
+    pub installer: Mutex<IoSeat<I>>,
     pub devices: Devices<P, S>,
     pub signs: Signs,
 }

@@ -26,4 +26,4 @@ pub use txn_law::{
     a_window_has_each_commit_that_is_not_installed, a_window_keeps_what_was_read,
     a_window_reads_one_content,
 };
-pub use wal::{InstIo, LogIo, Seq};
+pub use wal::{InstIo, LogIo, Seq, SideIo};

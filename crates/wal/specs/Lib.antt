@@ -1,5 +1,6 @@
 pub mod View
 pub mod OnPorts
+pub mod Sides
 pub mod Tail
 -- What the contracts here cite, for the crates above.
 pub use Rattle.wal_law.specs.Io

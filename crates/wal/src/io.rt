@@ -1,30 +1,30 @@
 //! The device calls that the memory log hands out.
-ghost use Rattle.std.specs.Prelude.{◌≡◌, OnOk};
+ghost use Rattle.std.specs.Prelude.{◌≡◌};
 ghost use Rattle.disk.specs.Device.{CountsFailure};
+ghost use Rattle.disk.specs.declared.block.Side.{Side};
+ghost use Rattle.wal.specs.Sides.{call_is_made};
 ghost use Rattle.wal_law.specs.Io.{Io, IsCallWithin, HasMade, HasMadeCall};
-ghost use Rattle.wal_law.specs.Calls.{LogCallIsMade, InstCallIsMade};
 
 use disk::{Block, CrashDisk, Failed};
 use std::marker::Model;
 use wal_law::IoCall;
 
-/// A device call of the logger. It must be made and given back to the log that handed it out.
-pub struct LogIo {
+/// A device call of the logger or of the installer. It must be made and given back to the log that handed it out, as
+/// a call of the side that it was handed out to.
+pub struct SideIo {
     pub(crate) beginning: u64,
     pub(crate) step: usize,
     pub(crate) call: IoCall,
     pub(crate) content: Block,
 }
 
-/// A device call of the installer. It must be made and given back to the log that handed it out.
-pub struct InstIo {
-    pub(crate) beginning: u64,
-    pub(crate) step: usize,
-    pub(crate) call: IoCall,
-    pub(crate) content: Block,
-}
+/// One of the logger.
+pub type LogIo = SideIo;
 
-impl Model for LogIo {
+/// One of the installer.
+pub type InstIo = SideIo;
+
+impl Model for SideIo {
     ghost use Rattle.wal_law.specs.Io.{Io};
 
     ghost Value = { Io };
@@ -37,20 +37,7 @@ impl Model for LogIo {
     } };
 }
 
-impl Model for InstIo {
-    ghost use Rattle.wal_law.specs.Io.{Io};
-
-    ghost Value = { Io };
-
-    ghost view = { λ io. record {
-      beginning = io.beginning;
-      step = io.step;
-      call = io.call;
-      content = io.content;
-    } };
-}
-
-impl LogIo {
+impl SideIo {
     /// The call to make.
     pub fn call(&self) -> IoCall
         ensures { result ≡ self.now.call }
@@ -71,34 +58,7 @@ impl LogIo {
         ensures call { HasMade (D.device disk.old) self.now result (D.device disk.new) }
         ensures failure { CountsFailure (D.device disk.old) (D.device disk.new) result }
         ensures model { D.keeps_model disk.new → D.keeps_model disk.old }
-        ensures law { LogCallIsMade (D.device disk.old) self.now result (D.device disk.new) }
-    {
-        make(disk, self.call, &self.content)
-    }
-}
-
-impl InstIo {
-    /// The call to make.
-    pub fn call(&self) -> IoCall
-        ensures { result ≡ self.now.call }
-    {
-        self.call
-    }
-
-    /// What a write writes.
-    pub fn content(&self) -> &Block
-        ensures { result.now ≡ self.now.content }
-    {
-        &self.content
-    }
-
-    /// Makes the call.
-    pub fn perform<D: CrashDisk>(&self, disk: &mut D) -> Result<(), Failed>
-        requires { IsCallWithin (D.device disk.old).size self.now.call }
-        ensures call { HasMade (D.device disk.old) self.now result (D.device disk.new) }
-        ensures failure { CountsFailure (D.device disk.old) (D.device disk.new) result }
-        ensures model { D.keeps_model disk.new → D.keeps_model disk.old }
-        ensures law { InstCallIsMade (D.device disk.old) self.now result (D.device disk.new) }
+        ensures law { (side : Side) → call_is_made side (D.device disk.old) self.now result (D.device disk.new) }
     {
         make(disk, self.call, &self.content)
     }

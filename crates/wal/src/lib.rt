@@ -7,6 +7,6 @@ mod io;
 mod memory;
 mod port_io;
 
-pub use io::{InstIo, LogIo};
+pub use io::{InstIo, LogIo, SideIo};
 pub use memory::Wal;
 pub use wal_law::{Append, IoCall, LogChange, Room, Seq, law};

@@ -2,19 +2,10 @@
 ghost use Rattle.std.specs.Prelude.{◌≡◌, ◌∷◌, ◌++◌, []};
 ghost use Rattle.wal.specs.OnPorts.{call_with, port_call};
 
-use crate::{InstIo, IoCall, LogIo};
+use crate::{IoCall, SideIo};
 use disk::{Block, Failed, Port};
 
-impl LogIo {
-    /// Makes the call on a port. One that doesn't lie on the port's side is a failure of the port.
-    pub fn perform_on<P: Port>(&self, port: &mut P) -> Result<(), Failed>
-        ensures { P.calls port.new ≡ P.calls port.old ++ (port_call self.now, result) ∷ [] }
-    {
-        make_on(port, self.call, &self.content)
-    }
-}
-
-impl InstIo {
+impl SideIo {
     /// Makes the call on a port. One that doesn't lie on the port's side is a failure of the port.
     pub fn perform_on<P: Port>(&self, port: &mut P) -> Result<(), Failed>
         ensures { P.calls port.new ≡ P.calls port.old ++ (port_call self.now, result) ∷ [] }

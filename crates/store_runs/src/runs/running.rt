@@ -22,7 +22,7 @@ ghost use Rattle.store_workers.specs.WorkerSteps.{side};
 use super::going::{a_log_event_leaves_a_run_going, a_work_event_leaves_a_run_going};
 use super::going_workers::{a_call_leaves_a_run_going, a_read_leaves_a_run_going};
 use super::sound::{can_be_spelled, is_moment};
-use disk::CrashDisk;
+use disk::{CrashDisk, Side};
 use log_seats::{Installer, Logger, Stepped};
 use nfs_types::{Call, Credential, Moment};
 use procs::Done;
@@ -264,7 +264,7 @@ impl<D: CrashDisk> Running<D> {
         a_device_counts_the_calls_of_its_steps();
         what_was_read_is_at_home();
         self.store.core.lawful();
-        let stepped = self.calls.logger.step(&mut self.store.core);
+        let stepped = self.calls.logger.step(Side::Log, &mut self.store.core);
         self.store.core.lawful();
         match stepped {
             Some(Stepped::Next(call)) => Some(Step::LogNext(call)),
@@ -312,7 +312,7 @@ impl<D: CrashDisk> Running<D> {
         a_device_counts_the_calls_of_its_steps();
         what_was_read_is_at_home();
         self.store.core.lawful();
-        let stepped = self.calls.installer.step(&mut self.store.core);
+        let stepped = self.calls.installer.step(Side::Home, &mut self.store.core);
         self.store.core.lawful();
         match stepped {
             Some(Stepped::Next(call)) => Some(Step::InstNext(call)),
@@ -431,8 +431,8 @@ impl Calls {
         ensures inodes { core.new.inodes ≡ core.old.inodes }
     {
         let Calls { logger, installer } = self;
-        logger.end(core);
-        installer.end(core);
+        logger.end(Side::Log, core);
+        installer.end(Side::Home, core);
     }
 }
 

@@ -10,7 +10,7 @@ ghost use Rattle.wal_law.specs.Installer.{with_installed, next_home, IsNextInstC
 
 use super::Wal;
 use super::search::next_newest;
-use crate::{InstIo, IoCall, LogChange};
+use crate::{InstIo, IoCall, LogChange, SideIo};
 use circ::put_start;
 use disk::{Block, BlockNo, Side};
 use limits::START_BLOCK;
@@ -66,7 +66,7 @@ impl Wal {
         ensures lawful { IsLawful self.old }
         ensures log { self.new ≡ (if is_inst_out self.old io then with_inst_back self.old ok else self.old) }
     {
-        let InstIo {
+        let SideIo {
             beginning,
             step,
             call: _,
@@ -121,7 +121,7 @@ impl Wal {
         } else {
             IoCall::Barrier(Side::Home)
         };
-        InstIo {
+        SideIo {
             beginning: self.start,
             step: self.inst_step,
             call,

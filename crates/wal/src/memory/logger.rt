@@ -10,7 +10,7 @@ ghost use Rattle.wal_law.specs.Logger.{with_log_back, IsNextLogCall};
 
 use super::Wal;
 use super::header::put_header;
-use crate::{IoCall, LogIo};
+use crate::{IoCall, LogIo, SideIo};
 use disk::{Block, BlockNo, Side};
 use limits::{FIRST_SLOT_BLOCK, LOG_HEADER_BLOCK, LOG_SLOTS};
 
@@ -64,7 +64,7 @@ impl Wal {
         ensures lawful { IsLawful self.old }
         ensures log { self.new ≡ (if is_log_out self.old io then with_log_back self.old ok else self.old) }
     {
-        let LogIo {
+        let SideIo {
             beginning,
             step,
             call: _,
@@ -115,7 +115,7 @@ impl Wal {
         } else {
             IoCall::Barrier(Side::Log)
         };
-        LogIo {
+        SideIo {
             beginning: self.start + self.logged as u64,
             step: self.log_step,
             call,

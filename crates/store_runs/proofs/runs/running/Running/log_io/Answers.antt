@@ -1,5 +1,6 @@
 use Rattle.std.proofs.Common.{rules, inl, inr, ◌≡◌, ◌∙◌, ap, refl, sym, subst, is_ok, Bool, Option, Some, None}
 use Rattle.disk.specs.Device.{Device, current}
+use Rattle.disk.specs.declared.block.Side.TheVariants.{Log as LogSide}
 use Rattle.log_seats.proofs.Cases.{not_tried, tried}
 use Rattle.log_seats.proofs.Made.{made_later}
 use Rattle.log_seats.specs.Making.{IsTried}
@@ -29,7 +30,7 @@ returns-clause-step g c =
     let next = c.make.new.self in
     let beside = pending_of calls.installer.io calls.installer.made in
     let ok = c.in_ok-ok.ok in
-    let is : IsTried LogCallIsMade d calls.logger.io calls.logger.made (Some ok) e next.made = search rules in
+    let is : IsTried LogCallIsMade d calls.logger.io calls.logger.made (Some ok) e next.made = search (c.make.ensures.made LogSide, rules) in
     let one = tried LogCallIsMade d e calls.logger.io calls.logger.made ok next.made is in
     let io = one.io in
     let size : d.size ≡ core.log.blocks = search rules in
@@ -66,7 +67,7 @@ returns-clause-does g c =
     let next = c.make.new.self in
     let beside = pending_of calls.installer.io calls.installer.made in
     let ok = c.in_ok-ok.ok in
-    let is : IsTried LogCallIsMade d calls.logger.io calls.logger.made (Some ok) e next.made = search rules in
+    let is : IsTried LogCallIsMade d calls.logger.io calls.logger.made (Some ok) e next.made = search (c.make.ensures.made LogSide, rules) in
     let one = tried LogCallIsMade d e calls.logger.io calls.logger.made ok next.made is in
     let io = one.io in
     let size : d.size ≡ core.log.blocks = search rules in
@@ -88,7 +89,7 @@ returns-in_err-ok-clause-step g c =
     let core = c.args.self.now.store.core in
     let next = c.make.new.self in
     let beside = pending_of calls.installer.io calls.installer.made in
-    let is : IsTried LogCallIsMade d calls.logger.io calls.logger.made None e next.made = search rules in
+    let is : IsTried LogCallIsMade d calls.logger.io calls.logger.made None e next.made = search (c.make.ensures.made LogSide, rules) in
     let one = not_tried LogCallIsMade d e calls.logger.io calls.logger.made next.made is in
     let moved = c.a_device_counts_the_calls_of_its_steps.ensures.none d None refl in
     let same : c.from_residual.result ≡ None = search rules in

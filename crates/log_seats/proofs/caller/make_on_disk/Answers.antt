@@ -1,10 +1,10 @@
 -- The call lies on the disk, and was made there.
 use Rattle.std.proofs.Common.{rules}
 use Rattle.wal_law.specs.Io.{IsCallWithin}
-use Rattle.log_seats.proofs.logger.make_on_disk.Goals as goal
+use Rattle.log_seats.proofs.caller.make_on_disk.Goals as goal
 
 pub returns-clause-made : goal.returns-clause-made
-returns-clause-made g c =
+returns-clause-made g c = λ side.
     let within : IsCallWithin (g.D.CrashDisk.device c.args.disk.now).size c.args.io.now.call = search rules in
     record {
       within = λ _. record {
@@ -12,7 +12,7 @@ returns-clause-made g c =
         ok_is = c.is_ok.ensures.value;
         call = c.perform.ensures.call;
         failure = c.perform.ensures.failure;
-        law = c.perform.ensures.law;
+        law = c.perform.ensures.law side;
       };
       beyond = λ no. absurd (no within);
     }

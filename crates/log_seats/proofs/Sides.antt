@@ -1,0 +1,123 @@
+-- What a side's calls leave, put together; and one call, from its taking to its giving back.
+use Rattle.std.proofs.Common.{◌≡◌, ℕ, List, Bool, true, false, Option, Some, None, is_some, ap, refl, subst, sym, ◌∙◌}
+use Rattle.std.proofs.Common.{IsNone, IsSome, IfSome, MatchOption}
+use Rattle.disk.specs.Device.{Device}
+use Rattle.disk.specs.declared.block.Side.{Side}
+use Rattle.disk.specs.declared.block.Side.TheVariants.{Log as LogSide, Home}
+use Rattle.objects.specs.Object.{ObjectBytes}
+use Rattle.txn_law.proofs.CoreLaws.{out_blocks}
+use Rattle.txn_law.specs.Core.{CoreState}
+use Rattle.txn_law.specs.CoreLaw.{IsLawfulCore}
+use Rattle.txn_law.specs.CoreWindow.{KeepsHome, KeepsReads}
+use Rattle.wal.specs.Sides.{call_is_made, may_call}
+use Rattle.wal_law.specs.Calls.{InstCallGoesOut, LogCallGoesOut}
+use Rattle.wal_law.specs.Installer.{IsNextInstCall, may_install, with_inst_out}
+use Rattle.wal_law.specs.Io.{Io, IsCallWithin}
+use Rattle.wal_law.specs.Logger.{IsNextLogCall, may_log, with_log_out}
+use Rattle.log_seats.specs.declared.stepped.Stepped.{Stepped}
+use Rattle.log_seats.specs.declared.stepped.Stepped.TheVariants.{Next, Done}
+use Rattle.log_seats.specs.Making.{IsTried}
+use Rattle.log_seats.specs.OneCall.{MakesOne}
+use Rattle.log_seats.specs.Steps.{HasEnded, HasStepped, InstGoesOut, LogGoesOut, comes_back, goes_out}
+
+-- ---- the next call
+
+pub log_next_is : (o : Option Io) (old new : CoreState) → is_some o ≡ may_log old.log
+    → (IsSome o → new ≡ record old { log = with_log_out old.log }) → (IsNone o → new ≡ old)
+    → IfSome o (λ io. IsCallWithin new.log.blocks io.call) → IfSome o (IsNextLogCall new.log)
+    → IfSome o (λ io. LogCallGoesOut old.log io new.log) → ((other : ℕ) → KeepsReads old new other)
+    → KeepsHome old new → MatchOption o ((new ≡ old) × (may_log old.log ≡ false)) (λ io. LogGoesOut old io new)
+log_next_is None old new causes some none within call law stays keeps = (none refl, sym causes)
+log_next_is (Some io) old new causes some none within call law stays keeps =
+    let same : new.log.blocks ≡ old.log.blocks = ap (λ (core : CoreState). core.log.blocks) (some refl) in
+    record {
+      may = sym causes;
+      core = some refl;
+      blocks = same;
+      within = subst (λ (n : ℕ). IsCallWithin n io.call) same within;
+      next = call;
+      law = law;
+      reads = stays;
+      home = keeps;
+    }
+
+pub inst_next_is : (o : Option Io) (old new : CoreState) → is_some o ≡ may_install old.log
+    → (IsSome o → new ≡ record old { log = with_inst_out old.log }) → (IsNone o → new ≡ old)
+    → IfSome o (λ io. IsCallWithin new.log.blocks io.call) → IfSome o (IsNextInstCall new.log)
+    → IfSome o (λ io. InstCallGoesOut old.log io new.log) → ((other : ℕ) → KeepsReads old new other)
+    → KeepsHome old new
+    → MatchOption o ((new ≡ old) × (may_install old.log ≡ false)) (λ io. InstGoesOut old io new)
+inst_next_is None old new causes some none within call law stays keeps = (none refl, sym causes)
+inst_next_is (Some io) old new causes some none within call law stays keeps =
+    let same : new.log.blocks ≡ old.log.blocks =
+    ap (λ (core : CoreState). core.log.blocks) (some refl) ∙ out_blocks old.log in
+    record {
+      may = sym causes;
+      core = some refl;
+      blocks = same;
+      within = subst (λ (n : ℕ). IsCallWithin n io.call) same within;
+      next = call;
+      law = law;
+      reads = stays;
+      home = keeps;
+    }
+
+-- ---- one call
+
+goes_may : (side : Side) (old : CoreState) (io : Io) (new : CoreState) → goes_out side old io new
+    → may_call side old.log ≡ true
+goes_may LogSide old io new goes = goes.may
+goes_may Home old io new goes = goes.may
+
+pub stepped_may : (side : Side) (old new : CoreState) (made : Option Bool) (told : Option Stepped)
+    (next : Option Io) (later : Option Bool)
+    → HasStepped (may_call side) (goes_out side) (comes_back side) old None made told new next later
+    → is_some told ≡ may_call side old.log
+stepped_may side old new made (Some (Next call)) (Some io) later is = sym (goes_may side old io new is.0)
+stepped_may side old new made (Some (Next call)) None later is = absurd is
+stepped_may side old new made (Some (Done ok)) next later is = absurd is
+stepped_may side old new made None next later is = sym is.3
+
+-- what was taken is made and given back
+module _ (side : Side) (is_plan : ℕ → ℕ → List ObjectBytes → List ObjectBytes → Type 0)
+    (old mid new last : CoreState) (d e : Device) where
+  back_is : (io : Io) (ok : Bool) (told : Option Stepped) (next : Option Io) (later : Option Bool)
+      → HasStepped (may_call side) (goes_out side) (comes_back side) mid (Some io) (Some ok) told new next later
+      → HasEnded (comes_back side) new next later last → comes_back side mid io ok last
+  back_is io ok (Some (Done told)) next later is ended =
+      let none = subst (λ (out : Option Io). HasEnded (comes_back side) new out later last) is.2 ended in
+      subst (λ (core : CoreState). comes_back side mid io ok core) (sym none) is.0
+  back_is io ok (Some (Next call)) next later is ended = absurd is
+  back_is io ok None next later is ended = absurd is
+
+  pub makes_one : (made : Option Bool) (told again : Option Stepped) (out next : Option Io)
+      (unmade later after : Option Bool) (answer : Option Bool)
+      → HasStepped (may_call side) (goes_out side) (comes_back side) old None made told mid out unmade
+      → is_some told ≡ true → IsLawfulCore is_plan mid
+      → IsTried (call_is_made side) d out unmade answer e later
+      → HasStepped (may_call side) (goes_out side) (comes_back side) mid out later again new next after
+      → HasEnded (comes_back side) new next after last
+      → MakesOne (goes_out side) (call_is_made side) (comes_back side) is_plan old d last e
+  makes_one made (Some (Next call)) again (Some io) next unmade later after answer is some lawful tried back ended =
+      by_answer answer (subst (λ (m : Option Bool). IsTried (call_is_made side) d (Some io) m answer e later) is.2
+      tried)
+    where
+      by_answer : (answer : Option Bool) → IsTried (call_is_made side) d (Some io) None answer e later
+          → MakesOne (goes_out side) (call_is_made side) (comes_back side) is_plan old d last e
+      by_answer (Some ok) tried = record {
+        mid = mid;
+        io = io;
+        ok = ok;
+        goes = is.0;
+        lawful = lawful;
+        made = tried.0;
+        back = back_is io ok again next after (subst (λ (m : Option Bool). HasStepped (may_call side)
+            (goes_out side) (comes_back side) mid (Some io) m again new next after) tried.1 back) ended;
+      }
+      by_answer None tried = absurd tried
+  makes_one made (Some (Next call)) again None next unmade later after answer is some lawful tried back ended =
+      absurd is
+  makes_one made (Some (Done ok)) again out next unmade later after answer is some lawful tried back ended =
+      absurd is
+  makes_one made None again out next unmade later after answer is some lawful tried back ended =
+      absurd (let no : false ≡ true = some in cc)
