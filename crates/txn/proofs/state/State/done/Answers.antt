@@ -1,11 +1,12 @@
 use Rattle.std.proofs.Common.{◌≡◌, Bool, true, ◌≤◌, ◌∙◌, ◌-◌, ℕ, if◌then◌else◌, ap, map, sym, subst, List, nat_lt, arith, length}
-use Rattle.wal_law.specs.Calls.{InstCallComesBack}
+use Rattle.wal.specs.Sides.{call_comes_back, is_out, with_back}
 use Rattle.wal_law.specs.Log.{Log, installed_place}
 use Rattle.objects.specs.Pins.{Residents, Unpins, pins_of}
 use Rattle.objects.proofs.Wanted.{spared_all}
 use Rattle.objects.specs.declared.present.Present.{Present}
 use Rattle.txn.proofs.Counted.{swept_is, total-map}
 use Rattle.txn.proofs.Mapped.{map_filter, installed_is}
+use Rattle.txn.proofs.Sides.{keeps_all, lets_go}
 use Rattle.txn.proofs.Neat.{neat_installed, neat_on, past_same}
 use Rattle.txn.specs.Neat.{IsNeat}
 use Rattle.txn.specs.Pinned.{objects_in, total}
@@ -13,23 +14,23 @@ use Rattle.txn_law.specs.Commit.{footprint}
 use Rattle.txn_law.specs.Core.{CoreState, past, installed}
 use Rattle.txn_law.specs.Records.{swept}
 use Rattle.txn_law.specs.Window.{Footprint}
-use Rattle.txn.proofs.state.State.inst_done.Goals as goal
+use Rattle.txn.proofs.state.State.done.Goals as goal
 
 pub invariant_of-self : goal.invariant_of-self
 invariant_of-self g c =
     let core = c.self.inside in
-    let log : Log = c.inst_done.new.self in
+    let log : Log = c.done.new.self in
     let le : installed_place log ≤ installed_place core.log =
     let at = c.is_at_most.ensures.0 c.if-is_at_most.true in
     omega (arith, at, c.installed-installed.ensures, c.installed-before.ensures) in
     neat_on core.log log core.holds
     (map (λ kept. footprint kept.place.0 (g.C.Change.planned kept.change)) core.records.items) core.present
-    c.inst_done.ensures.seen le c.self.invariant
+    c.done.ensures.seen le c.self.invariant
 
 pub returns-then-is_at_most-clause-others : goal.returns-then-is_at_most-clause-others
 returns-then-is_at_most-clause-others g c =
     let core = c.self.inside in
-    let log : Log = c.inst_done.new.self in
+    let log : Log = c.done.new.self in
     let records : List Footprint =
     map (λ kept. footprint kept.place.0 (g.C.Change.planned kept.change)) core.records.items in
     let resident : Residents = core.present in
@@ -50,7 +51,9 @@ returns-then-is_at_most-clause-others g c =
       boot = core.boot;
       log_calls = length core.log_calls.items;
       inst_calls = length core.inst_calls.items;
-    } in (
+    } in
+    keeps_all c.args.side c.args.self.now (record seen { log = log })
+    (ap (λ (old : CoreState). record old { log = log }) c.self.view_is) (
       spare,
       installed_is spare seen log records resident.blocks (sym past_is)
           (spared_all (pins_of resident) resident.blocks)
@@ -59,8 +62,8 @@ returns-then-is_at_most-clause-others g c =
 
 pub returns-then-is_at_most-clause-law : goal.returns-then-is_at_most-clause-law
 returns-then-is_at_most-clause-law g c =
-    subst (λ (old : CoreState). InstCallComesBack old.log c.args.io c.args.ok c.inst_done.new.self)
-    c.self.view_is c.inst_done.ensures.law
+    subst (λ (old : CoreState). call_comes_back c.args.side old.log c.args.io c.args.ok c.done.new.self)
+    c.self.view_is c.done.ensures.law
 
 -- what the records that go have read, told by what is made of them
 dropped : {X : Type 0} (f : X → Footprint) (xs : List X) (place other : ℕ) → place ≡ other
@@ -79,7 +82,7 @@ dropped f xs place other same old new unpins = (
 pub invariant_of-self-2 : goal.invariant_of-self-2
 invariant_of-self-2 g c =
     let core = c.self.inside in
-    let log : Log = c.inst_done.new.self in
+    let log : Log = c.done.new.self in
     let before : List Footprint =
     map (λ kept. footprint kept.place.0 (g.C.Change.planned kept.change)) core.records.items in
     let records : List Footprint =
@@ -92,7 +95,7 @@ invariant_of-self-2 g c =
     let old : Residents = core.present in
     let new : Residents = c.forget.new.present in
     subst (λ (rs : List Footprint). IsNeat log core.holds rs new) (sym kept_is)
-    (neat_installed core.log log core.holds before old new c.inst_done.ensures.seen
+    (neat_installed core.log log core.holds before old new c.done.ensures.seen
     (dropped (λ kept. footprint kept.place.0 (g.C.Change.planned kept.change)) core.records.items
     c.installed-installed.result.0 (installed_place log) c.installed-installed.ensures old new
     c.forget.ensures.pins) c.self.invariant)
@@ -100,7 +103,7 @@ invariant_of-self-2 g c =
 pub returns-clause-others : goal.returns-clause-others
 returns-clause-others g c =
     let core = c.self.inside in
-    let log : Log = c.inst_done.new.self in
+    let log : Log = c.done.new.self in
     let before : List Footprint =
     map (λ kept. footprint kept.place.0 (g.C.Change.planned kept.change)) core.records.items in
     let records : List Footprint =
@@ -113,7 +116,7 @@ returns-clause-others g c =
     let old : Residents = core.present in
     let new : Residents = c.forget.new.present in
     let neat : IsNeat log core.holds (past (installed_place log) before) new =
-    neat_installed core.log log core.holds before old new c.inst_done.ensures.seen
+    neat_installed core.log log core.holds before old new c.done.ensures.seen
     (dropped (λ kept. footprint kept.place.0 (g.C.Change.planned kept.change)) core.records.items
     c.installed-installed.result.0 (installed_place log) c.installed-installed.ensures old new
     c.forget.ensures.pins) c.self.invariant in
@@ -132,7 +135,15 @@ returns-clause-others g c =
       boot = core.boot;
       log_calls = length core.log_calls.items;
       inst_calls = length core.inst_calls.items;
-    } in (
+    } in
+    let more : installed_place log ≤ installed_place c.args.self.now.log → ⊥ = λ le.
+    let place = ap (λ (old : CoreState). installed_place old.log) c.self.view_is in
+    let at = c.is_at_most.ensures.1
+    (omega (arith, le, place, c.installed-installed.ensures, c.installed-before.ensures)) in
+    let no = c.if-is_at_most.false in grind arith in
+    lets_go c.args.side c.args.self.now (record seen { log = log; records = records; present = new.blocks }) c.args.io
+    c.args.ok (subst (λ (old : CoreState). log ≡ (if is_out c.args.side old.log c.args.io
+    then with_back c.args.side old.log c.args.ok else old.log)) c.self.view_is c.done.ensures.log) more (
       spare,
       installed_is spare seen log records new.blocks kept_is left
           ∙ ap (λ (before : CoreState). installed spare before log) c.self.view_is,
@@ -140,5 +151,5 @@ returns-clause-others g c =
 
 pub returns-clause-law : goal.returns-clause-law
 returns-clause-law g c =
-    subst (λ (old : CoreState). InstCallComesBack old.log c.args.io c.args.ok c.inst_done.new.self)
-    c.self.view_is c.inst_done.ensures.law
+    subst (λ (old : CoreState). call_comes_back c.args.side old.log c.args.io c.args.ok c.done.new.self)
+    c.self.view_is c.done.ensures.law
