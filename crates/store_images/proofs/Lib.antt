@@ -1,3 +1,4 @@
+pub mod CallsEnd
 pub mod CallsLeft
 pub mod CallsMade
 pub mod ComingHome
@@ -8,11 +9,11 @@ pub mod Later
 pub mod LogMoves
 pub mod LogSteps
 pub mod Lost
+pub mod OneCall
 pub mod Opens
 pub mod OutCalls
 pub mod Raising
 pub mod Refusing
-pub mod SameNumbers
 pub mod SettlingCalls
 pub mod Staying
 pub mod StillOpen
