@@ -131,7 +131,7 @@ io_seat_send : (G : RattleType) (w : Whole.Ghosts G.Denot) (l : Ledger.Ghosts G.
 io_seat_send G w l =
     recorded_send (IoSeat.the_field G w l).row _ _ (IoSeat.the_type G w l).to_one
     (struct_send (Declared.shape (IoSeat.the_type G w l)) (
-      search (callers.the_send, sendable) depth 20,
+      callers.the_field_send,
       (
         share.the_send G l,
         (search (crosses, sendable) depth 60 fits 20000, (search (crosses, sendable) depth 60 fits 20000, tt)),
