@@ -12,15 +12,16 @@ use Rattle.txn_law.proofs.CoreLaws.{home_inst_done, lawful_inst_done}
 use Rattle.txn_law.proofs.HeldReads.{reads_installed}
 use Rattle.txn_law.specs.Leaves.{Leaves, taken_by, is_fetching, in_memory}
 use Rattle.txn_law.proofs.Leaves.{leaves_installed}
+use Rattle.txn.specs.Answering.{OfSome}
 use Rattle.txn.proofs.Answered.{log_counts}
 use Rattle.txn.proofs.transactions.Core.inst_done.Goals as goal
 
 pub invariant_of-self : goal.invariant_of-self
 invariant_of-self g c = (
   let old : CoreState = c.self.inside.state in
-      subst (λ (core : CoreState). IsLawfulCore g.C.Change.is_plan core)
+      subst (λ (core : CoreState). IsLawfulCore (OfSome g.C.Change.is_plan) core)
       (sym (c.inst_done.ensures.others.1 ∙ ap (λ (log : Log). installed c.inst_done.ensures.others.0 old log) c.inst_done.ensures.log))
-      (lawful_inst_done g.C.Change.is_plan c.inst_done.ensures.others.0 old (is_inst_out old.log c.args.io) c.args.ok
+      (lawful_inst_done (OfSome g.C.Change.is_plan) c.inst_done.ensures.others.0 old (is_inst_out old.log c.args.io) c.args.ok
       (subst IsLawful c.inst_done.ensures.log c.lawful.ensures) c.self.invariant.0),
   log_counts g.C.Change.are_counts c.self.inside.state c.inst_done.new.self c.inst_done.ensures.blocks
       (ap (λ (core : CoreState). core.inodes) c.inst_done.ensures.others.1) c.self.invariant.1,

@@ -4,6 +4,7 @@ use Rattle.txn_law.specs.CoreWindow.{KeepsHome, KeepsReads}
 use Rattle.std.proofs.Common.{IfSome}
 use Rattle.wal_law.specs.Calls.{InstCallGoesOut}
 use Rattle.txn_law.proofs.CoreLaws.{home_inst_out, lawful_inst_out}
+use Rattle.txn.specs.Answering.{OfSome}
 use Rattle.txn.proofs.Answered.{next_home, next_law}
 use Rattle.txn.proofs.Answered.{next_reads}
 use Rattle.txn.proofs.Answered.{next_counts}
@@ -15,9 +16,9 @@ use Rattle.txn.proofs.transactions.Core.inst_next.Goals as goal
 pub invariant_of-self : goal.invariant_of-self
 invariant_of-self g c = (
   next_law c.self.inside.state c.inst_next-io.new.self (with_inst_call c.self.inside.state)
-      g.C.Change.is_plan c.inst_next-io.result
+      (OfSome g.C.Change.is_plan) c.inst_next-io.result
       c.inst_next-io.ensures.some c.inst_next-io.ensures.none c.lawful.ensures
-      (λ lawful. lawful_inst_out g.C.Change.is_plan c.self.inside.state lawful c.self.invariant.0) c.self.invariant.0,
+      (λ lawful. lawful_inst_out (OfSome g.C.Change.is_plan) c.self.inside.state lawful c.self.invariant.0) c.self.invariant.0,
   next_counts g.C.Change.are_counts c.inst_next-io.result c.self.inside.state c.inst_next-io.new.self
       (with_inst_call c.self.inside.state) c.inst_next-io.ensures.some c.inst_next-io.ensures.none
       (out_blocks c.self.inside.state.log) refl c.self.invariant.1,

@@ -7,15 +7,16 @@ use Rattle.wal_law.specs.Log.{IsLawful}
 use Rattle.wal_law.specs.Logger.{is_log_out}
 use Rattle.txn_law.proofs.CoreLaws.{home_log_done, lawful_log_done}
 use Rattle.txn_law.proofs.HeldReads.{reads_log}
+use Rattle.txn.specs.Answering.{OfSome}
 use Rattle.txn.proofs.Answered.{log_counts}
 use Rattle.txn.proofs.transactions.Core.log_done.Goals as goal
 
 pub invariant_of-self : goal.invariant_of-self
 invariant_of-self g c = (
   let old : CoreState = c.self.inside.state in
-      subst (λ (core : CoreState). IsLawfulCore g.C.Change.is_plan core)
+      subst (λ (core : CoreState). IsLawfulCore (OfSome g.C.Change.is_plan) core)
       (sym (c.log_done.ensures.others ∙ ap (λ log. record old { log = log }) c.log_done.ensures.log))
-      (lawful_log_done g.C.Change.is_plan old (is_log_out old.log c.args.io) c.args.ok
+      (lawful_log_done (OfSome g.C.Change.is_plan) old (is_log_out old.log c.args.io) c.args.ok
       (subst IsLawful c.log_done.ensures.log c.lawful.ensures) c.self.invariant.0),
   log_counts g.C.Change.are_counts c.self.inside.state c.log_done.new.self c.log_done.ensures.blocks
       (ap (λ (core : CoreState). core.inodes) c.log_done.ensures.others) c.self.invariant.1,
