@@ -1,34 +1,34 @@
 -- What a side's calls leave, put together; and one call, from its taking to its giving back.
-use Rattle.std.proofs.Common.{◌≡◌, ℕ, List, Bool, true, false, Option, Some, None, is_some, ap, refl, subst, sym, ◌∙◌}
-use Rattle.std.proofs.Common.{IsNone, IsSome, IfSome, MatchOption}
+use Rattle.std.proofs.Common.{◌≡◌, ℕ, List, Bool, true, false, if◌then◌else◌, Option, Some, None, is_some, ap, refl}
+use Rattle.std.proofs.Common.{◌∙◌, IsNone, IsSome, IfSome, MatchOption, subst, sym}
+use Rattle.disk.specs.Crash.{Image}
 use Rattle.disk.specs.Device.{Device}
 use Rattle.disk.specs.declared.block.Side.{Side}
 use Rattle.disk.specs.declared.block.Side.TheVariants.{Log as LogSide, Home}
 use Rattle.objects.specs.Object.{ObjectBytes}
-use Rattle.txn_law.proofs.CoreLaws.{out_blocks}
+use Rattle.txn.proofs.Sides.{call_blocks, call_inodes}
+use Rattle.txn.specs.Sides.{CoreBack, LeavesBack, base_back, with_call}
 use Rattle.txn_law.specs.Core.{CoreState}
 use Rattle.txn_law.specs.CoreLaw.{IsLawfulCore}
-use Rattle.txn_law.specs.CoreWindow.{KeepsHome, KeepsReads}
-use Rattle.wal.specs.Sides.{call_is_made, may_call}
-use Rattle.wal_law.specs.Calls.{InstCallGoesOut, LogCallGoesOut}
-use Rattle.wal_law.specs.Installer.{IsNextInstCall, may_install, with_inst_out}
+use Rattle.txn_law.specs.CoreWindow.{IsHomeOf, KeepsHome, KeepsReads}
+use Rattle.wal.specs.Sides.{IsNextCall, call_comes_back, call_goes_out, call_is_made, is_out, may_call, with_back}
 use Rattle.wal_law.specs.Io.{Io, IsCallWithin}
-use Rattle.wal_law.specs.Logger.{IsNextLogCall, may_log, with_log_out}
 use Rattle.log_seats.specs.declared.stepped.Stepped.{Stepped}
 use Rattle.log_seats.specs.declared.stepped.Stepped.TheVariants.{Next, Done}
 use Rattle.log_seats.specs.Making.{IsTried}
 use Rattle.log_seats.specs.OneCall.{MakesOne}
-use Rattle.log_seats.specs.Steps.{HasEnded, HasStepped, InstGoesOut, LogGoesOut, comes_back, goes_out}
+use Rattle.log_seats.specs.Steps.{HasEnded, HasStepped, comes_back, goes_out}
 
 -- ---- the next call
 
-pub log_next_is : (o : Option Io) (old new : CoreState) → is_some o ≡ may_log old.log
-    → (IsSome o → new ≡ record old { log = with_log_out old.log }) → (IsNone o → new ≡ old)
-    → IfSome o (λ io. IsCallWithin new.log.blocks io.call) → IfSome o (IsNextLogCall new.log)
-    → IfSome o (λ io. LogCallGoesOut old.log io new.log) → ((other : ℕ) → KeepsReads old new other)
-    → KeepsHome old new → MatchOption o ((new ≡ old) × (may_log old.log ≡ false)) (λ io. LogGoesOut old io new)
-log_next_is None old new causes some none within call law stays keeps = (none refl, sym causes)
-log_next_is (Some io) old new causes some none within call law stays keeps =
+pub next_is : (side : Side) (o : Option Io) (old new : CoreState) → is_some o ≡ may_call side old.log
+    → (IsSome o → new ≡ with_call side old) → (IsNone o → new ≡ old)
+    → IfSome o (λ io. IsCallWithin new.log.blocks io.call) → IfSome o (IsNextCall side new.log)
+    → IfSome o (λ io. call_goes_out side old.log io new.log) → ((other : ℕ) → KeepsReads old new other)
+    → KeepsHome old new
+    → MatchOption o ((new ≡ old) × (may_call side old.log ≡ false)) (λ io. goes_out side old io new)
+next_is side None old new causes some none within call law stays keeps = (none refl, sym causes)
+next_is LogSide (Some io) old new causes some none within call law stays keeps =
     let same : new.log.blocks ≡ old.log.blocks = ap (λ (core : CoreState). core.log.blocks) (some refl) in
     record {
       may = sym causes;
@@ -40,17 +40,9 @@ log_next_is (Some io) old new causes some none within call law stays keeps =
       reads = stays;
       home = keeps;
     }
-
-pub inst_next_is : (o : Option Io) (old new : CoreState) → is_some o ≡ may_install old.log
-    → (IsSome o → new ≡ record old { log = with_inst_out old.log }) → (IsNone o → new ≡ old)
-    → IfSome o (λ io. IsCallWithin new.log.blocks io.call) → IfSome o (IsNextInstCall new.log)
-    → IfSome o (λ io. InstCallGoesOut old.log io new.log) → ((other : ℕ) → KeepsReads old new other)
-    → KeepsHome old new
-    → MatchOption o ((new ≡ old) × (may_install old.log ≡ false)) (λ io. InstGoesOut old io new)
-inst_next_is None old new causes some none within call law stays keeps = (none refl, sym causes)
-inst_next_is (Some io) old new causes some none within call law stays keeps =
+next_is Home (Some io) old new causes some none within call law stays keeps =
     let same : new.log.blocks ≡ old.log.blocks =
-    ap (λ (core : CoreState). core.log.blocks) (some refl) ∙ out_blocks old.log in
+    ap (λ (core : CoreState). core.log.blocks) (some refl) ∙ call_blocks Home old in
     record {
       may = sym causes;
       core = some refl;
@@ -61,6 +53,52 @@ inst_next_is (Some io) old new causes some none within call law stays keeps =
       reads = stays;
       home = keeps;
     }
+
+pub next_blocks : (side : Side) (o : Option Io) (old new : CoreState) → (IsSome o → new ≡ with_call side old)
+    → (IsNone o → new ≡ old) → new.log.blocks ≡ old.log.blocks
+next_blocks side None old new some none = ap (λ (core : CoreState). core.log.blocks) (none refl)
+next_blocks side (Some io) old new some none =
+    ap (λ (core : CoreState). core.log.blocks) (some refl) ∙ call_blocks side old
+
+pub next_inodes : (side : Side) (o : Option Io) (old new : CoreState) → (IsSome o → new ≡ with_call side old)
+    → (IsNone o → new ≡ old) → new.inodes ≡ old.inodes
+next_inodes side None old new some none = ap (λ (core : CoreState). core.inodes) (none refl)
+next_inodes side (Some io) old new some none =
+    ap (λ (core : CoreState). core.inodes) (some refl) ∙ call_inodes side old
+
+-- ---- what is given back
+
+pub comes_back_is : (side : Side) (old new : CoreState) (io : Io) (ok : Bool)
+    → new.log ≡ (if is_out side old.log io then with_back side old.log ok else old.log)
+    → new.log.blocks ≡ old.log.blocks → CoreBack side old new → LeavesBack side old new
+    → call_comes_back side old.log io ok new.log → ((other : ℕ) → KeepsReads old new other)
+    → ((base : Image) → IsHomeOf base old → IsHomeOf (base_back side base old.log io ok) new)
+    → comes_back side old io ok new
+comes_back_is LogSide old new io ok log blocks core leaves law reads home =
+    record { log = log; blocks = blocks; core = core; law = law; reads = reads; home = home }
+comes_back_is Home old new io ok log blocks core leaves law reads home =
+    record { log = log; blocks = blocks; core = core; leaves = leaves; law = law; reads = reads; home = home }
+
+-- What nobody changes as a call comes back.
+pub record StaysBack (old new : CoreState) : Type 0 where
+  pub inodes : new.inodes ≡ old.inodes
+  pub log_calls : new.log_calls ≡ old.log_calls
+  pub inst_calls : new.inst_calls ≡ old.inst_calls
+  pub boot : new.boot ≡ old.boot
+
+pub stays_back : (side : Side) (old new : CoreState) → CoreBack side old new → StaysBack old new
+stays_back LogSide old new back = record {
+  inodes = ap (λ (core : CoreState). core.inodes) back;
+  log_calls = ap (λ (core : CoreState). core.log_calls) back;
+  inst_calls = ap (λ (core : CoreState). core.inst_calls) back;
+  boot = ap (λ (core : CoreState). core.boot) back;
+}
+stays_back Home old new back = record {
+  inodes = ap (λ (core : CoreState). core.inodes) back;
+  log_calls = ap (λ (core : CoreState). core.log_calls) back;
+  inst_calls = ap (λ (core : CoreState). core.inst_calls) back;
+  boot = ap (λ (core : CoreState). core.boot) back;
+}
 
 -- ---- one call
 

@@ -138,10 +138,7 @@ fn next<C: Change>(side: Side, core: &mut Core<C>) -> Option<SideIo>
     ensures blocks { core.new.log.blocks ≡ core.old.log.blocks }
     ensures inodes { core.new.inodes ≡ core.old.inodes }
 {
-    match side {
-        Side::Log => core.log_next(),
-        Side::Home => core.inst_next(),
-    }
+    core.next(side)
 }
 
 // Gives the core a call of a side back.
@@ -152,10 +149,7 @@ fn done<C: Change>(side: Side, core: &mut Core<C>, io: SideIo, ok: bool)
     ensures calls { (core.new.log_calls ≡ core.old.log_calls) × (core.new.inst_calls ≡ core.old.inst_calls) }
     ensures boot { core.new.boot ≡ core.old.boot }
 {
-    match side {
-        Side::Log => core.log_done(io, ok),
-        Side::Home => core.inst_done(io, ok),
-    }
+    core.done(side, io, ok);
 }
 
 // Makes a call on a disk, and answers whether that answered Ok.

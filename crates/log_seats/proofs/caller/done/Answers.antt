@@ -1,31 +1,18 @@
-use Rattle.std.proofs.Common.{subst, sym}
-use Rattle.disk.specs.declared.block.Side.{Side}
-use Rattle.log_seats.specs.Steps.{InstComesBack, LogComesBack, comes_back}
+use Rattle.log_seats.proofs.Sides.{comes_back_is, stays_back}
 use Rattle.log_seats.proofs.caller.done.Goals as goal
 
-pub returns-in-Log-clause-back : goal.returns-in-Log-clause-back
-returns-in-Log-clause-back g c =
-    let is : LogComesBack c.args.core.now c.args.io c.args.ok c.log_done.new.self = record {
-      log = c.log_done.ensures.log;
-      blocks = c.log_done.ensures.blocks;
-      core = c.log_done.ensures.others;
-      law = c.log_done.ensures.law;
-      reads = c.log_done.ensures.stays;
-      home = c.log_done.ensures.keeps;
-    } in
-    subst (λ (side : Side). comes_back side c.args.core.now c.args.io c.args.ok c.log_done.new.self)
-    (sym c.in-Log.is) is
+pub returns-clause-back : goal.returns-clause-back
+returns-clause-back g c =
+    comes_back_is c.args.side c.args.core.now c.done.new.self c.args.io c.args.ok c.done.ensures.log c.done.ensures.blocks
+    c.done.ensures.core c.done.ensures.leaves c.done.ensures.law c.done.ensures.stays c.done.ensures.keeps
 
-pub returns-in-Home-clause-back : goal.returns-in-Home-clause-back
-returns-in-Home-clause-back g c =
-    let is : InstComesBack c.args.core.now c.args.io c.args.ok c.inst_done.new.self = record {
-      log = c.inst_done.ensures.log;
-      blocks = c.inst_done.ensures.blocks;
-      core = c.inst_done.ensures.only;
-      leaves = c.inst_done.ensures.leaves;
-      law = c.inst_done.ensures.law;
-      reads = c.inst_done.ensures.stays;
-      home = c.inst_done.ensures.keeps;
-    } in
-    subst (λ (side : Side). comes_back side c.args.core.now c.args.io c.args.ok c.inst_done.new.self)
-    (sym c.in-Home.is) is
+pub returns-clause-inodes : goal.returns-clause-inodes
+returns-clause-inodes g c = (stays_back c.args.side c.args.core.now c.done.new.self c.done.ensures.core).inodes
+
+pub returns-clause-calls : goal.returns-clause-calls
+returns-clause-calls g c =
+    let stays = stays_back c.args.side c.args.core.now c.done.new.self c.done.ensures.core in
+    (stays.log_calls, stays.inst_calls)
+
+pub returns-clause-boot : goal.returns-clause-boot
+returns-clause-boot g c = (stays_back c.args.side c.args.core.now c.done.new.self c.done.ensures.core).boot
