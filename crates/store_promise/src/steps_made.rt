@@ -34,7 +34,8 @@ ghost use Rattle.store_promise.specs.LogTold.{idle, may_install_told, may_log_to
 ghost use Rattle.store_promise.specs.NextCall.{next_log_call, taken_home};
 ghost use Rattle.store_promise.specs.Aims.{is_barred};
 ghost use Rattle.store_promise.specs.Progress.{Again, Begun, Called, Job, At, Planning, Reading, Stage};
-ghost use Rattle.store_promise.specs.Progress.{Taken, has_part_alone, has_taken, is_fetching, known_then, takes};
+ghost use Rattle.store_promise.specs.Progress.{Taken, has_loaded, has_part_alone, has_taken, is_fetching};
+ghost use Rattle.store_promise.specs.Progress.{is_loaded, known_then, takes};
 ghost use Rattle.store_promise.specs.Schedule.{Schedule, Setting, Told, is_held};
 ghost use Rattle.store_promise.specs.EventSteps.{IsTaken};
 ghost use Rattle.store_promise.specs.Schedule.{progress_before, told_before, whole_wish, wish_of};
@@ -184,6 +185,25 @@ pub fn no_two_take_one_byte()
         → slice_get t.steps index ≡ Some (Some (step.Claimed block wish.Held))
         → progress_before events t.steps worker index ≡ At job (Planning begun)
         → has_taken (whole_wish block) (progress_before events t.steps other index) ≡ true
+        → KeepsPromise before later tree first workers events t → ⊥ }
+{}
+
+/// A worker that is told to fetch a block breaks the promise where its transaction has an object of that block, or where
+/// another one has that goes by its plan.
+pub fn no_block_in_memory_is_fetched()
+    ensures own { (before later : Device) (tree : Tree) (first workers index worker : ℕ) (events : Schedule)
+        (t : Transcript) (job : Job) (begun : Begun) (addr : Addr) (mode : Mode)
+        → slice_get events index ≡ Some (event.Work worker) → worker < workers
+        → slice_get t.steps index ≡ Some (Some (step.Wanted addr mode wish.Fetch))
+        → progress_before events t.steps worker index ≡ At job (Planning begun)
+        → is_loaded addr.block begun ≡ true
+        → KeepsPromise before later tree first workers events t → ⊥ }
+    ensures others { (before later : Device) (tree : Tree) (first workers index worker other : ℕ)
+        (events : Schedule) (t : Transcript) (job : Job) (begun : Begun) (addr : Addr) (mode : Mode)
+        → slice_get events index ≡ Some (event.Work worker) → worker < workers → other ≢ worker
+        → slice_get t.steps index ≡ Some (Some (step.Wanted addr mode wish.Fetch))
+        → progress_before events t.steps worker index ≡ At job (Planning begun)
+        → has_loaded addr.block (progress_before events t.steps other index) ≡ true
         → KeepsPromise before later tree first workers events t → ⊥ }
 {}
 
