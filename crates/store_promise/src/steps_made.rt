@@ -14,7 +14,7 @@ ghost use Rattle.objects.specs.declared.mode.Mode.TheVariants as modes;
 ghost use Rattle.layout.specs.declared.geometry.Geometry.{Geometry};
 ghost use Rattle.procs.specs.Asks.{Asks};
 ghost use Rattle.txn_law.specs.Window.{object_at};
-ghost use Rattle.wal_law.specs.Log.{AreOnce};
+ghost use Rattle.wal_law.specs.Log.{AreOnce, is_among};
 ghost use Rattle.wal_law.specs.declared.calls.IoCall.{IoCall};
 ghost use Rattle.wal_law.specs.declared.calls.IoCall.TheVariants.{Write};
 ghost use Rattle.store_promise.specs.declared.events.Committing.{Committing};
@@ -39,7 +39,7 @@ ghost use Rattle.store_promise.specs.Progress.{is_loaded, known_then, takes};
 ghost use Rattle.store_promise.specs.Schedule.{Schedule, Setting, Told, is_held};
 ghost use Rattle.store_promise.specs.EventSteps.{IsTaken};
 ghost use Rattle.store_promise.specs.Schedule.{progress_before, told_before, whole_wish, wish_of};
-ghost use Rattle.store_promise.specs.Transcript.{Transcript};
+ghost use Rattle.store_promise.specs.Transcript.{Transcript, step_at};
 
 /// A log, or an installer, that passes over an event which applies breaks the promise.
 pub fn the_log_passes_over_no_event()
@@ -259,6 +259,17 @@ pub fn a_procedure_changes_only_what_it_took()
         → addr.block.0 < later.size → takes (wish_of addr modes.Shared) begun ≡ false
         → (kept : KeepsPromise before later tree first workers events t)
         → object_at (kept.setting.blocks (index + 1)) addr ≡ object_at (kept.setting.blocks index) addr }
+{}
+
+/// A block that the commit of a procedure doesn't name is after it what it was before it.
+pub fn a_procedure_changes_only_what_it_names()
+    ensures { (before later : Device) (tree : Tree) (first workers index : ℕ) (events : Schedule)
+        (t : Transcript) (c : Committed) (named : List BlockNo) (answer : Committing) (block : BlockNo)
+        → slice_get t.history index ≡ Some c
+        → step_at t c.event ≡ Some (step.Commit named answer)
+        → block.0 < later.size → is_among block named ≡ false
+        → (kept : KeepsPromise before later tree first workers events t)
+        → kept.setting.blocks (index + 1) block.0 ≡ kept.setting.blocks index block.0 }
 {}
 
 /// A worker that wishes anything but the first of what is left to be taken again breaks the promise, and so does
