@@ -123,8 +123,6 @@ impl Caller {
         ensures inodes { core.new.inodes ≡ core.old.inodes }
         ensures calls { (core.new.log_calls ≡ core.old.log_calls) × (core.new.inst_calls ≡ core.old.inst_calls) }
         ensures boot { core.new.boot ≡ core.old.boot }
-        ensures calls { (core.new.log_calls ≡ core.old.log_calls) × (core.new.inst_calls ≡ core.old.inst_calls) }
-        ensures boot { core.new.boot ≡ core.old.boot }
     {
         let Caller { io, made } = self;
         if let Some(io) = io {

@@ -2,12 +2,16 @@
 use Rattle.std.specs.Prelude.{◌≡◌, ℕ, ◌+◌, ◌≤◌, List, length, slice_get, Option, Some, None, take}
 use Rattle.disk.specs.Crash.{Image}
 use Rattle.disk.specs.Device.{Device, current}
+use Rattle.disk.specs.declared.block.BlockNo.{BlockNo}
 use Rattle.procedures.specs.After.{after}
 use Rattle.model.specs.Tree.{Tree}
 use Rattle.txn_law.specs.Fetch.{Fetch}
+use Rattle.store_promise.specs.declared.events.Committing.TheVariants as committing
 use Rattle.store_promise.specs.declared.events.Event.{Event}
+use Rattle.store_promise.specs.declared.events.Step.{Step}
+use Rattle.store_promise.specs.declared.events.Step.TheVariants as step
 use Rattle.store_promise.specs.declared.transcript.Committed.{Committed}
-use Rattle.store_promise.specs.Changes.{ChangeTheirOwn, KeepsOthers}
+use Rattle.store_promise.specs.Changes.{ChangeTheirOwn, KeepsOthers, KeepsUnnamed}
 use Rattle.store_promise.specs.DeviceCalls.{DoEachStep, DoesStepBy}
 use Rattle.store_promise.specs.Headline.{IsGeometryOf, StandsAfter}
 use Rattle.store_promise.specs.History.{IsHistory}
@@ -56,17 +60,21 @@ pub record IsRun (b : Beginning) (o : Setting) (t : Transcript) (base : Image) (
   pub well : IsToldWell b o t
   pub past : HasLeft b.before b.opened.size b.first b.tree b.events b.opened.clock t o.blocks side.device
 
--- the procedure that an event commits changes the blocks only in what its transaction has taken
-pub record ChangesOwn (size : ℕ) (events : Schedule) (t : Transcript) (blocks : ℕ → Image)
+-- The procedure that an event's step commits changes the blocks only in what its transaction has taken, and of them
+-- only those that the step names.
+pub record ChangesOwn (size : ℕ) (events : Schedule) (t : Transcript) (blocks : ℕ → Image) (made : Option Step)
     (c : Committed) : Type 0 where
   pub job : Job
   pub begun : Begun
   pub planned : progress_now events t c.worker ≡ At job (Planning begun)
+  pub named : List BlockNo
+  pub made_is : made ≡ Some (step.Commit named (committing.Committed (record { 0 = length t.history + 1 })))
   pub others : KeepsOthers size begun (blocks (length t.history)) (blocks (length t.history + 1))
+  pub unnamed : KeepsUnnamed size named (blocks (length t.history)) (blocks (length t.history + 1))
 
-abbrev pub ChangesOwnIn : ℕ → Schedule → Transcript → (ℕ → Image) → Option Committed → Type 0
-ChangesOwnIn size events t blocks None = Unit {0}
-ChangesOwnIn size events t blocks (Some c) = ChangesOwn size events t blocks c
+abbrev pub ChangesOwnIn : ℕ → Schedule → Transcript → (ℕ → Image) → Option Step → Option Committed → Type 0
+ChangesOwnIn size events t blocks made None = Unit {0}
+ChangesOwnIn size events t blocks made (Some c) = ChangesOwn size events t blocks made c
 
 -- An event was taken: its step is one that may be made, moved the device so far by the call that it names, left the run going, with one
 -- entry more where it committed one, in a setting with the same blocks up to the places so far; and what is
@@ -86,4 +94,4 @@ pub record GoesOn (b : Beginning) (o : Setting) (t : Transcript) (side : StoreSi
   pub leads : after b.tree (entries_of (with_noted t noted)) last
   pub files : (place : ℕ) → StandsAfter later.geometry b.tree (take place (entries_of (with_noted t noted)))
       (later.blocks place)
-  pub changes : ChangesOwnIn b.opened.size b.events t later.blocks noted.entry
+  pub changes : ChangesOwnIn b.opened.size b.events t later.blocks noted.made noted.entry

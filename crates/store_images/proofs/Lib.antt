@@ -8,6 +8,7 @@ pub mod Later
 pub mod LogMoves
 pub mod LogSteps
 pub mod Lost
+pub mod OneCall
 pub mod Opens
 pub mod OutCalls
 pub mod Raising

@@ -1,5 +1,5 @@
 -- An open store stays open with each device call of the log and of the installer, and with more of them.
-use Rattle.std.proofs.Common.{arith, ◌≡◌, ◌∙◌, refl, sym, ap, true≢false, ℕ, ◌+◌, ◌≤◌, inl, inr, Bool, true}
+use Rattle.std.proofs.Common.{arith, ◌≡◌, ◌∙◌, refl, subst, sym, ap, true≢false, ℕ, ◌+◌, ◌≤◌, inl, inr, Bool, true}
 use Rattle.std.proofs.Common.{false}
 use Rattle.std.proofs.Common.{if◌then◌else◌, nat_eq, nat_lt, Option, is_some}
 use Rattle.std.proofs.lemmas.List.{length-drop}
@@ -95,15 +95,15 @@ further_then a b c one two = record {
 }
 
 -- a call of the log's side was made, of a log that wasn't broken
-pub called_further : (old mid new : CoreState) (before after : Device) → new.begun ≡ old.begun
+pub called_further : (old new : CoreState) (before after : Device) → new.begun ≡ old.begun
     → new.log.places ≡ old.log.places → end_of new.log ≡ end_of old.log
-    → settled_place old.log ≤ settled_place mid.log → settled_place mid.log ≤ settled_place new.log
+    → settled_place old.log ≤ settled_place new.log
     → HasCalled old.log before new.log after → IsFurther old new
-called_further old mid new before after begun places positions one two called = record {
+called_further old new before after begun places positions settled called = record {
   begun = omega (arith, begun);
   places = omega (arith, places);
   positions = omega (arith, positions);
-  settled = omega (arith, one, two);
+  settled = settled;
   broken = λ is. absurd (true≢false (sym is ∙ called.sound));
 }
 
@@ -149,22 +149,26 @@ open_then d e f a b c one two = record {
 
 -- three steps of the log's side make a call: it is taken, made and given back
 pub open_by : (May Make Give : Setting → LogTold → Option Step → Type 0) (d e : Device) (old new : CoreState)
-    (out back : StoreSide) (one two three : Option Step) → IsLogStep May (at_rest d old) one out
-    → IsLogStep Make out two back → IsLogStep Give back three (at_rest e new) → IsFurther old new
+    (first out back last : StoreSide) → first ≡ at_rest d old → last ≡ at_rest e new
+    → (one two three : Option Step) → IsLogStep May first one out
+    → IsLogStep Make out two back → IsLogStep Give back three last → IsFurther old new
     → HasCalled old.log d new.log e → LeavesOpen d old e new
-open_by May Make Give d e old new out back one two three taken made given further called = record {
-  core = kept_then old out.core new taken.core (kept_then out.core back.core new made.core given.core);
-  further = further;
-  past = called.past;
-  failures = called.counted;
-  failed = λ is. inr (called.lost is);
-  runs = λ o base fetches boot first last entries run.
-      let a = taken.runs o base fetches boot first last entries run in
-      let b = made.runs o (home_next base old.log one) fetches boot first last entries a.running in
-      let c = given.runs o (home_next (home_next base old.log one) out.core.log two) fetches boot
-      first last entries b.running in
-      record {
-        home = home_next (home_next (home_next base old.log one) out.core.log two) back.core.log three;
-        running = c.running;
-      };
-}
+open_by May Make Give d e old new first out back last first_is last_is one two three goes made comes further called =
+    let taken = subst (λ (s : StoreSide). IsLogStep May s one out) first_is goes in
+    let given = subst (λ (s : StoreSide). IsLogStep Give back three s) last_is comes in
+    record {
+      core = kept_then old out.core new taken.core (kept_then out.core back.core new made.core given.core);
+      further = further;
+      past = called.past;
+      failures = called.counted;
+      failed = λ is. inr (called.lost is);
+      runs = λ o base fetches boot first last entries run.
+          let a = taken.runs o base fetches boot first last entries run in
+          let b = made.runs o (home_next base old.log one) fetches boot first last entries a.running in
+          let c = given.runs o (home_next (home_next base old.log one) out.core.log two) fetches boot
+          first last entries b.running in
+          record {
+            home = home_next (home_next (home_next base old.log one) out.core.log two) back.core.log three;
+            running = c.running;
+          };
+    }

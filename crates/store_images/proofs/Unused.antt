@@ -1,5 +1,5 @@
 -- A core in which nothing was begun stays so while its installer brings home what the log has.
-use Rattle.std.proofs.Common.{arith, ap, ◌≡◌, ◌∙◌, refl, subst, sym, ℕ, Bool, true, false, cond, nat_eq}
+use Rattle.std.proofs.Common.{arith, ap, ◌≡◌, ◌∙◌, refl, sym, ℕ, Bool, true, false, cond, nat_eq}
 use Rattle.std.proofs.Common.{true≢false, Option, Some, None, List, [], ◌∷◌, is_none}
 use Rattle.std.proofs.lemmas.Bool.Decides.{nat_tests}
 use Rattle.disk.specs.Device.{Content}

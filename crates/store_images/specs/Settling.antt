@@ -2,7 +2,10 @@
 use Rattle.std.specs.Prelude.{◌≡◌, ℕ, ◌+◌, ◌-◌, ◌*◌, ◌<◌, ◌≤◌, ◌⊎◌, true, false, if◌then◌else◌, nat_eq, None}
 use Rattle.std.specs.Prelude.{[], length}
 use Rattle.disk.specs.Device.{Device}
+use Rattle.disk.specs.declared.block.Side.{Side}
+use Rattle.disk.specs.declared.block.Side.TheVariants as sides
 use Rattle.wal.specs.Log.{Log, tail_count}
+use Rattle.wal_law.specs.Logger.{may_log}
 use Rattle.txn.specs.Core.{CoreState}
 use Rattle.store_promise.specs.Openings.{IsLater}
 use Rattle.store_images.specs.Fetches.{FetchesOnly}
@@ -82,6 +85,11 @@ settling_left log = group_left log.taken log.log_step + group_left log.installin
 -- none once the log is broken
 abbrev pub settling_calls : Log → ℕ
 settling_calls log = if log.broken then 0 else settling_left log
+
+-- it is the side's turn in a settling: the installer's where the logger has no call to make
+abbrev pub IsTurnOf : Side → Log → Type 0
+IsTurnOf sides.Log log = Unit {0}
+IsTurnOf sides.Home log = may_log log ≡ false
 
 -- each call of a settling that was made is one of these
 pub record SpendsSettling (before : Device) (old : Log) (after : Device) (new : Log) : Type 0 where

@@ -7,21 +7,18 @@ ghost use Rattle.store_images.specs.Counts.{SameFrame};
 ghost use Rattle.store_images.specs.Fetches.{KeepsFetches};
 ghost use Rattle.store_images.specs.Further.{LeavesOpen};
 ghost use Rattle.store_images.specs.Opening.{IsSettled};
-ghost use Rattle.store_images.specs.Settling.{HasBroken, HasCalled, IsQuiet, SameNumbers};
+ghost use Rattle.store_images.specs.Settling.{HasBroken, HasCalled, IsQuiet, IsTurnOf, SameNumbers};
 ghost use Rattle.store_images.specs.Settling.{SpendsCalls, SpendsSettling, most_calls};
 ghost use Rattle.store_images.specs.Settling.{most_of_settling};
 ghost use Rattle.store_images.specs.SettlingStops.{KeepsPrefixes, StayOpen};
-ghost use Rattle.wal_law.specs.Installer.{may_install};
-ghost use Rattle.wal_law.specs.Logger.{may_log};
+ghost use Rattle.wal.specs.Sides.{may_call};
 
-use disk::{CrashDisk, Failed};
+use crate::sides::{a_call_of_a_side_leaves_the_store_open, the_calls_of_a_side_are_steps};
+use disk::{CrashDisk, Failed, Side};
 use limits::MOST_KEPT_COMMITS;
+use log_seats::make_one;
 use procs::Done;
-use store_promise::{
-    a_device_counts_the_calls_of_its_steps, a_stop_leaves_a_beginning,
-    an_open_store_keeps_its_files, the_installer_leaves_the_store_open,
-    the_logger_leaves_the_store_open, what_is_settled_stays_settled, what_was_read_is_at_home,
-};
+use store_promise::{a_stop_leaves_a_beginning, an_open_store_keeps_its_files};
 use txn::Core;
 
 /// A store that was opened.
@@ -103,7 +100,7 @@ pub fn settle<D: CrashDisk>(store: &mut Store<D>) -> Result<(), Failed>
             return Ok(());
         }
         store.core.lawful();
-        if !log_one(store) && !install_one(store) {
+        if !call_one(Side::Log, store) && !call_one(Side::Home, store) {
             unreachable!();
         }
     }
@@ -116,9 +113,8 @@ pub fn keeps_too_many<D: CrashDisk>(store: &Store<D>) -> bool
     store.kept() > MOST_KEPT_COMMITS
 }
 
-// Makes the next device call of the log, if there is one.
-#[tactic(auto, using(crate::proofs::CallsLeft::log_called))]
-fn log_one<D: CrashDisk>(store: &mut Store<D>) -> bool
+// Makes the next device call of a side, if there is one.
+fn call_one<D: CrashDisk>(side: Side, store: &mut Store<D>) -> bool
     requires { IsQuiet store.old.core.log }
     ensures out { store.new.core.out ≡ store.old.core.out }
     ensures boot { store.new.boot ≡ store.old.boot }
@@ -127,7 +123,7 @@ fn log_one<D: CrashDisk>(store: &mut Store<D>) -> bool
     ensures counts { SameFrame store.old.core store.new.core }
     ensures numbers { SameNumbers store.old.core store.new.core }
     ensures fetches { KeepsFetches store.old.core store.new.core }
-    ensures may { result ≡ may_log store.old.core.log }
+    ensures may { result ≡ may_call side store.old.core.log }
     ensures called { IsTrue result
         → HasCalled store.old.core.log (D.device store.old.disk) store.new.core.log (D.device store.new.disk) }
     ensures none { IsFalse result
@@ -136,54 +132,15 @@ fn log_one<D: CrashDisk>(store: &mut Store<D>) -> bool
         store.new.core.log }
     ensures stays { StayOpen (D.device store.old.disk) store.old.core (D.device store.new.disk) store.new.core }
     ensures model { D.keeps_model store.new.disk → D.keeps_model store.old.disk }
-    ensures spends { SpendsSettling (D.device store.old.disk) store.old.core.log (D.device store.new.disk)
-        store.new.core.log }
-{
-    a_stop_leaves_a_beginning();
-    the_logger_leaves_the_store_open();
-    an_open_store_keeps_its_files();
-    a_device_counts_the_calls_of_its_steps();
-    what_was_read_is_at_home();
-    what_is_settled_stays_settled();
-    store.core.lawful();
-    if !log_seats::log_one(&mut store.core, &mut store.disk) {
-        return false;
-    }
-    store.core.lawful();
-    true
-}
-
-// Makes the next device call of the installer, if there is one.
-#[tactic(auto, using(crate::proofs::CallsLeft::inst_called))]
-fn install_one<D: CrashDisk>(store: &mut Store<D>) -> bool
-    requires { IsQuiet store.old.core.log }
-    ensures out { store.new.core.out ≡ store.old.core.out }
-    ensures boot { store.new.boot ≡ store.old.boot }
-    ensures open { LeavesOpen (D.device store.old.disk) store.old.core (D.device store.new.disk)
-        store.new.core }
-    ensures counts { SameFrame store.old.core store.new.core }
-    ensures numbers { SameNumbers store.old.core store.new.core }
-    ensures fetches { KeepsFetches store.old.core store.new.core }
-    ensures may { result ≡ may_install store.old.core.log }
-    ensures called { IsTrue result
-        → HasCalled store.old.core.log (D.device store.old.disk) store.new.core.log (D.device store.new.disk) }
-    ensures none { IsFalse result
-        → (store.new.core ≡ store.old.core) × (D.device store.new.disk ≡ D.device store.old.disk) }
-    ensures few { SpendsCalls (D.device store.old.disk) store.old.core.log (D.device store.new.disk)
-        store.new.core.log }
-    ensures stays { StayOpen (D.device store.old.disk) store.old.core (D.device store.new.disk) store.new.core }
-    ensures model { D.keeps_model store.new.disk → D.keeps_model store.old.disk }
-    ensures spends { may_log store.old.core.log ≡ false → SpendsSettling (D.device store.old.disk)
+    ensures spends { IsTurnOf side store.old.core.log → SpendsSettling (D.device store.old.disk)
         store.old.core.log (D.device store.new.disk) store.new.core.log }
 {
     a_stop_leaves_a_beginning();
-    the_installer_leaves_the_store_open();
     an_open_store_keeps_its_files();
-    a_device_counts_the_calls_of_its_steps();
-    what_was_read_is_at_home();
-    what_is_settled_stays_settled();
+    the_calls_of_a_side_are_steps();
+    a_call_of_a_side_leaves_the_store_open();
     store.core.lawful();
-    if !log_seats::install_one(&mut store.core, &mut store.disk) {
+    if !make_one(side, &mut store.core, &mut store.disk) {
         return false;
     }
     store.core.lawful();

@@ -22,6 +22,7 @@ use circ::LogFault;
 use disk::{Block, BlockNo, CrashDisk, Failed, Side};
 use layout::{LayoutFault, Super};
 use limits::SUPER_BLOCK;
+use log_seats::make_one;
 use procs::Done;
 use std::alloc::{AllocError, Global};
 use store_promise::OpenFault;
@@ -262,7 +263,7 @@ fn install_one<D: CrashDisk>(disk: &mut D, core: &mut Core<Done>) -> bool
     ensures model { D.keeps_model disk.new → D.keeps_model disk.old }
 {
     core.lawful();
-    if !log_seats::install_one(core, disk) {
+    if !make_one(Side::Home, core, disk) {
         return false;
     }
     core.lawful();

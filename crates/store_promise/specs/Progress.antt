@@ -259,6 +259,11 @@ is_object_in block (aim.Claim claimed) = false
 abbrev pub is_loaded : BlockNo → Begun → Bool
 is_loaded block begun = list_any (is_object_in block) begun.taken
 
+-- so it is of a worker that goes by its plan
+abbrev pub has_loaded : BlockNo → Progress → Bool
+has_loaded block (At job (Planning begun)) = is_loaded block begun
+has_loaded block _ = false
+
 -- a part of the block, or the whole, is taken alone
 abbrev pub is_part_alone : BlockNo → Aim → Bool
 is_part_alone block (aim.Object addr mode) = nat_eq addr.block.0 block.0 && is_exclusive mode

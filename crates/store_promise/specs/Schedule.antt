@@ -34,7 +34,7 @@ use Rattle.store_promise.specs.LogTold.{added_told, may_log_told, may_install_to
 use Rattle.store_promise.specs.NextCall.{IsNextOfInstalling, next_log_call}
 use Rattle.store_promise.specs.Progress.{Begun, Progress, Idle, At, Stage, Called, Planning, Reading, Read}
 use Rattle.store_promise.specs.Progress.{Refused, Again, Waiting, progressed, has_taken, is_fetching}
-use Rattle.store_promise.specs.Progress.{Taken, Wished, has_part_alone, is_loaded}
+use Rattle.store_promise.specs.Progress.{Taken, Wished, has_loaded, has_part_alone, is_loaded}
 
 -- a schedule is any list of events
 abbrev pub Schedule : Type 0
@@ -157,12 +157,14 @@ pub record IsLeftFree (told : Told) (worker : ℕ) (wished : Wished) : Type 0 wh
 
 -- What a wish to read some bytes of a block may be answered: Busy only where what another worker has taken
 -- keeps it off, Loading only where another fetches the block, and else only where no other does either. Fetch
--- comes only where no object of the block was had, and Outside never, as no call asks for what lies elsewhere.
+-- comes only where no object of the block was had, by this transaction or by another that goes by its plan, and
+-- Outside never, as no call asks for what lies elsewhere.
 abbrev pub IsWish : Told → ℕ → Begun → Wished → Wish → Type 0
 IsWish told worker begun wished wish.Held = IsLeftFree told worker wished
 IsWish told worker begun wished wish.Busy = IsSoOfAnother told worker (has_taken wished)
 IsWish told worker begun wished wish.Fetch =
     IsLeftFree told worker wished × (is_loaded wished.block begun ≡ false)
+    × IsSoOfNoOther told worker (has_loaded wished.block)
 IsWish told worker begun wished wish.Loading = IsSoOfAnother told worker (is_fetching wished.block)
 IsWish told worker begun wished wish.Outside = ⊥
 IsWish told worker begun wished wish.NoMemory = IsLeftFree told worker wished

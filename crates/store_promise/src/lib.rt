@@ -59,11 +59,12 @@ pub use running::{
 };
 pub use steps_made::{
     a_call_changes_no_more_than_it_may, a_call_that_is_out_is_made,
-    a_commit_names_what_was_taken_alone, a_full_log_is_full, a_procedure_changes_only_what_it_took,
-    a_worker_goes_by_its_plan, a_worker_passes_over_no_event, no_call_begins_again_for_nothing,
-    no_two_take_one_byte, nothing_is_asked_for_twice, one_worker_is_never_busy,
-    the_installer_comes_to_an_end, the_log_passes_over_no_event, the_log_takes_its_next_call,
-    what_was_known_is_taken_again_first, what_was_made_stays,
+    a_commit_names_what_was_taken_alone, a_full_log_is_full,
+    a_procedure_changes_only_what_it_names, a_procedure_changes_only_what_it_took,
+    a_worker_goes_by_its_plan, a_worker_passes_over_no_event, no_block_in_memory_is_fetched,
+    no_call_begins_again_for_nothing, no_two_take_one_byte, nothing_is_asked_for_twice,
+    one_worker_is_never_busy, the_installer_comes_to_an_end, the_log_passes_over_no_event,
+    the_log_takes_its_next_call, what_was_known_is_taken_again_first, what_was_made_stays,
     who_has_taken_more_above_does_not_wait,
 };
 pub use told_log::{

@@ -14,7 +14,7 @@ ghost use Rattle.objects.specs.declared.mode.Mode.TheVariants as modes;
 ghost use Rattle.layout.specs.declared.geometry.Geometry.{Geometry};
 ghost use Rattle.procs.specs.Asks.{Asks};
 ghost use Rattle.txn_law.specs.Window.{object_at};
-ghost use Rattle.wal_law.specs.Log.{AreOnce};
+ghost use Rattle.wal_law.specs.Log.{AreOnce, is_among};
 ghost use Rattle.wal_law.specs.declared.calls.IoCall.{IoCall};
 ghost use Rattle.wal_law.specs.declared.calls.IoCall.TheVariants.{Write};
 ghost use Rattle.store_promise.specs.declared.events.Committing.{Committing};
@@ -34,11 +34,12 @@ ghost use Rattle.store_promise.specs.LogTold.{idle, may_install_told, may_log_to
 ghost use Rattle.store_promise.specs.NextCall.{next_log_call, taken_home};
 ghost use Rattle.store_promise.specs.Aims.{is_barred};
 ghost use Rattle.store_promise.specs.Progress.{Again, Begun, Called, Job, At, Planning, Reading, Stage};
-ghost use Rattle.store_promise.specs.Progress.{Taken, has_part_alone, has_taken, is_fetching, known_then, takes};
+ghost use Rattle.store_promise.specs.Progress.{Taken, has_loaded, has_part_alone, has_taken, is_fetching};
+ghost use Rattle.store_promise.specs.Progress.{is_loaded, known_then, takes};
 ghost use Rattle.store_promise.specs.Schedule.{Schedule, Setting, Told, is_held};
 ghost use Rattle.store_promise.specs.EventSteps.{IsTaken};
 ghost use Rattle.store_promise.specs.Schedule.{progress_before, told_before, whole_wish, wish_of};
-ghost use Rattle.store_promise.specs.Transcript.{Transcript};
+ghost use Rattle.store_promise.specs.Transcript.{Transcript, step_at};
 
 /// A log, or an installer, that passes over an event which applies breaks the promise.
 pub fn the_log_passes_over_no_event()
@@ -187,6 +188,25 @@ pub fn no_two_take_one_byte()
         → KeepsPromise before later tree first workers events t → ⊥ }
 {}
 
+/// A worker that is told to fetch a block breaks the promise where its transaction has an object of that block, or where
+/// another one has that goes by its plan.
+pub fn no_block_in_memory_is_fetched()
+    ensures own { (before later : Device) (tree : Tree) (first workers index worker : ℕ) (events : Schedule)
+        (t : Transcript) (job : Job) (begun : Begun) (addr : Addr) (mode : Mode)
+        → slice_get events index ≡ Some (event.Work worker) → worker < workers
+        → slice_get t.steps index ≡ Some (Some (step.Wanted addr mode wish.Fetch))
+        → progress_before events t.steps worker index ≡ At job (Planning begun)
+        → is_loaded addr.block begun ≡ true
+        → KeepsPromise before later tree first workers events t → ⊥ }
+    ensures others { (before later : Device) (tree : Tree) (first workers index worker other : ℕ)
+        (events : Schedule) (t : Transcript) (job : Job) (begun : Begun) (addr : Addr) (mode : Mode)
+        → slice_get events index ≡ Some (event.Work worker) → worker < workers → other ≢ worker
+        → slice_get t.steps index ≡ Some (Some (step.Wanted addr mode wish.Fetch))
+        → progress_before events t.steps worker index ≡ At job (Planning begun)
+        → has_loaded addr.block (progress_before events t.steps other index) ≡ true
+        → KeepsPromise before later tree first workers events t → ⊥ }
+{}
+
 /// A commit that is told Full where the tail and the change together find room breaks the promise.
 pub fn a_full_log_is_full()
     ensures { (before later : Device) (tree : Tree) (first workers index worker : ℕ) (events : Schedule)
@@ -239,6 +259,17 @@ pub fn a_procedure_changes_only_what_it_took()
         → addr.block.0 < later.size → takes (wish_of addr modes.Shared) begun ≡ false
         → (kept : KeepsPromise before later tree first workers events t)
         → object_at (kept.setting.blocks (index + 1)) addr ≡ object_at (kept.setting.blocks index) addr }
+{}
+
+/// A block that the commit of a procedure doesn't name is after it what it was before it.
+pub fn a_procedure_changes_only_what_it_names()
+    ensures { (before later : Device) (tree : Tree) (first workers index : ℕ) (events : Schedule)
+        (t : Transcript) (c : Committed) (named : List BlockNo) (answer : Committing) (block : BlockNo)
+        → slice_get t.history index ≡ Some c
+        → step_at t c.event ≡ Some (step.Commit named answer)
+        → block.0 < later.size → is_among block named ≡ false
+        → (kept : KeepsPromise before later tree first workers events t)
+        → kept.setting.blocks (index + 1) block.0 ≡ kept.setting.blocks index block.0 }
 {}
 
 /// A worker that wishes anything but the first of what is left to be taken again breaks the promise, and so does

@@ -9,3 +9,4 @@ pub mod LoneTransaction
 pub mod OtherSteps
 pub mod OwnChange
 pub mod Fewer
+pub mod Sides

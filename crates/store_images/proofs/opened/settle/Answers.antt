@@ -10,16 +10,16 @@ use Rattle.store_images.proofs.StillOpen.{open_then, same_open}
 use Rattle.store_images.specs.SettlingStops.{StayOpen}
 use Rattle.store_images.proofs.opened.settle.Goals.{else-is_settled-via-then-is_settled+else-not-keeps_too_many}
 use Rattle.store_images.proofs.opened.settle.Goals.{else-is_settled-via-else-is_settled}
-use Rattle.store_images.proofs.opened.settle.Goals.{else-not-log_one-via-then-not-log_one+else-not-install_one}
-use Rattle.store_images.proofs.opened.settle.Goals.{else-not-log_one-via-else-not-log_one}
+use Rattle.store_images.proofs.opened.settle.Goals.{else-not-call_one-via-then-not-call_one+else-not-call_one-2}
+use Rattle.store_images.proofs.opened.settle.Goals.{else-not-call_one-via-else-not-call_one}
 use Rattle.store_images.proofs.opened.settle.Goals as goal
 
 pub unreachable-requires : goal.unreachable-requires
 unreachable-requires g c =
     let core = c.calls.store.core in
-    let rest = stuck core c.log_one.new.store.core HasPlan c.lawful-in-calls.ensures (search rules)
+    let rest = stuck core c.call_one.new.store.core HasPlan c.lawful-in-calls.ensures (search rules)
     (c.calls.invariant.1.log_out ∙ c.requires.logging) (c.calls.invariant.1.inst_out ∙ c.requires.installing)
-    c.if-not-log_one.ensures.may (c.if-not-log_one.ensures.none refl).0 c.if-not-install_one.ensures.may in
+    c.if-not-call_one.ensures.may (c.if-not-call_one.ensures.none refl).0 c.if-not-call_one-2.ensures.may in
     elim c.else-is_settled.branch [
       | else-is_settled-via-then-is_settled+else-not-keeps_too_many w ↦
           let many = w.if-not-keeps_too_many.ensures.0 refl in grind (arith, rest.1)
@@ -82,24 +82,24 @@ calls-preserved g c =
     let device = g.D.CrashDisk.device in
     let first = c.args.store.now in
     let old = c.calls.store in
-    let mid = c.log_one.new.store in
+    let mid = c.call_one.new.store in
     let logged : LeavesOpen (device first.disk) first.core (device mid.disk) mid.core =
     open_then (device first.disk) (device old.disk) (device mid.disk) first.core old.core mid.core
-    c.calls.invariant.6 c.log_one.ensures.open in
+    c.calls.invariant.6 c.call_one.ensures.open in
     let stayed : StayOpen (device first.disk) first.core (device mid.disk) mid.core =
     stay_along (device first.disk) (device old.disk) (device mid.disk) first.core old.core mid.core
-    c.calls.invariant.7 c.log_one.ensures.stays in
+    c.calls.invariant.7 c.call_one.ensures.stays in
     let spent : SpendsCalls (device first.disk) first.core.log (device mid.disk) mid.core.log =
     spends_along (device first.disk) (device old.disk) (device mid.disk) first.core.log
     old.core.log mid.core.log
-    c.calls.invariant.8 c.log_one.ensures.few in
+    c.calls.invariant.8 c.call_one.ensures.few in
     let settled : SpendsSettling (device first.disk) first.core.log (device mid.disk) mid.core.log =
     settles_along (device first.disk) (device old.disk) (device mid.disk) first.core.log
     old.core.log mid.core.log
-    c.calls.invariant.9 c.log_one.ensures.spends in
-    elim c.else-not-log_one.branch [
-      | else-not-log_one-via-then-not-log_one+else-not-install_one w ↦
-          let new = w.install_one.new.store in
+    c.calls.invariant.9 (c.call_one.ensures.spends tt) in
+    elim c.else-not-call_one.branch [
+      | else-not-call_one-via-then-not-call_one+else-not-call_one-2 w ↦
+          let new = w.call_one-then-not-call_one.new.store in
           let same = sym w.store-is in (
             search rules,
             search rules,
@@ -110,21 +110,21 @@ calls-preserved g c =
             subst (λ s. LeavesOpen (device first.disk) first.core (device s.disk) s.core) same
                 (open_then (device first.disk) (device mid.disk) (device new.disk) first.core mid.core
                 new.core logged
-                w.install_one.ensures.open),
+                w.call_one-then-not-call_one.ensures.open),
             subst (λ s. StayOpen (device first.disk) first.core (device s.disk) s.core) same
                 (stay_along (device first.disk) (device mid.disk) (device new.disk) first.core mid.core
                 new.core stayed
-                w.install_one.ensures.stays),
+                w.call_one-then-not-call_one.ensures.stays),
             subst (λ s. SpendsCalls (device first.disk) first.core.log (device s.disk) s.core.log) same
                 (spends_along (device first.disk) (device mid.disk) (device new.disk)
                 first.core.log mid.core.log
-                new.core.log spent w.install_one.ensures.few),
+                new.core.log spent w.call_one-then-not-call_one.ensures.few),
             subst (λ s. SpendsSettling (device first.disk) first.core.log (device s.disk) s.core.log) same
                 (settles_along (device first.disk) (device mid.disk) (device new.disk)
                 first.core.log mid.core.log
-                new.core.log settled (w.install_one.ensures.spends (search rules))),
+                new.core.log settled (w.call_one-then-not-call_one.ensures.spends (search rules))),
           )
-      | else-not-log_one-via-else-not-log_one w ↦
+      | else-not-call_one-via-else-not-call_one w ↦
           let same = sym w.store-is in (
             search rules,
             search rules,

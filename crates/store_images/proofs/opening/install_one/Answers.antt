@@ -1,10 +1,10 @@
 -- What comes home comes nearer, and a stop leaves what it left.
-use Rattle.std.proofs.Common.{◌≡◌, ◌∙◌, ap, rules, subst, sym}
+use Rattle.std.proofs.Common.{◌∙◌, ap, rules, subst, sym}
 use Rattle.txn_law.specs.Core.{CoreState}
 use Rattle.wal_law.specs.Installer.{is_inst_out, with_inst_back}
 use Rattle.wal_law.specs.Io.{IsCallWithin}
 use Rattle.wal_law.specs.Recovery.{image_of}
-use Rattle.log_seats.proofs.Made.{made_clean, made_later}
+use Rattle.log_seats.proofs.Made.{made_later}
 use Rattle.store_promise.proofs.Later.{past_one}
 use Rattle.store_images.proofs.CallsLeft.{given_back, inst_called}
 use Rattle.store_images.proofs.ComingHome.{called_home, home_stops}
@@ -14,19 +14,19 @@ use Rattle.store_images.proofs.opening.install_one.Goals as goal
 
 pub returns-clause-bare : goal.returns-clause-bare
 returns-clause-bare g c =
-    let one = c.install_one.ensures.one (search rules) in
-    stays_unused c.args.core.now one.mid c.install_one.new.core one.io one.ok c.requires.bare one.goes one.back
+    let one = c.make_one.ensures.one (search rules) in
+    stays_unused c.args.core.now one.mid c.make_one.new.core one.io one.ok c.requires.bare one.goes one.back
 
 pub returns-clause-home : goal.returns-clause-home
 returns-clause-home g c = λ before raised brings.
-    let one = c.install_one.ensures.one (search rules) in
+    let one = c.make_one.ensures.one (search rules) in
     let answered = one.made.within
     (subst (λ n. IsCallWithin n one.io.call) (sym c.requires.size) one.goes.within) in
     let log = c.args.core.now.log in
     let out = one.mid.log in
-    let new = c.install_one.new.core.log in
+    let new = c.make_one.new.core.log in
     let now = g.D.CrashDisk.device c.args.disk.now in
-    let next = g.D.CrashDisk.device c.install_one.new.disk in
+    let next = g.D.CrashDisk.device c.make_one.new.disk in
     let goes = ap (λ (core : CoreState). core.log) one.goes.core in
     let back = given_back (is_inst_out out one.io) (with_inst_back out one.ok) out new
     (inst_is_out log out one.io goes one.goes.next) one.back.log in
@@ -42,20 +42,20 @@ returns-clause-home g c = λ before raised brings.
 
 pub returns-clause-later : goal.returns-clause-later
 returns-clause-later g c =
-    let one = c.install_one.ensures.one (search rules) in
+    let one = c.make_one.ensures.one (search rules) in
     let answered = one.made.within
     (subst (λ n. IsCallWithin n one.io.call) (sym c.requires.size) one.goes.within) in
     let now = g.D.CrashDisk.device c.args.disk.now in
-    let next = g.D.CrashDisk.device c.install_one.new.disk in
+    let next = g.D.CrashDisk.device c.make_one.new.disk in
     past_one now next (made_later now one.io answered.answer next answered.call)
 
 pub returns-clause-called : goal.returns-clause-called
 returns-clause-called g c = λ _.
-    let one = c.install_one.ensures.one (search rules) in
+    let one = c.make_one.ensures.one (search rules) in
     let answered = one.made.within
     (subst (λ n. IsCallWithin n one.io.call) (sym c.requires.size) one.goes.within) in
-    inst_called c.args.core.now.log one.mid.log c.install_one.new.core.log
-    (g.D.CrashDisk.device c.args.disk.now) (g.D.CrashDisk.device c.install_one.new.disk) one.io
+    inst_called c.args.core.now.log one.mid.log c.make_one.new.core.log
+    (g.D.CrashDisk.device c.args.disk.now) (g.D.CrashDisk.device c.make_one.new.disk) one.io
     answered.answer one.ok c.lawful.ensures.log (sym one.goes.may)
     (ap (λ (core : CoreState). core.log) one.goes.core)
     one.lawful.log one.goes.next answered.ok_is one.back.log

@@ -1,4 +1,4 @@
-use Rattle.std.proofs.Common.{refl, sym, subst}
+use Rattle.std.proofs.Common.{sym, subst}
 use Rattle.model.specs.Format.{format_tree}
 use Rattle.layout.specs.Stands.{geometry_of}
 use Rattle.store_promise.specs.GoodImage.{IsGoodImage}

@@ -5,7 +5,7 @@ use Rattle.std.proofs.lemmas.Bool.{eq-eqb}
 use Rattle.disk.specs.Crash.{Image}
 use Rattle.disk.specs.Device.{Device}
 use Rattle.disk.specs.declared.device.Failed.{Failed}
-use Rattle.wal_law.specs.Calls.{AgreesBeside, IsInstallerAt, home_after}
+use Rattle.wal_law.specs.Calls.{IsInstallerAt, home_after}
 use Rattle.wal_law.specs.Calls as pending
 use Rattle.wal_law.specs.Installer.{IsNextInstCall, is_inst_out, with_inst_back, with_inst_out}
 use Rattle.wal_law.specs.Io.{Io}

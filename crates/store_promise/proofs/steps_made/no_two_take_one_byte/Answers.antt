@@ -1,7 +1,7 @@
-use Rattle.std.proofs.Common.{◌≡◌, ◌∙◌, ◌⊎◌, inl, inr, ℕ, false, subst, sym, true≢false}
+use Rattle.std.proofs.Common.{◌≡◌, ◌∙◌, ◌⊎◌, inl, inr, ℕ, subst, sym, true≢false}
 use Rattle.store_promise.specs.declared.events.Wish.{Wish}
 use Rattle.store_promise.specs.declared.events.Wish.TheVariants as wish
-use Rattle.store_promise.specs.Progress.{Begun, Wished, is_loaded}
+use Rattle.store_promise.specs.Progress.{Begun, Wished}
 use Rattle.store_promise.specs.Schedule.{IsLeftFree, IsWish, Told, told_before, whole_wish, wish_of}
 use Rattle.store_promise.proofs.Told.{claim_wish_is, planned_step, wish_is}
 use Rattle.store_promise.proofs.steps_made.no_two_take_one_byte.Goals as goal
@@ -13,8 +13,7 @@ free_of : (told : Told) (worker : ℕ) (begun : Begun) (wished : Wished) (answer
 free_of told worker begun wished answer (inl held) is = subst (IsWish told worker begun wished) held is
 free_of told worker begun wished answer (inr (inr refused)) is = subst (IsWish told worker begun wished) refused is
 free_of told worker begun wished answer (inr (inl fetch)) is =
-    let both : IsLeftFree told worker wished × (is_loaded wished.block begun ≡ false) =
-    subst (IsWish told worker begun wished) fetch is in both.0
+    let absent : IsWish told worker begun wished wish.Fetch = subst (IsWish told worker begun wished) fetch is in absent.0
 
 pub returns-clause-wanted : goal.returns-clause-wanted
 returns-clause-wanted c =

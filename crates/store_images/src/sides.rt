@@ -1,0 +1,53 @@
+//! Laws on the device calls of a side, the logger's or the installer's, on an open store.
+ghost use Rattle.std.specs.Prelude.{◌≡◌, ℕ, Bool, List, Some};
+ghost use Rattle.disk.specs.Crash.{Image};
+ghost use Rattle.disk.specs.Device.{Device};
+ghost use Rattle.disk.specs.declared.block.Side.{Side};
+ghost use Rattle.log_seats.specs.Making.{IsAnswered};
+ghost use Rattle.log_seats.specs.Steps.{comes_back, goes_out};
+ghost use Rattle.model.specs.Entry.{Entry};
+ghost use Rattle.model.specs.Tree.{Tree};
+ghost use Rattle.store_images.specs.LogSide.{MayMake, MayStep, gives_back, makes, pending_of, side_with, takes};
+ghost use Rattle.store_promise.specs.OpenSince.{IsOpenSince};
+ghost use Rattle.store_promise.specs.Running.{IsLogStep, home_next};
+ghost use Rattle.txn_law.specs.Core.{CoreState};
+ghost use Rattle.txn_law.specs.Tidy.{AreTidy};
+ghost use Rattle.wal.specs.Sides.{call_is_made};
+ghost use Rattle.wal_law.specs.Calls.{Pending, idle, out};
+ghost use Rattle.wal_law.specs.Io.{Io};
+ghost use Rattle.wal_law.specs.Log.{IsLawful};
+
+/// A call of a side is taken, made and given back by three steps of a run, whatever the other side has out.
+pub fn the_calls_of_a_side_are_steps()
+    ensures taken { (of : Side) (d : Device) (old new : CoreState) (io : Io) (other : Pending)
+        → IsLawful old.log → goes_out of old io new → IsLawful new.log → AreTidy new
+        → IsLogStep (MayStep of) (side_with of d old idle other) (Some (takes of io.call))
+        (side_with of d new (out io) other) }
+    ensures made { (of : Side) (d later : Device) (core : CoreState) (io : Io) (ok : Bool) (other : Pending)
+        → IsLawful core.log → IsAnswered (call_is_made of) d io ok later
+        → IsLogStep (MayMake of) (side_with of d core (out io) other) (Some (makes of ok))
+        (side_with of later core (pending_of (Some io) (Some ok)) other) }
+    ensures given { (of : Side) (d : Device) (old new : CoreState) (io : Io) (ok : Bool) (other : Pending)
+        → IsLawful old.log → comes_back of old io ok new → IsLawful new.log → AreTidy new
+        → IsLogStep (MayStep of) (side_with of d old (pending_of (Some io) (Some ok)) other)
+        (Some (gives_back of ok)) (side_with of d new idle other) }
+{
+    store_promise::the_logger_leaves_the_store_open();
+    store_promise::the_installer_leaves_the_store_open();
+    store_promise::a_device_counts_the_calls_of_its_steps();
+    store_promise::what_was_read_is_at_home();
+}
+
+/// It leaves a store open for the entries that it was open for, over what is at home then.
+pub fn a_call_of_a_side_leaves_the_store_open()
+    ensures { (of : Side) (base : Image) (d later : Device) (old mid new : CoreState) (io : Io) (ok : Bool)
+        (boot : ℕ) (first last : Tree) (entries : List Entry)
+        → IsOpenSince base d old idle idle boot first entries last
+        → goes_out of old io mid → IsLawful mid.log → AreTidy mid
+        → IsAnswered (call_is_made of) d io ok later
+        → comes_back of mid io ok new → IsLawful new.log → AreTidy new
+        → IsOpenSince (home_next base mid.log (Some (gives_back of ok))) later new idle idle boot first entries last }
+{
+    store_promise::the_logger_leaves_the_store_open();
+    store_promise::the_installer_leaves_the_store_open();
+}
