@@ -6,4 +6,4 @@ pub mod FewClaimed
 pub mod RefusedThere
 pub mod ChangesOf
 mod Finishes
-mod NoNull
+mod NoPlan
