@@ -116,11 +116,7 @@ pub fn worker_io<L: Ledger, S: Source, T: Gate>(
 
 /// Makes the logger's device call that is out, where it wasn't made, on its port, and leaves the port's answer in
 /// the seat. It answers whether there was one.
-pub fn logger_io<G: Whole, P: Port, T: Gate>(
-    seat: &mut IoSeat<G>,
-    port: &mut P,
-    gate: &T,
-) -> bool
+pub fn logger_io<G: Whole, P: Port, T: Gate>(seat: &mut IoSeat<G>, port: &mut P, gate: &T) -> bool
     ensures made { MakesCall seat.old.caller.io seat.old.caller.made seat.new.caller.made (P.calls port.old)
         (P.calls port.new) }
     ensures was_due { IsTrue result ↔ (due seat.old.caller.io seat.old.caller.made ≡ 1) }
