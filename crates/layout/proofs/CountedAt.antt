@@ -3,6 +3,7 @@ use Rattle.std.proofs.Common.{◌≡◌, ℕ, zero, suc, ◌+◌, ◌*◌, ◌<�
 use Rattle.std.proofs.Common.{List, [], ◌∷◌, length, nat_eq, get_or, arith}
 use Rattle.std.specs.List.{list_all}
 use Rattle.std.proofs.lemmas.Bool.{eq-eqb, ne_eqb}
+use Rattle.std.proofs.lemmas.List.Folds.{list_all-append}
 use Rattle.std.proofs.lemmas.List.Sums.{sum_by-append, sum_by-cons}
 use Rattle.layout.specs.Fields.{count_of, four_at, numbers_at}
 use Rattle.layout.proofs.NumbersAt.{no_numbers, number_at, numbers-length, one_more}
@@ -37,6 +38,18 @@ none_more index number mapped next bytes is was none next_is =
     let all = counted index number bytes is in
     let zero_is : weight number ≡ 0 = ap (λ b. cond (not b) 1 0) (eq-eqb number 0 none) in
     omega (arith, all, zero_is, was, next_is)
+
+-- a test is true of all of them
+pub all_yet : (p : ℕ → Bool) (bytes : List ℕ) → list_all p (numbers_at 0 0 bytes) ≡ true
+all_yet p bytes = ap (list_all p) (no_numbers 0 bytes)
+
+pub all_more : (p : ℕ → Bool) (index number : ℕ) (bytes : List ℕ) → number ≡ four_at (4 * index) bytes
+    → list_all p (numbers_at index 0 bytes) ≡ true → p number ≡ true
+    → list_all p (numbers_at (index + 1) 0 bytes) ≡ true
+all_more p index number bytes is so_far one =
+    let at = four_at (4 * index) bytes in
+    ap (list_all p) (one_more index bytes) ∙ list_all-append p (numbers_at index 0 bytes) (at ∷ [])
+    ∙ ap (λ b. b && (p at && true)) so_far ∙ ap (λ b. b && true) (sym (ap p is) ∙ one)
 
 -- one of which a test isn't true
 fails_at : (p : ℕ → Bool) (xs : List ℕ) (i : ℕ) → i < length xs → p (get_or xs i 0) ≡ false

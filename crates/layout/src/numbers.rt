@@ -67,6 +67,8 @@ impl Numbers {
         requires { length bytes.now ≡ BLOCK_BYTES }
         ensures few { IfOk result (λ mapped. mapped ≤ INDIRECT_INDEXES) }
         ensures count { IfOk result (λ mapped. mapped ≡ count_of (numbers_at INDIRECT_INDEXES 0 bytes.now)) }
+        ensures places { IfOk result (λ mapped. list_all (is_data_block_or_none geometry.now)
+            (numbers_at INDIRECT_INDEXES 0 bytes.now) ≡ true) }
         ensures refused { IfErr result (λ fault. (fault ≡ LayoutFault.Range)
             × (list_all (is_data_block_or_none geometry.now)
             (numbers_at INDIRECT_INDEXES 0 bytes.now) ≡ false)) }

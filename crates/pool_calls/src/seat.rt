@@ -10,8 +10,8 @@ use std::sync::ledger::Share;
 
 /// The logger or the installer, with the numbers of its device calls: that of the last one that was handed out, and
 /// the share of the ledger of calls that were handed out to the side: the whole share, where who names the ledger
-/// says so. Each step names the side. Its type keeps that the calls that were made are those of the numbers from 1 on, in their order, up to
-/// the one that is out.
+/// says so. Each step names the side. Its type keeps that the calls that were made are those of the numbers from 1
+/// on, in their order, up to the one that is out.
 pub struct IoSeat<G: Whole> {
     pub(crate) caller: Caller,
     pub(crate) calls: Share<G>,

@@ -16,7 +16,7 @@ use txn::{Change, Core};
 
 /// One step of the logger or of the installer: one call of the core at most. A call that is handed out gets the next
 /// number, and is written into the book.
-#[tactic(auto, using(crate::proofs::Gone::gone_next, crate::proofs::Gone::gone_done, crate::proofs::Gone::gone_idle, crate::proofs::Gone::gone_still))]
+#[tactic(auto, using(crate::proofs::Gone::gone_next, crate::proofs::Gone::gone_done, crate::proofs::Gone::gone_idle, crate::proofs::Gone::gone_still, crate::proofs::Places::stepped))]
 pub fn step_calls<C: Change, G: Whole>(
     side: Side,
     core: &mut Core<C>,
@@ -30,6 +30,7 @@ pub fn step_calls<C: Change, G: Whole>(
     ensures counted { G.all ≡ G.parts → (book.old.total ≡ seat.old.calls.amount)
         × (book.new.total ≡ seat.new.calls.amount) }
     ensures gone { book.new.total ≡ book.old.total + gone seat.old.caller.io seat.new.caller.io }
+    ensures places { core.new.log.places ≡ core.old.log.places }
     ensures taken { seat.new.taken ≡ seat.old.taken }
 {
     let IoSeat {
@@ -54,6 +55,7 @@ pub fn step_calls<C: Change, G: Whole>(
 }
 
 /// Ends a seat: a call that is out is given back with its port's answer, or as failed where it wasn't made.
+#[tactic(auto, using(crate::proofs::Places::ended))]
 pub fn give_up<C: Change, G: Whole>(side: Side, core: &mut Core<C>, seat: IoSeat<G>)
     ensures back { HasEnded (comes_back side) core.old seat.caller.io seat.caller.made core.new }
     ensures places { core.new.log.places ≡ core.old.log.places }

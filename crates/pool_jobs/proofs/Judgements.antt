@@ -18,6 +18,7 @@ use Rattle.nfs_types.specs.declared.mount.MountCall.{MountCall}
 use Rattle.nfs_types.specs.declared.program.ProgramReply.TheVariants as program_replies
 use Rattle.rpc.specs.declared.refusal.Refusal.TheVariants.{SystemError}
 use Rattle.pool_jobs.specs.Received.{RepliesWithout}
+use Rattle.pool_jobs.specs.Spelled.{SpellsJob}
 
 is_refused : Judged → Bool
 is_refused Closed = false
@@ -41,12 +42,11 @@ called (Refused number why) xid credential call is = sym is
 called (Call number caller asked) xid credential call (inl is) = sym is
 called (Call number caller asked) xid credential call (inr is) = search
 
--- and can be spelled
+-- a call that is spelled by bytes can be spelled
 pub fits : (message : List ℕ) (xid : ℕ) (credential : Credential) (call : nfs.Call) → IsBytes message
-    → Judges (Call xid credential (Nfs call)) (judged message) → CallFits call
-fits message xid credential call bytes told =
-    let t = judged_takes message xid credential (Nfs call) bytes
-    (called (judged message) xid credential (Nfs call) told) in
+    → SpellsJob message xid credential call → CallFits call
+fits message xid credential call bytes spelled =
+    let t = judged_takes message xid credential (Nfs call) bytes spelled in
     subst ProgramCallFits t.1.call_is t.1.spelled.call_fits
 
 other : {xid number : ℕ} {why : Refusal} {credential : Credential} {call : ProgramCall}

@@ -1,5 +1,5 @@
 //! A job: a call of NFS with the connection that it came from.
-ghost use Rattle.nfs_types.specs.Fits.{CallFits};
+ghost use Rattle.nfs_types.specs.Fits.{AreBytes};
 ghost use Rattle.pool_jobs.specs.Spelled.{SpellsJob};
 
 use bytes::Bytes;
@@ -7,7 +7,7 @@ use nfs_types::{Call, Credential};
 use std::snapshot::Snapshot;
 
 /// What a connection hands to a worker: the connection's key and number, the call's number, who calls and what.
-/// Its type keeps that these are what a record spells, and that the call can be spelled.
+/// Its type keeps that these are what a record of bytes spells.
 #[derive(Drop)]
 pub struct Job {
     pub key: usize,
@@ -17,15 +17,17 @@ pub struct Job {
     pub call: Call,
     pub(crate) message: Snapshot<Bytes>,
     pub ghost spelled: { SpellsJob message.value xid credential call },
-    pub ghost fits: { CallFits call },
+    pub ghost of_bytes: { AreBytes message.value },
 }
 
 impl Job {
     ghost use Rattle.std.specs.Prelude.{◌≡◌};
+    ghost use Rattle.nfs_types.specs.Fits.{CallFits};
 
-    /// Who calls, and what.
+    /// Who calls, and what: a call that can be spelled.
     pub fn into_parts(self) -> (Credential, Call)
-        ensures { result ≡ (self.credential, self.call) }
+        ensures parts { result ≡ (self.credential, self.call) }
+        ensures fits { CallFits result.1 }
     {
         let Job {
             key: _,

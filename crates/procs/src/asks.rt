@@ -8,6 +8,13 @@ ghost use Rattle.txn.specs.Wishes.{IsWhole};
 ghost use Rattle.inode.specs.Snap.{is_claimed, is_seen};
 ghost use Rattle.procs.specs.Asks.{Asks, Claims, WereAskedOnce, WereClaimedOnce};
 ghost use Rattle.procs.specs.MostAsked.{most_asked, most_claimed};
+ghost use Rattle.disk.specs.Crash.{Image};
+ghost use Rattle.nfs_types.specs.declared.reply.Reply.TheVariants.{Null};
+ghost use Rattle.model.specs.Tree.{Tree};
+ghost use Rattle.layout.specs.Stands.{Stands};
+ghost use Rattle.inode.specs.Read.{AreAsRead};
+ghost use Rattle.procs.specs.Finished.{IsFinished};
+ghost use Rattle.procs.specs.Outcome.{Outcome};
 
 /// Objects stay asked for, each address once, when one more is read that may be asked for and that is new.
 pub fn what_is_read_was_asked_for()
@@ -37,4 +44,11 @@ pub fn what_is_claimed_was_asked_for()
 pub fn a_plan_claims_few()
     ensures { (g : Geometry) (claims : List BlockNo) → WereClaimedOnce g claims
         → length claims ≤ most_claimed g.blocks }
+{}
+
+/// A reply that no step has is no finished plan's: as that to NULL, which begins no transaction.
+#[tactic(auto, using(crate::proofs::NoNull::no_null))]
+pub fn a_reply_that_no_step_has_is_no_plan()
+    ensures { (done : Outcome) (finished : IsFinished done) (blocks : Image) (tree : Tree)
+        → Stands finished.snap.geometry blocks tree → AreAsRead blocks done.read → done.reply ≡ Null → ⊥ }
 {}

@@ -13,8 +13,8 @@ mod telling;
 mod work;
 
 pub use asks::{
-    a_plan_asks_for_few, a_plan_claims_few, what_is_claimed_was_asked_for,
-    what_is_read_was_asked_for,
+    a_plan_asks_for_few, a_plan_claims_few, a_reply_that_no_step_has_is_no_plan,
+    what_is_claimed_was_asked_for, what_is_read_was_asked_for,
 };
 pub use done::Done;
 pub use inode::Snap;

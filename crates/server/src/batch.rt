@@ -1,7 +1,7 @@
 //! Calls of one connection that are driven in a row.
 use crate::sizes::CALLS_IN_A_ROW;
 use pool::{Answer, Job};
-use server_parts::Parked;
+use server_parts::{Parked, SeatKey};
 use std::alloc::{AllocError, Global};
 use std::collections::VecDeque;
 
@@ -12,8 +12,8 @@ use std::collections::VecDeque;
 pub struct Batch {
     pub jobs: VecDeque<Job>,
     pub answers: Vec<Answer>,
-    pub waiting: Vec<Parked>,
-    pub held_up: Option<usize>,
+    pub waiting: VecDeque<Parked>,
+    pub held_up: Option<SeatKey>,
 }
 
 impl Batch {
@@ -22,7 +22,7 @@ impl Batch {
         Ok(Batch {
             jobs: VecDeque::with_capacity(alloc, CALLS_IN_A_ROW)?,
             answers: Vec::with_capacity(alloc, CALLS_IN_A_ROW)?,
-            waiting: Vec::with_capacity(alloc, CALLS_IN_A_ROW)?,
+            waiting: VecDeque::with_capacity(alloc, CALLS_IN_A_ROW)?,
             held_up: None,
         })
     }

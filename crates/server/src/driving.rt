@@ -6,7 +6,7 @@ use crate::sizes::{
 };
 use disk::Source;
 use pool::{Answer, Job, Look, NoGate, Seat, Told, Turn, Whole, worker_io};
-use server_parts::Parked;
+use server_parts::{Parked, SeatKey};
 use std::sync::Wait;
 use std::sync::ledger::Ledger;
 use std::thread;
@@ -38,22 +38,22 @@ pub struct Row {
 pub fn answer_in<L: Ledger, G: Whole, I: Whole, P, S: Source, R: Wait + Clock>(
     rt: &R,
     hall: &Hall<L, G, I, P, S>,
-    number: usize,
+    key: SeatKey,
     job: Job,
 ) -> Option<Answer> {
-    hand(rt, hall, number, job);
-    see_through(rt, hall, number)
+    hand(rt, hall, &key, job);
+    see_through(rt, hall, key)
 }
 
 // Hands a seat a job, at the moment of the call.
 fn hand<L: Ledger, G: Whole, I: Whole, P, S, R: Wait + Clock>(
     rt: &R,
     hall: &Hall<L, G, I, P, S>,
-    number: usize,
+    key: &SeatKey,
     job: Job,
 ) {
     let moment = hall.signs.moment(rt);
-    let Some(seat) = hall.seats.get(number) else {
+    let Some(seat) = hall.seats.get(key.number()) else {
         return;
     };
     let _ = seat.lock(rt).hand(job, moment);
@@ -93,37 +93,33 @@ fn drive_in_a_row<L: Ledger, G: Whole, I: Whole, P, S, R: Wait + Clock>(
         if batch.jobs.is_empty() {
             break;
         }
-        let Some(number) = seat_for_next(rt, hall, free) else {
+        let Some(key) = seat_for_next(rt, hall, free.take()) else {
             break;
         };
         let Some(job) = batch.jobs.pop_front() else {
-            free = Some(number);
+            free = Some(key);
             break;
         };
-        free = None;
-        hand(rt, hall, number, job);
-        let (first, made) = first_steps(rt, hall, number);
+        hand(rt, hall, &key, job);
+        let (first, made) = first_steps(rt, hall, &key);
         committed = committed || made;
         match first {
             First::Answered(answer) => {
-                free = Some(number);
+                free = Some(key);
                 is_well = batch.answers.push(answer).is_ok() && is_well;
             }
             First::Waits(place) => {
-                let parked = Parked {
-                    place,
-                    seat: number,
-                };
-                is_well = batch.waiting.push(parked).is_ok() && is_well;
+                let parked = Parked { place, seat: key };
+                is_well = batch.waiting.push_back(parked).is_ok() && is_well;
             }
             First::HeldUp => {
-                batch.held_up = Some(number);
+                batch.held_up = Some(key);
                 break;
             }
         }
     }
-    if let Some(number) = free {
-        hall.signs.free.put(rt, number);
+    if let Some(key) = free {
+        hall.signs.free.put(rt, key);
     }
     let look = if committed {
         Some(hall.shared.look(rt))
@@ -137,10 +133,10 @@ fn drive_in_a_row<L: Ledger, G: Whole, I: Whole, P, S, R: Wait + Clock>(
 fn seat_for_next<L: Ledger, G: Whole, I: Whole, P, S, R: Wait>(
     rt: &R,
     hall: &Hall<L, G, I, P, S>,
-    free: Option<usize>,
-) -> Option<usize> {
+    free: Option<SeatKey>,
+) -> Option<SeatKey> {
     match free {
-        Some(number) => Some(number),
+        Some(key) => Some(key),
         None => hall.signs.free.try_take(rt),
     }
 }
@@ -149,25 +145,24 @@ fn seat_for_next<L: Ledger, G: Whole, I: Whole, P, S, R: Wait>(
 pub fn see_through<L: Ledger, G: Whole, I: Whole, P, S: Source, R: Wait + Clock>(
     rt: &R,
     hall: &Hall<L, G, I, P, S>,
-    number: usize,
+    key: SeatKey,
 ) -> Option<Answer> {
+    let mut key = key;
     for _ in rt.forever() {
-        match go_on(rt, hall, number) {
+        match go_on(rt, hall, &key) {
             Driven::Answered(answer) => {
-                hall.signs.free.put(rt, number);
+                hall.signs.free.put(rt, key);
                 return Some(answer);
             }
             Driven::Waits(place) => {
-                let parked = Parked {
-                    place,
-                    seat: number,
-                };
-                if hall.signs.parking.park(rt, parked) {
-                    return None;
+                let parked = Parked { place, seat: key };
+                match hall.signs.parking.park(rt, parked) {
+                    Ok(()) => return None,
+                    Err(back) => key = back,
                 }
             }
             Driven::Empty => {
-                hall.signs.free.put(rt, number);
+                hall.signs.free.put(rt, key);
                 return None;
             }
         }
@@ -179,16 +174,16 @@ pub fn see_through<L: Ledger, G: Whole, I: Whole, P, S: Source, R: Wait + Clock>
 fn go_on<L: Ledger, G: Whole, I: Whole, P, S: Source, R: Wait + Clock>(
     rt: &R,
     hall: &Hall<L, G, I, P, S>,
-    number: usize,
+    key: &SeatKey,
 ) -> Driven {
-    let Some(seat) = hall.seats.get(number) else {
+    let Some(seat) = hall.seats.get(key.number()) else {
         return Driven::Empty;
     };
     let mut seat = seat.lock(rt);
     let mut kept_off = 0;
     for _ in rt.forever() {
         if seat.is_due() {
-            read(rt, hall, number, &mut *seat);
+            read(rt, hall, key.number(), &mut *seat);
         }
         let rounds = hall.signs.rounds.count();
         let (made, look) = steps(rt, hall, &mut *seat);
@@ -236,9 +231,9 @@ enum First {
 fn first_steps<L: Ledger, G: Whole, I: Whole, P, S, R: Wait>(
     rt: &R,
     hall: &Hall<L, G, I, P, S>,
-    number: usize,
+    key: &SeatKey,
 ) -> (First, bool) {
-    let Some(seat) = hall.seats.get(number) else {
+    let Some(seat) = hall.seats.get(key.number()) else {
         return (First::HeldUp, false);
     };
     let mut seat = seat.lock(rt);

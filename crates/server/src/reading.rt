@@ -10,6 +10,7 @@ use bytes::Bytes;
 use disk::Source;
 use pool::{Answer, Received, Whole, receive};
 use rpc::Records;
+use server_parts::SeatKey;
 use std::alloc::Global;
 use std::io::{ErrorKind, Read};
 use std::sync::Wait;
@@ -224,20 +225,22 @@ fn answer_row<L: Ledger, G: Whole, I: Whole, P, S: Source, R: Wait + Clock>(
 ) -> bool {
     let row = drive_batch(rt, hall, batch);
     let mut is_well = row.is_well;
-    for parked in batch.waiting.as_slice() {
+    for _ in 0..batch.waiting.len() {
+        let Some(parked) = batch.waiting.pop_front() else {
+            break;
+        };
         desk.connection.outgoing.hand_on(rt);
-        if !hall.signs.parking.park(rt, *parked) {
-            is_well = drive_on(rt, hall, desk, parked.seat, replies) && is_well;
+        if let Err(key) = hall.signs.parking.park(rt, parked) {
+            is_well = drive_on(rt, hall, desk, key, replies) && is_well;
         }
     }
-    batch.waiting.clear();
     for answer in batch.answers.as_slice() {
         is_well = put(hall.alloc, answer, replies) && is_well;
     }
     batch.answers.clear();
-    if let Some(seat) = batch.held_up.take() {
+    if let Some(key) = batch.held_up.take() {
         desk.connection.outgoing.hand_on(rt);
-        is_well = drive_on(rt, hall, desk, seat, replies) && is_well;
+        is_well = drive_on(rt, hall, desk, key, replies) && is_well;
     }
     if row.is_crowded {
         wait_while_crowded(rt, hall);
@@ -260,10 +263,10 @@ fn drive_on<L: Ledger, G: Whole, I: Whole, P, S: Source, R: Wait + Clock>(
     rt: &R,
     hall: &Hall<L, G, I, P, S>,
     desk: &Desk<'_>,
-    seat: usize,
+    key: SeatKey,
     replies: &mut Vec<u8>,
 ) -> bool {
-    match see_through(rt, hall, seat) {
+    match see_through(rt, hall, key) {
         None => true,
         Some(answer) => {
             desk.connection.outgoing.take_back(rt);

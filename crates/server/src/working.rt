@@ -16,8 +16,8 @@ pub fn work_all<L: Ledger, G: Whole, I: Whole, P, S: Source, R: Wait + Clock>(
         let Some(job) = hall.signs.jobs.take(rt) else {
             break;
         };
-        let seat = hall.signs.free.take(rt);
-        if let Some(answer) = answer_in(rt, hall, seat, job) {
+        let key = hall.signs.free.take(rt);
+        if let Some(answer) = answer_in(rt, hall, key, job) {
             hall.signs.deliver(rt, hall.alloc, &answer);
         }
     }
@@ -29,10 +29,10 @@ pub fn finish_all<L: Ledger, G: Whole, I: Whole, P, S: Source, R: Wait + Clock>(
     hall: &Hall<L, G, I, P, S>,
 ) {
     for _ in rt.forever() {
-        let Some(seat) = hall.signs.parking.take(rt) else {
+        let Some(key) = hall.signs.parking.take(rt) else {
             break;
         };
-        if let Some(answer) = see_through(rt, hall, seat) {
+        if let Some(answer) = see_through(rt, hall, key) {
             hall.signs.deliver(rt, hall.alloc, &answer);
         }
     }

@@ -1,3 +1,4 @@
+pub mod Keys
 pub mod Moments
 pub mod Outbox
 pub mod Parked

@@ -1,12 +1,12 @@
 //! The seats that have no call, shared by the threads that take and free them.
-use crate::FreeNumbers;
+use crate::{Rack, SeatKey};
 use std::alloc::{AllocError, Global};
 use std::sync::{Condvar, Mutex, Wait};
 
 /// The seats that have no call, and the threads that wait for one.
 #[derive(Drop)]
 pub struct FreeSeats {
-    free: Mutex<FreeNumbers>,
+    rack: Mutex<Rack>,
     changed: Condvar,
 }
 
@@ -14,40 +14,40 @@ impl FreeSeats {
     /// All of so many seats are free.
     pub fn new(alloc: Global, count: usize) -> Result<FreeSeats, AllocError> {
         Ok(FreeSeats {
-            free: Mutex::new(FreeNumbers::new(alloc, count)?),
+            rack: Mutex::new(Rack::new(alloc, count)?),
             changed: Condvar::new(),
         })
     }
 
     /// Takes a seat, where one is free that no other thread waits for.
-    pub fn try_take<R: Wait>(&self, rt: &R) -> Option<usize> {
-        self.free.lock(rt).try_take()
+    pub fn try_take<R: Wait>(&self, rt: &R) -> Option<SeatKey> {
+        self.rack.lock(rt).try_take()
     }
 
     /// Waits for a seat, and takes it.
-    pub fn take<R: Wait>(&self, rt: &R) -> usize {
-        let mut free = self.free.lock(rt);
-        free.wait();
+    pub fn take<R: Wait>(&self, rt: &R) -> SeatKey {
+        let mut rack = self.rack.lock(rt);
+        rack.wait();
         for _ in rt.forever() {
-            if let Some(number) = free.take() {
-                return number;
+            if let Some(key) = rack.take() {
+                return key;
             }
-            free = self.changed.wait(rt, free);
+            rack = self.changed.wait(rt, rack);
         }
         unreachable!()
     }
 
     /// Gives a seat back.
-    pub fn put<R: Wait>(&self, rt: &R, number: usize) {
-        let mut free = self.free.lock(rt);
-        free.give(number);
+    pub fn put<R: Wait>(&self, rt: &R, key: SeatKey) {
+        let mut rack = self.rack.lock(rt);
+        rack.give(key);
         self.changed.notify_one();
     }
 
     /// Waits until all are free.
     pub fn wait_for_all<R: Wait>(&self, rt: &R) {
-        let _free = self
+        let _rack = self
             .changed
-            .wait_while(rt, self.free.lock(rt), |f| !f.are_all_free());
+            .wait_while(rt, self.rack.lock(rt), |r| !r.is_whole());
     }
 }

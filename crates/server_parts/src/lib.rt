@@ -3,24 +3,24 @@
 #![tactic(auto)]
 
 mod bell;
-mod free_numbers;
 mod free_seats;
 mod moments;
 mod outbox;
 mod outgoing;
 mod parking;
+mod rack;
 mod replies;
 mod rounds;
 mod unheard;
 mod waiting;
 
 pub use bell::Bell;
-pub use free_numbers::FreeNumbers;
 pub use free_seats::FreeSeats;
 pub use moments::{Moments, moment_of};
 pub use outbox::{Offer, Outbox};
 pub use outgoing::Outgoing;
 pub use parking::Parking;
+pub use rack::{Rack, SeatKey};
 pub use replies::Replies;
 pub use rounds::Rounds;
 pub use unheard::{Rung, Unheard};

@@ -1,6 +1,6 @@
 //! Seats whose changes wait to be settled, shared by the threads that park, settle and answer them. They cost no
 //! thread.
-use crate::{Next, Parked, Waiting};
+use crate::{Next, Parked, SeatKey, Waiting};
 use std::alloc::{AllocError, Global};
 use std::sync::{Condvar, Mutex, Wait};
 
@@ -20,10 +20,10 @@ impl Parking {
         })
     }
 
-    /// Parks a seat, and answers whether it did. One whose place is settled goes on at once, and so does one for
-    /// which there is no memory.
-    pub fn park<R: Wait>(&self, rt: &R, seat: Parked) -> bool {
-        matches!(self.waiting.lock(rt).park(seat), Ok(true))
+    /// Parks a seat. Its key comes back where the seat goes on at once: where its place is settled, or there is no
+    /// memory for it.
+    pub fn park<R: Wait>(&self, rt: &R, parked: Parked) -> Result<(), SeatKey> {
+        self.waiting.lock(rt).park(parked)
     }
 
     /// Tells up to which place all is settled.
@@ -43,11 +43,11 @@ impl Parking {
 
     /// Waits for a seat whose place is settled, and takes it out. None once the end is told and no such seat is
     /// parked. One thread waits so.
-    pub fn take<R: Wait>(&self, rt: &R) -> Option<usize> {
+    pub fn take<R: Wait>(&self, rt: &R) -> Option<SeatKey> {
         let mut waiting = self.waiting.lock(rt);
         for _ in rt.forever() {
             match waiting.next() {
-                Next::Answer(seat) => return Some(seat),
+                Next::Answer(key) => return Some(key),
                 Next::End => return None,
                 Next::Wait => waiting = self.changed.wait(rt, waiting),
             }

@@ -1,22 +1,24 @@
 //! Seats whose changes wait to be settled.
-ghost use Rattle.std.specs.Prelude.{◌≡◌, ◌↔◌, ◌<◌, ◌≤◌, ◌++◌, ◌∷◌, [], ℕ, length, true, false, max, IsTrue, IsFalse, OnErr, IfOk, IfSome, IfNone};
+ghost use Rattle.std.specs.Prelude.{◌≡◌, ◌↔◌, ◌⊎◌, ◌<◌, ◌≤◌, ◌++◌, ◌∷◌, [], length, true, false, max, IsTrue, OnOk, IfOk, IfErr, IfSome, IfNone};
 ghost use Rattle.std.specs.Vec.{vec_capacity};
 ghost use Rattle.server_parts.specs.Parked.{AllWait, IsFirstSettled};
+ghost use Rattle.server_parts.specs.declared.rack.SeatKey.{SeatKey};
 
+use crate::SeatKey;
 use std::alloc::{AllocError, Global};
 
 /// A seat that waits until a place is settled.
-#[derive(Clone, Copy, Debug, PartialEq, Eq)]
+#[derive(Debug, Drop)]
 pub struct Parked {
     pub place: u64,
-    pub seat: usize,
+    pub seat: SeatKey,
 }
 
 /// What the thread does next that answers settled changes.
-#[derive(Clone, Copy, Debug, PartialEq, Eq)]
+#[derive(Debug, Drop)]
 pub enum Next {
     /// It answers the change of this seat, which is parked no more.
-    Answer(usize),
+    Answer(SeatKey),
     /// It waits: of each parked seat the place isn't settled.
     Wait,
     /// It ends, since besides no seat will be parked any more.
@@ -55,23 +57,24 @@ impl Waiting {
         self.parked.is_empty()
     }
 
-    /// Parks a seat, and answers whether it did: one whose place is settled goes on at once.
-    pub fn park(&mut self, seat: Parked) -> Result<bool, AllocError>
+    /// Parks a seat. Its key comes back where the seat goes on at once: where its place is settled, or memory is refused
+    /// for it.
+    pub fn park(&mut self, parked: Parked) -> Result<(), SeatKey>
         ensures settled { self.new.settled ≡ self.old.settled }
-        ensures parks { IfOk result (λ parked. IsTrue parked → (self.old.settled < seat.place)
-            × (self.new.parked.items ≡ self.old.parked.items ++ seat ∷ [])) }
-        ensures goes_on { IfOk result (λ parked. IsFalse parked → (seat.place ≤ self.old.settled)
-            × (self.new.parked.items ≡ self.old.parked.items)) }
-        ensures kept { OnErr result (self.new.parked.items ≡ self.old.parked.items) }
-        ensures full { OnErr result (vec_capacity self.old.parked ≤ length self.old.parked.items) }
+        ensures parks { OnOk result ((self.old.settled < parked.place)
+            × (self.new.parked.items ≡ self.old.parked.items ++ parked ∷ [])) }
+        ensures goes_on { IfErr result (λ key. (key ≡ parked.seat) × (self.new.parked.items ≡ self.old.parked.items)
+            × ((parked.place ≤ self.old.settled) ⊎ (vec_capacity self.old.parked ≤ length self.old.parked.items))) }
         ensures ended { self.new.ended ≡ self.old.ended }
         ensures room { vec_capacity self.old.parked ≤ vec_capacity self.new.parked }
     {
-        if seat.place <= self.settled {
-            return Ok(false);
+        if parked.place <= self.settled {
+            return Err(parked.seat);
         }
-        self.parked.push(seat)?;
-        Ok(true)
+        match self.parked.push(parked) {
+            Ok(()) => Ok(()),
+            Err(failed) => Err(failed.value.seat),
+        }
     }
 
     /// Tells up to which place all is settled. What was told before stays told.
@@ -89,7 +92,7 @@ impl Waiting {
     }
 
     /// Takes out the first seat whose place is settled, if one is. Each other stays.
-    pub fn take(&mut self) -> Option<usize>
+    pub fn take(&mut self) -> Option<SeatKey>
         ensures settled { self.new.settled ≡ self.old.settled }
         ensures ended { self.new.ended ≡ self.old.ended }
         ensures room { vec_capacity self.old.parked ≤ vec_capacity self.new.parked }
@@ -108,7 +111,7 @@ impl Waiting {
 
     /// What comes next: the seat that is taken out is answered, and the end comes only once none is left to answer.
     pub fn next(&mut self) -> Next
-        ensures answers { (seat : ℕ) → result ≡ Next.Answer seat
+        ensures answers { (seat : SeatKey) → result ≡ Next.Answer seat
             → IsFirstSettled self.old.settled self.old.parked.items seat self.new.parked.items }
         ensures waits { result ≡ Next.Wait → (self.old.ended ≡ false)
             × AllWait self.old.settled self.old.parked.items × (self.new.parked ≡ self.old.parked) }
@@ -119,7 +122,7 @@ impl Waiting {
         ensures room { vec_capacity self.old.parked ≤ vec_capacity self.new.parked }
     {
         match self.take() {
-            Some(seat) => Next::Answer(seat),
+            Some(key) => Next::Answer(key),
             None if self.ended => Next::End,
             None => Next::Wait,
         }

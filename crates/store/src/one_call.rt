@@ -27,11 +27,11 @@ use store_workers::Worker;
 
 /// Runs a call to its answer. Where the answer waits for its place everything is settled before; where the
 /// log is full, too, and so it is where more than MOST_KEPT_COMMITS commits are kept then, since that brings
-/// home what is logged. A call that isn't served is answered NOTSUPP, and NULL its reply; neither begins a
-/// transaction. The call can be spelled, and comes at a moment of less than a second of nanoseconds. Where the
-/// device keeps its model, a store that is open with some entries is open with the same then, or with the
-/// call's besides, whose reply is answered; else the answer says why there is none. Each stop on the way leaves
-/// the files after a beginning of these entries, in which is each place that was settled before.
+/// home what is logged. NULL is answered without a transaction, and each other call begins one. The call can be
+/// spelled, and comes at a moment of less than a second of nanoseconds. Where the device keeps its model, a store
+/// that is open with some entries is open with the same then, or with the call's besides, whose reply is
+/// answered; else the answer says why there is none. Each stop on the way leaves the files after a beginning of
+/// these entries, in which is each place that was settled before.
 #[tactic(auto, using(crate::proofs::Driven::starts, crate::proofs::DrivenAlone::starts_alone))]
 pub fn procedure<D: CrashDisk>(
     alloc: Global,

@@ -1,4 +1,4 @@
-pub mod Mapped
+pub mod ByParts
 pub mod Counted
 pub mod Neat
 pub mod Logged
@@ -9,3 +9,4 @@ pub mod LoneTransaction
 pub mod OtherSteps
 pub mod OwnChange
 pub mod Fewer
+pub mod Sides

@@ -1,3 +1,5 @@
+pub mod Answering
+pub mod Receipts
 pub mod Outcomes
 pub mod Exactly
 pub mod Source
@@ -5,6 +7,7 @@ pub mod Claimed
 pub mod Pinned
 pub mod Neat
 pub mod Refreshed
+pub mod Sides
 -- What the contracts here cite, for the crates above.
 pub use Rattle.objects.specs.Object
 pub use Rattle.txn_law.specs.Group

@@ -8,19 +8,17 @@ ghost use Rattle.wal_law.specs.Grows.{IsWholeChange};
 ghost use Rattle.wal_law.specs.Log.{settled_place, tail_count, added_blocks, IsHomeOn};
 ghost use Rattle.wal_law.specs.Log.{IsLawful};
 ghost use Rattle.txn_law.specs.Group.{blocks_of};
-ghost use Rattle.wal_law.specs.Calls.{LogCallGoesOut, LogCallComesBack, InstCallGoesOut, InstCallComesBack};
+ghost use Rattle.wal.specs.Sides.{IsNextCall, call_comes_back, call_goes_out, is_out, may_call, with_back};
 ghost use Rattle.wal_law.specs.Io.{IsCallWithin};
-ghost use Rattle.wal_law.specs.Logger.{IsNextLogCall, may_log, is_log_out, with_log_back};
-ghost use Rattle.wal_law.specs.Installer.{IsNextInstCall, may_install, is_inst_out};
-ghost use Rattle.wal_law.specs.Installer.{with_inst_back};
-ghost use Rattle.txn_law.specs.Core.{IsOut, with_begun, with_log_call, with_inst_call, without, ended, installed};
+ghost use Rattle.txn_law.specs.Core.{IsOut, with_begun, without, ended};
+ghost use Rattle.txn.specs.Sides.{LetsGo, counted, with_call};
 ghost use Rattle.txn_law.specs.Wishes.{IsInside};
 ghost use Rattle.objects.specs.declared.present.Present.{Present};
 
 use crate::outcomes::BeginFault;
 use crate::records::{Record, forget, unpin_holds};
 use crate::{Change, Object, Stable, Tx};
-use disk::BlockNo;
+use disk::{BlockNo, Side};
 use groups::blocks_of_objects;
 use http_server::Log;
 use limits::FIRST_HOME_BLOCK;
@@ -29,7 +27,7 @@ use objects::{Addr, Residency};
 use std::alloc::Global;
 use std::collections::VecDeque;
 use std::marker::Model;
-use wal::{InstIo, LogIo, Seq, Wal};
+use wal::{Seq, SideIo, Wal};
 
 /// What a core has. Its type keeps that each block is pinned once for each hold of a part of it and once for each
 /// object that a kept record read in it, and that no commit is kept that is installed.
@@ -54,8 +52,7 @@ pub(crate) struct State<C: Change> {
 }
 
 impl<C: Change> Model for State<C> {
-    ghost use Rattle.std.specs.Prelude.{map, length};
-    ghost use Rattle.txn_law.specs.Commit.{footprint};
+    ghost use Rattle.std.specs.Prelude.{length};
     ghost use Rattle.txn_law.specs.Core.{CoreState};
 
     ghost Value = { CoreState };
@@ -67,7 +64,7 @@ impl<C: Change> Model for State<C> {
       out = c.out.items;
       holds = c.holds;
       present = c.present.blocks;
-      records = map (λ r. footprint r.place.0 (C.planned r.change)) c.records.items;
+      records = c.records.items;
       boot = c.boot;
       log_calls = length c.log_calls.items;
       inst_calls = length c.inst_calls.items;
@@ -75,8 +72,7 @@ impl<C: Change> Model for State<C> {
 
     ghost use Rattle.txn.specs.Neat.{IsNeat};
 
-    ghost invariant = { λ c. IsNeat c.log c.holds
-        (map (λ r. footprint r.place.0 (C.planned r.change)) c.records.items) c.present };
+    ghost invariant = { λ c. IsNeat c.log c.holds c.records.items c.present };
 }
 
 impl<C: Change> State<C> {
@@ -249,59 +245,40 @@ impl<C: Change> State<C> {
         self.log.broken()
     }
 
-    /// The log's next device call, if there is one and none is out.
-    pub(crate) fn log_next(&mut self) -> Option<LogIo>
-        ensures causes { is_some result ≡ may_log self.old.log }
-        ensures some { IsSome result → self.new ≡ with_log_call self.old }
+    /// The next device call of a side, if there is one and none is out.
+    pub(crate) fn next(&mut self, side: Side) -> Option<SideIo>
+        ensures causes { is_some result ≡ may_call side self.old.log }
+        ensures some { IsSome result → self.new ≡ with_call side self.old }
         ensures none { IsNone result → self.new ≡ self.old }
         ensures within { IfSome result (λ io. IsCallWithin self.new.log.blocks io.call) }
-        ensures call { IfSome result (IsNextLogCall self.new.log) }
-        ensures law { IfSome result (λ io. LogCallGoesOut self.old.log io self.new.log) }
+        ensures call { IfSome result (IsNextCall side self.new.log) }
+        ensures law { IfSome result (λ io. call_goes_out side self.old.log io self.new.log) }
     {
-        let io = self.log.log_next();
-        if io.is_some() {
-            self.log_calls = self.log_calls.and(&(), &());
-        }
-        io
+        let io = self.log.next(side)?;
+        self.count(side);
+        Some(io)
     }
 
-    /// Gives the log's device call back, with whether it was answered Ok.
-    pub(crate) fn log_done(&mut self, io: LogIo, ok: bool)
-        ensures log { self.new.log ≡ (if is_log_out self.old.log io then with_log_back self.old.log ok
+    // Counts a call of a side that was handed out.
+    fn count(&mut self, side: Side)
+        ensures { self.new ≡ counted side self.old }
+    {
+        match side {
+            Side::Log => self.log_calls = self.log_calls.and(&(), &()),
+            Side::Home => self.inst_calls = self.inst_calls.and(&(), &()),
+        }
+    }
+
+    /// Gives a device call of a side back, with whether it was answered Ok.
+    pub(crate) fn done(&mut self, side: Side, io: SideIo, ok: bool)
+        ensures log { self.new.log ≡ (if is_out side self.old.log io then with_back side self.old.log ok
             else self.old.log) }
         ensures blocks { self.new.log.blocks ≡ self.old.log.blocks }
-        ensures others { self.new ≡ record self.old { log = self.new.log } }
-        ensures law { LogCallComesBack self.old.log io ok self.new.log }
-    {
-        self.log.log_done(io, ok);
-    }
-
-    /// The installer's next device call, if there is one and none is out.
-    pub(crate) fn inst_next(&mut self) -> Option<InstIo>
-        ensures causes { is_some result ≡ may_install self.old.log }
-        ensures some { IsSome result → self.new ≡ with_inst_call self.old }
-        ensures none { IsNone result → self.new ≡ self.old }
-        ensures within { IfSome result (λ io. IsCallWithin self.new.log.blocks io.call) }
-        ensures call { IfSome result (IsNextInstCall self.new.log) }
-        ensures law { IfSome result (λ io. InstCallGoesOut self.old.log io self.new.log) }
-    {
-        let io = self.log.inst_next();
-        if io.is_some() {
-            self.inst_calls = self.inst_calls.and(&(), &());
-        }
-        io
-    }
-
-    /// Gives the installer's device call back, with whether it was answered Ok.
-    pub(crate) fn inst_done(&mut self, io: InstIo, ok: bool)
-        ensures log { self.new.log ≡ (if is_inst_out self.old.log io then with_inst_back self.old.log ok
-            else self.old.log) }
-        ensures blocks { self.new.log.blocks ≡ self.old.log.blocks }
-        ensures others { (spare : Present → Bool) × (self.new ≡ installed spare self.old self.new.log) }
-        ensures law { InstCallComesBack self.old.log io ok self.new.log }
+        ensures others { LetsGo side self.old self.new }
+        ensures law { call_comes_back side self.old.log io ok self.new.log }
     {
         let before = self.log.installed();
-        self.log.inst_done(io, ok);
+        self.log.done(side, io, ok);
         let installed = self.log.installed();
         if is_at_most(installed, before) {
             return;

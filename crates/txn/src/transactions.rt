@@ -8,6 +8,7 @@ ghost use Rattle.wal_law.specs.Calls.{LogCallGoesOut, LogCallComesBack, InstCall
 ghost use Rattle.wal_law.specs.Calls.{AgreesBeside, Pending, home_after};
 ghost use Rattle.disk.specs.Device.{Device, current, newest as newest_content};
 ghost use Rattle.disk.specs.Crash.{Image};
+ghost use Rattle.wal.specs.Sides.{IsNextCall, call_comes_back, call_goes_out, is_out, may_call, with_back};
 ghost use Rattle.wal_law.specs.Io.{IsCallWithin};
 ghost use Rattle.wal_law.specs.Logger.{IsNextLogCall, may_log, is_log_out, with_log_back};
 ghost use Rattle.wal_law.specs.Installer.{IsNextInstCall, may_install, is_inst_out};
@@ -20,18 +21,20 @@ ghost use Rattle.txn_law.specs.HomeRead.{IsReadable, HasContents};
 ghost use Rattle.txn_law.specs.Leaves.{Leaves, HasFetched, taken_by, is_fetching, in_memory, but_by};
 ghost use Rattle.txn_law.specs.Leaves.{without_fetch};
 ghost use Rattle.txn_law.specs.Wishes.{IsWhole};
-ghost use Rattle.txn.specs.Outcomes.{IsWanted, IsWithin, IsClaimed, IsCommit, IsSetBy};
+ghost use Rattle.txn.specs.Answering.{OfSome};
+ghost use Rattle.txn.specs.Sides.{CoreBack, LeavesBack, base_back, with_call};
+ghost use Rattle.txn.specs.Outcomes.{IsWanted, IsWithin, IsClaimed, IsCommit, IsGiven, IsSetBy};
 
 mod ending;
 mod places;
 
 use crate::state::State;
 use crate::{BeginFault, Change, Claim, Commit, FetchIo, Object, Stable, Tx, Want};
-use disk::BlockNo;
+use disk::{BlockNo, Side};
 use objects::{Addr, Mode};
 use std::alloc::Global;
 use std::marker::Model;
-use wal::{InstIo, LogIo, Seq, Wal};
+use wal::{InstIo, LogIo, Seq, SideIo, Wal};
 
 /// The transactional core of a store, for changes of one kind. It makes no device call: it hands them out.
 #[derive(Drop)]
@@ -47,8 +50,10 @@ impl<C: Change> Model for Core<C> {
     ghost view = { λ c. c.state };
 
     ghost use Rattle.txn_law.specs.CoreLaw.{IsLawfulCore};
+    ghost use Rattle.txn.specs.Answering.{OfSome};
 
-    ghost invariant = { λ c. IsLawfulCore C.is_plan c.state × C.are_counts c.state.log.blocks c.state.inodes };
+    ghost invariant = { λ c. IsLawfulCore (OfSome C.is_plan) c.state
+        × C.are_counts c.state.log.blocks c.state.inodes };
 }
 
 impl<C: Change> Core<C> {
@@ -80,7 +85,7 @@ impl<C: Change> Core<C> {
     /// What is true of every core: its log is lawful, what transactions have taken and what is in memory is
     /// tidy, there are blocks that may be what is at home, and each commit that is kept is a plan's.
     pub fn lawful(&self)
-        ensures { IsLawfulCore C.is_plan self.now }
+        ensures { IsLawfulCore (OfSome C.is_plan) self.now }
     {
         let _ = &self.state;
     }
@@ -186,7 +191,7 @@ impl<C: Change> Core<C> {
         self.state.fetch_failed(io);
     }
 
-    /// Commits a change at the next place, and ends its transaction. Broken: a write or a barrier has failed.
+    /// Commits a change at the next place, ends its transaction, and gives a receipt. Broken: a write or a barrier has failed.
     /// Foreign: the transaction isn't one that this core began and that hasn't ended; or the change was planned
     /// for other counts than the core's, writes a block that no change may write, writes what this transaction
     /// doesn't hold alone or whose fetch is pending, or read what it doesn't hold for reading or what differs. Spent:
@@ -195,6 +200,7 @@ impl<C: Change> Core<C> {
     pub fn commit(&mut self, alloc: Global, tx: Tx, change: C) -> Commit<C>
         requires { length (blocks_of (C.planned change).written) ≤ CHANGED_BLOCKS }
         ensures answer { IsCommit self.old tx (C.planned change) change result self.new }
+        ensures given { IsGiven change result }
         ensures sets { IsSetBy self.old (C.planned change) result self.new }
         ensures stays { (other : ℕ) → (other ≡ tx → ⊥) → KeepsReads self.old self.new other }
         ensures keeps { KeepsHome self.old self.new }
@@ -268,6 +274,38 @@ impl<C: Change> Core<C> {
 }
 
 impl<C: Change> Core<C> {
+    /// The next device call of a side, if there is one and none is out.
+    pub fn next(&mut self, side: Side) -> Option<SideIo>
+        ensures causes { is_some result ≡ may_call side self.old.log }
+        ensures some { IsSome result → self.new ≡ with_call side self.old }
+        ensures none { IsNone result → self.new ≡ self.old }
+        ensures within { IfSome result (λ io. IsCallWithin self.new.log.blocks io.call) }
+        ensures call { IfSome result (IsNextCall side self.new.log) }
+        ensures law { IfSome result (λ io. call_goes_out side self.old.log io self.new.log) }
+        ensures stays { (other : ℕ) → KeepsReads self.old self.new other }
+        ensures keeps { KeepsHome self.old self.new }
+    {
+        let io = self.state.next(side);
+        self.state.lawful();
+        io
+    }
+
+    /// Gives a device call of a side back, with whether it was answered Ok.
+    pub fn done(&mut self, side: Side, io: SideIo, ok: bool)
+        ensures log { self.new.log ≡ (if is_out side self.old.log io then with_back side self.old.log ok
+            else self.old.log) }
+        ensures blocks { self.new.log.blocks ≡ self.old.log.blocks }
+        ensures core { CoreBack side self.old self.new }
+        ensures leaves { LeavesBack side self.old self.new }
+        ensures law { call_comes_back side self.old.log io ok self.new.log }
+        ensures stays { (other : ℕ) → KeepsReads self.old self.new other }
+        ensures keeps { (base : Image) → IsHomeOf base self.old
+            → IsHomeOf (base_back side base self.old.log io ok) self.new }
+    {
+        self.state.done(side, io, ok);
+        self.state.lawful();
+    }
+
     /// The log's next device call, if there is one and none is out.
     pub fn log_next(&mut self) -> Option<LogIo>
         ensures causes { is_some result ≡ may_log self.old.log }
@@ -279,9 +317,7 @@ impl<C: Change> Core<C> {
         ensures stays { (other : ℕ) → KeepsReads self.old self.new other }
         ensures keeps { KeepsHome self.old self.new }
     {
-        let io = self.state.log_next();
-        self.state.lawful();
-        io
+        self.next(Side::Log)
     }
 
     /// Gives the log's device call back, with whether it was answered Ok.
@@ -294,8 +330,7 @@ impl<C: Change> Core<C> {
         ensures stays { (other : ℕ) → KeepsReads self.old self.new other }
         ensures keeps { KeepsHome self.old self.new }
     {
-        self.state.log_done(io, ok);
-        self.state.lawful();
+        self.done(Side::Log, io, ok);
     }
 
     /// The installer's next device call, if there is one and none is out.
@@ -309,9 +344,7 @@ impl<C: Change> Core<C> {
         ensures stays { (other : ℕ) → KeepsReads self.old self.new other }
         ensures keeps { KeepsHome self.old self.new }
     {
-        let io = self.state.inst_next();
-        self.state.lawful();
-        io
+        self.next(Side::Home)
     }
 
     /// Gives the installer's device call back, with whether it was answered Ok.
@@ -331,7 +364,6 @@ impl<C: Change> Core<C> {
             → IsHomeOf (if is_inst_out self.old.log io then home_after base self.old.log ok
             else base) self.new }
     {
-        self.state.inst_done(io, ok);
-        self.state.lawful();
+        self.done(Side::Home, io, ok);
     }
 }

@@ -1,1 +1,3 @@
 mod Absorbing
+mod Sides
+mod Stages

@@ -1,6 +1,9 @@
 pub mod View
 pub mod OnPorts
 pub mod Sides
+pub mod Batch
+pub mod BySide
+pub mod Lent
 pub mod Tail
 -- What the contracts here cite, for the crates above.
 pub use Rattle.wal_law.specs.Io

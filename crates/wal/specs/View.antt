@@ -1,6 +1,8 @@
 -- What the fields of the memory log stand for.
 use Rattle.std.specs.Prelude.{is_none}
+use Rattle.wal.specs.Batch.{IsStageOf, step_at}
 use Rattle.wal.specs.declared.memory.Wal.TheInside.{Inside}
+use Rattle.wal.specs.declared.memory.batch.Batch.{Batch}
 use Rattle.wal_law.specs.Log.{Log, IsLawful}
 
 abbrev pub log_of : Inside → Log
@@ -10,15 +12,17 @@ log_of w =
       start = w.start;
       changes = w.changes.items;
       logged = w.logged;
-      taken = w.taken;
-      log_step = w.log_step;
-      log_out = is_none w.log_buffer;
-      installing = w.installing;
-      inst_step = w.inst_step;
-      inst_out = is_none w.inst_buffer;
+      taken = w.batches.log.taken;
+      log_step = step_at w.batches.log.taken w.batches.log.stage;
+      log_out = is_none w.batches.log.buffer;
+      installing = w.batches.home.taken;
+      inst_step = step_at w.batches.home.taken w.batches.home.stage;
+      inst_out = is_none w.batches.home.buffer;
       places = w.places;
       broken = w.broken;
     }
 
+-- the log is lawful, and each side is at a call of what it has taken
 abbrev pub IsSound : Inside → Type 0
-IsSound w = IsLawful (log_of w)
+IsSound w = IsLawful (log_of w) × IsStageOf w.batches.log.taken w.batches.log.stage
+    × IsStageOf w.batches.home.taken w.batches.home.stage

@@ -7,12 +7,14 @@ ghost use Rattle.wal_law.specs.Grows.{IsWholeChange};
 ghost use Rattle.wal_law.specs.Room.{IsRoom};
 
 mod append;
+mod batch;
+mod by_side;
+mod calls;
 mod header;
-mod installer;
-mod logger;
 mod search;
 
 use crate::{LogChange, Room, Seq};
+use batch::{Batch, Batches};
 use circ::Recovered;
 use disk::{Block, BlockNo};
 use limits::LOG_SLOTS;
@@ -27,12 +29,7 @@ pub struct Wal {
     start: u64,
     changes: VecDeque<LogChange>,
     logged: usize,
-    taken: usize,
-    log_step: usize,
-    log_buffer: Option<Block>,
-    installing: usize,
-    inst_step: usize,
-    inst_buffer: Option<Block>,
+    batches: Batches,
     places: u64,
     broken: bool,
 }
@@ -59,7 +56,7 @@ impl Wal {
         ensures { IfOk result (λ log. log ≡ opened blocks found.start found.logged.items) }
     {
         let log_buffer = Block::zeros(alloc)?;
-        let inst_buffer = Block::zeros(alloc)?;
+        let home_buffer = Block::zeros(alloc)?;
         let Recovered { start, logged } = found;
         let count = logged.len();
         let mut changes = VecDeque::with_capacity(alloc, count)?;
@@ -69,12 +66,10 @@ impl Wal {
             start,
             changes,
             logged: count,
-            taken: 0,
-            log_step: 0,
-            log_buffer: Some(log_buffer),
-            installing: 0,
-            inst_step: 0,
-            inst_buffer: Some(inst_buffer),
+            batches: Batches {
+                log: Batch::new(log_buffer),
+                home: Batch::new(home_buffer),
+            },
             places: 0,
             broken: false,
         })
@@ -127,14 +122,14 @@ impl Wal {
     pub fn tail(&self) -> usize
         ensures { result ≡ tail_count self.now }
     {
-        self.changes.len() - (self.logged + self.taken)
+        self.changes.len() - (self.logged + self.batches.log.taken)
     }
 
     /// How many blocks more the open tail holds by a group that changes these.
     pub fn added_blocks(&self, blocks: &[BlockNo]) -> usize
         ensures { result ≡ added_blocks self.now blocks.now }
     {
-        let ahead = self.logged + self.taken;
+        let ahead = self.logged + self.batches.log.taken;
         search::count_new(&self.changes, ahead, blocks)
     }
 

@@ -1,14 +1,12 @@
 //! Whether a call can be spelled, and a moment is one.
-ghost use Rattle.std.specs.Prelude.{◌↔◌, ◌<◌, ◌^◌, IfSome, IsTrue};
+ghost use Rattle.std.specs.Prelude.{◌↔◌, IfSome, IsTrue};
 ghost use Rattle.model.specs.Sound.{SoundTime};
-ghost use Rattle.nfs_types.specs.Fits.{AreBytes, CallFits, CreateHowFits, DeviceNumberFits, DirectoryNameFits};
-ghost use Rattle.nfs_types.specs.Fits.{HandleFits, MomentFits, NewAttributesFit, SetTimeFits, SpecialFileFits};
-ghost use Rattle.nfs_types.specs.Fits.{TextFits, VerifierFits};
+ghost use Rattle.nfs_types.specs.Fits.{CallFits, CreateHowFits, DirectoryNameFits, HandleFits, MomentFits};
+ghost use Rattle.nfs_types.specs.Fits.{NewAttributesFit, SpecialFileFits, StringFits, TextFits, VerifierFits};
 
 use limits::{MOST_HANDLE_BYTES, NANOSECONDS, RECORD_BYTES};
 use nfs_types::{
-    Call, CreateHow, DeviceNumber, DirectoryName, Handle, Moment, NewAttributes, Octets, SetTime,
-    SpecialFile, Verifier,
+    Call, CreateHow, DirectoryName, Handle, Moment, NewAttributes, Octets, SpecialFile, Verifier,
 };
 
 /// Whether a moment has less than a second of nanoseconds.
@@ -18,14 +16,20 @@ pub(super) fn is_moment(moment: Moment) -> bool
     moment.nanoseconds < NANOSECONDS
 }
 
-/// Whether a call can be spelled: its handles and its texts are as short as their items may be. Each number has
-/// its bits.
+/// Whether a call can be spelled: its handles and its texts are as short as they may be. Each number has its bits.
 pub fn can_be_spelled(call: &Call) -> bool
     ensures { IsTrue result ↔ CallFits call.now }
 {
     match call {
         Call::Null => true,
-        Call::GetAttr { object } => fits_handle(object),
+        Call::GetAttr { object: handle }
+        | Call::ReadLink { link: handle }
+        | Call::FsStat { object: handle }
+        | Call::FsInfo { object: handle }
+        | Call::PathConf { object: handle } => fits_handle(handle),
+        Call::Lookup { name } | Call::Remove { name } | Call::RmDir { name } => fits_name(name),
+        Call::Rename { source, target } => fits_name(source) && fits_name(target),
+        Call::Link { file, name } => fits_handle(file) && fits_name(name),
         Call::SetAttr {
             object,
             attributes,
@@ -35,19 +39,21 @@ pub fn can_be_spelled(call: &Call) -> bool
             fits_guard(*guard);
             fits_handle(object)
         }
-        Call::Lookup { name } => fits_name(name),
         Call::Access { object, bits } => {
-            has_32_bits(*bits);
+            let _numbers = *bits;
             fits_handle(object)
         }
-        Call::ReadLink { link } => fits_handle(link),
         Call::Read {
             file,
             offset,
             count,
+        }
+        | Call::Commit {
+            file,
+            offset,
+            count,
         } => {
-            has_64_bits(*offset);
-            has_32_bits(*count);
+            let _numbers = (*offset, *count);
             fits_handle(file)
         }
         Call::Write {
@@ -57,8 +63,7 @@ pub fn can_be_spelled(call: &Call) -> bool
             stability: _,
             bytes,
         } => {
-            has_64_bits(*offset);
-            has_32_bits(*count);
+            let _numbers = (*offset, *count);
             fits_handle(file) && fits_text(bytes)
         }
         Call::Create { name, how } => {
@@ -81,19 +86,14 @@ pub fn can_be_spelled(call: &Call) -> bool
             fits_special(*special);
             fits_name(name)
         }
-        Call::Remove { name } => fits_name(name),
-        Call::RmDir { name } => fits_name(name),
-        Call::Rename { source, target } => fits_name(source) && fits_name(target),
-        Call::Link { file, name } => fits_handle(file) && fits_name(name),
         Call::ReadDir {
             directory,
             cookie,
             verifier,
             count,
         } => {
-            has_64_bits(*cookie);
             fits_verifier(*verifier);
-            has_32_bits(*count);
+            let _numbers = (*cookie, *count);
             fits_handle(directory)
         }
         Call::ReadDirPlus {
@@ -103,41 +103,11 @@ pub fn can_be_spelled(call: &Call) -> bool
             directory_count,
             greatest_count,
         } => {
-            has_64_bits(*cookie);
             fits_verifier(*verifier);
-            has_32_bits(*directory_count);
-            has_32_bits(*greatest_count);
+            let _numbers = (*cookie, *directory_count, *greatest_count);
             fits_handle(directory)
         }
-        Call::FsStat { object } => fits_handle(object),
-        Call::FsInfo { object } => fits_handle(object),
-        Call::PathConf { object } => fits_handle(object),
-        Call::Commit {
-            file,
-            offset,
-            count,
-        } => {
-            has_64_bits(*offset);
-            has_32_bits(*count);
-            fits_handle(file)
-        }
     }
-}
-
-fn fits_handle(handle: &Handle) -> bool
-    ensures { IsTrue result ↔ HandleFits handle.now }
-{
-    let bytes = handle.bytes.as_slice();
-    are_bytes(bytes);
-    bytes.len() <= MOST_HANDLE_BYTES
-}
-
-fn fits_text(text: &Octets) -> bool
-    ensures { IsTrue result ↔ TextFits text.now }
-{
-    let bytes = text.as_slice();
-    are_bytes(bytes);
-    bytes.len() <= RECORD_BYTES
 }
 
 fn fits_name(place: &DirectoryName) -> bool
@@ -146,76 +116,37 @@ fn fits_name(place: &DirectoryName) -> bool
     fits_handle(&place.directory) && fits_text(&place.name)
 }
 
+fn fits_handle(handle: &Handle) -> bool
+    ensures { IsTrue result ↔ HandleFits handle.now }
+{
+    fits(handle.bytes.as_slice(), MOST_HANDLE_BYTES)
+}
+
+fn fits_text(text: &Octets) -> bool
+    ensures { IsTrue result ↔ TextFits text.now }
+{
+    fits(text.as_slice(), RECORD_BYTES)
+}
+
+fn fits(bytes: &[u8], most: usize) -> bool
+    ensures { IsTrue result ↔ StringFits most bytes.now }
+{
+    bytes.len() <= most
+}
+
 // Each value of these can be spelled: for proofs alone.
-
-fn are_bytes(bytes: &[u8])
-    ensures { AreBytes bytes.now }
-{}
-
-fn has_32_bits(number: u32)
-    ensures { number < 2 ^ 32 }
-{}
-
-fn has_64_bits(number: u64)
-    ensures { number < 2 ^ 64 }
-{}
-
-fn some_has_32_bits(number: Option<u32>)
-    ensures { IfSome number (λ n. n < 2 ^ 32) }
-{
-    if let Some(number) = number {
-        has_32_bits(number);
-    }
-}
-
-fn some_has_64_bits(number: Option<u64>)
-    ensures { IfSome number (λ n. n < 2 ^ 64) }
-{
-    if let Some(number) = number {
-        has_64_bits(number);
-    }
-}
-
-fn fits_moment(time: Moment)
-    ensures { MomentFits time }
-{
-    has_32_bits(time.seconds);
-    has_32_bits(time.nanoseconds);
-}
 
 fn fits_guard(guard: Option<Moment>)
     ensures { IfSome guard MomentFits }
-{
-    if let Some(time) = guard {
-        fits_moment(time);
-    }
-}
-
-fn fits_set_time(time: SetTime)
-    ensures { SetTimeFits time }
-{
-    match time {
-        SetTime::Unchanged | SetTime::Server => {}
-        SetTime::Client(time) => fits_moment(time),
-    }
-}
+{}
 
 fn fit_attributes(wanted: NewAttributes)
     ensures { NewAttributesFit wanted }
-{
-    some_has_32_bits(wanted.mode);
-    some_has_32_bits(wanted.uid);
-    some_has_32_bits(wanted.gid);
-    some_has_64_bits(wanted.size);
-    fits_set_time(wanted.atime);
-    fits_set_time(wanted.mtime);
-}
+{}
 
 fn fits_verifier(verifier: Verifier)
     ensures { VerifierFits verifier }
-{
-    are_bytes(&verifier.bytes);
-}
+{}
 
 fn fits_how(how: CreateHow)
     ensures { CreateHowFits how }
@@ -226,22 +157,6 @@ fn fits_how(how: CreateHow)
     }
 }
 
-fn fits_device(device: DeviceNumber)
-    ensures { DeviceNumberFits device }
-{
-    has_32_bits(device.major);
-    has_32_bits(device.minor);
-}
-
 fn fits_special(special: SpecialFile)
     ensures { SpecialFileFits special }
-{
-    match special {
-        SpecialFile::CharacterDevice(wanted, device) | SpecialFile::BlockDevice(wanted, device) => {
-            fit_attributes(wanted);
-            fits_device(device);
-        }
-        SpecialFile::Socket(wanted) | SpecialFile::Fifo(wanted) => fit_attributes(wanted),
-        SpecialFile::Regular | SpecialFile::Directory | SpecialFile::Link => {}
-    }
-}
+{}

@@ -43,7 +43,7 @@ impl Wal {
         ensures refused { result ≢ Append.Appended → self.new ≡ self.old }
         ensures full { result ≡ Append.Full ↔ (LOG_SLOTS < tail_after self.old (blocks_of group.items)) }
     {
-        let ahead = self.logged + self.taken;
+        let ahead = self.logged + self.batches.log.taken;
         let added = count_new(&self.changes, ahead, &group);
         if LOG_SLOTS as usize - (self.changes.len() - ahead) < added {
             return Append::Full;

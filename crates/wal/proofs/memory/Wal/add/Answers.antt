@@ -15,11 +15,14 @@ invariant_of-self-2 c =
     c.count_new-added.ensures
     ∙ ap (λ (g : List (BlockNo × Content)). added_blocks log (blocks_of g)) c.deref.ensures.value in
     let fits : tail_after log (blocks_of c.args.group.items) ≤ LOG_SLOTS =
-    omega (arith, added, c.if-len-ahead.false) in
-    rw (c.absorb.ensures, c.reserve.ensures.items)
-    (lawful_with_group log c.args.group.items c.self.invariant
-    (subst (λ (l : Log). HasPlaces l (blocks_of c.args.group.items)) (sym c.self.view_is) c.requires.places)
-    fits
-    (subst (λ (l : Log). All (IsHomeOn l.blocks) (blocks_of c.args.group.items)) (sym c.self.view_is)
-    c.requires.homes)
-    c.requires.once)
+    omega (arith, added, c.if-len-ahead.false) in (
+      rw (c.absorb.ensures, c.reserve.ensures.items)
+          (lawful_with_group log c.args.group.items c.self.invariant.0
+          (subst (λ (l : Log). HasPlaces l (blocks_of c.args.group.items)) (sym c.self.view_is) c.requires.places)
+          fits
+          (subst (λ (l : Log). All (IsHomeOn l.blocks) (blocks_of c.args.group.items)) (sym c.self.view_is)
+          c.requires.homes)
+          c.requires.once),
+      c.self.invariant.1,
+      c.self.invariant.2,
+    )

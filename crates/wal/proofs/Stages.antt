@@ -1,0 +1,114 @@
+-- A side's call, by its stage.
+use Rattle.std.proofs.Common.{◌≡◌, ◌≤◌, ◌<◌, ◌+◌, ◌∙◌, ℕ, Bool, false, ap, arith, subst, sym}
+use Rattle.disk.specs.declared.block.BlockNo.{BlockNo}
+use Rattle.disk.specs.declared.block.Side.{Side}
+use Rattle.disk.specs.declared.block.Side.TheVariants.{Log as LogSide, Home}
+use Rattle.wal_law.specs.Io.{Io}
+use Rattle.wal_law.specs.Log.{IsLawful, Log}
+use Rattle.wal_law.specs.declared.calls.IoCall.TheVariants.{Barrier, Write}
+use Rattle.wal_law.proofs.Lawful.{lawful_group_settled}
+use Rattle.wal.specs.Batch.{IsStageOf, batch_of, step_at}
+use Rattle.wal.specs.BySide.{IsBody, IsTelling, ahead_of, step_of, taken_by}
+use Rattle.wal.specs.Sides.{IsNextCall}
+use Rattle.wal.specs.View.{IsSound, log_of}
+use Rattle.wal.specs.declared.memory.Wal.TheInside.{Inside}
+use Rattle.wal.specs.declared.memory.batch.Batch.{Batch}
+use Rattle.wal.specs.declared.memory.batch.Stage.{Stage}
+
+-- ---- what the fields of a side tell
+
+pub taken_is : (side : Side) (w : Inside) (log : Log) (batch : Batch) → log_of w ≡ log
+    → batch ≡ batch_of side w.batches → taken_by side log ≡ batch.taken
+taken_is LogSide w log batch same is =
+    ap (λ (l : Log). l.taken) (sym same) ∙ ap (λ (b : Batch). b.taken) (sym is)
+taken_is Home w log batch same is =
+    ap (λ (l : Log). l.installing) (sym same) ∙ ap (λ (b : Batch). b.taken) (sym is)
+
+pub step_is : (side : Side) (w : Inside) (log : Log) (batch : Batch) → log_of w ≡ log
+    → batch ≡ batch_of side w.batches → step_of side log ≡ step_at batch.taken batch.stage
+step_is LogSide w log batch same is =
+    ap (λ (l : Log). l.log_step) (sym same) ∙ ap (λ (b : Batch). step_at b.taken b.stage) (sym is)
+step_is Home w log batch same is =
+    ap (λ (l : Log). l.inst_step) (sym same) ∙ ap (λ (b : Batch). step_at b.taken b.stage) (sym is)
+
+pub stage_fits : (side : Side) (w : Inside) (batch : Batch) (stage : Stage) → IsSound w
+    → batch ≡ batch_of side w.batches → batch.stage ≡ stage → IsStageOf batch.taken stage
+stage_fits LogSide w batch stage sound is at =
+    subst (IsStageOf batch.taken) at (subst (λ (b : Batch). IsStageOf b.taken b.stage) (sym is) sound.1)
+stage_fits Home w batch stage sound is at =
+    subst (IsStageOf batch.taken) at (subst (λ (b : Batch). IsStageOf b.taken b.stage) (sym is) sound.2)
+
+-- ---- which call is next
+
+pub next_body_is : (side : Side) (log : Log) (io : Io) (block : BlockNo) → step_of side log < taken_by side log
+    → io.beginning ≡ log.start + ahead_of side log → io.step ≡ step_of side log → io.call ≡ Write block
+    → IsBody side log (step_of side log) block io.content → IsNextCall side log io
+next_body_is LogSide log io block within beginning step call body = record {
+  beginning = beginning;
+  step = step;
+  body = λ _ change is. (call ∙ ap (λ (b : BlockNo). Write b) (body change is).0, (body change is).1);
+  body_barrier = λ no. absurd (omega (arith, within, no));
+  header = λ no. absurd (omega (arith, within, no));
+  header_barrier = λ no. absurd (omega (arith, within, no));
+}
+next_body_is Home log io block within beginning step call body = record {
+  beginning = omega (arith, beginning);
+  step = step;
+  home = λ _ change is. (call ∙ ap (λ (b : BlockNo). Write b) (body change is).0, (body change is).1);
+  home_barrier = λ no. absurd (omega (arith, within, no));
+  start = λ no. absurd (omega (arith, within, no));
+  start_barrier = λ no. absurd (omega (arith, within, no));
+}
+
+pub next_telling_is : (side : Side) (log : Log) (io : Io) (block : BlockNo)
+    → step_of side log ≡ taken_by side log + 1 → io.beginning ≡ log.start + ahead_of side log
+    → io.step ≡ step_of side log → io.call ≡ Write block → IsTelling side log block io.content
+    → IsNextCall side log io
+next_telling_is LogSide log io block at beginning step call tells = record {
+  beginning = beginning;
+  step = step;
+  body = λ no. absurd (omega (arith, at, no));
+  body_barrier = λ no. absurd (omega (arith, at, no));
+  header = λ _. (call ∙ ap (λ (b : BlockNo). Write b) tells.0, tells.1);
+  header_barrier = λ no. absurd (omega (arith, at, no));
+}
+next_telling_is Home log io block at beginning step call tells = record {
+  beginning = omega (arith, beginning);
+  step = step;
+  home = λ no. absurd (omega (arith, at, no));
+  home_barrier = λ no. absurd (omega (arith, at, no));
+  start = λ _. (call ∙ ap (λ (b : BlockNo). Write b) tells.0, tells.1);
+  start_barrier = λ no. absurd (omega (arith, at, no));
+}
+
+pub next_barrier_is : (side : Side) (log : Log) (io : Io) → taken_by side log ≤ step_of side log
+    → (step_of side log ≡ taken_by side log + 1 → ⊥) → io.beginning ≡ log.start + ahead_of side log
+    → io.step ≡ step_of side log → io.call ≡ Barrier side → IsNextCall side log io
+next_barrier_is LogSide log io low other beginning step call = record {
+  beginning = beginning;
+  step = step;
+  body = λ no. absurd (omega (arith, low, no));
+  body_barrier = λ _. call;
+  header = λ no. absurd (other no);
+  header_barrier = λ _. call;
+}
+next_barrier_is Home log io low other beginning step call = record {
+  beginning = omega (arith, beginning);
+  step = step;
+  home = λ no. absurd (omega (arith, low, no));
+  home_barrier = λ _. call;
+  start = λ no. absurd (other no);
+  start_barrier = λ _. call;
+}
+
+-- ---- the end of a group
+
+pub lawful_group_ended : (log : Log) → IsLawful log → log.log_out ≡ false
+    → IsLawful (record log { logged = log.logged + log.taken; taken = 0; log_step = 0 })
+lawful_group_ended log lawful none =
+    subst (λ (out : Bool). IsLawful (record log {
+      logged = log.logged + log.taken;
+      taken = 0;
+      log_step = 0;
+      log_out = out;
+    })) (sym none) (lawful_group_settled log lawful)

@@ -1,0 +1,17 @@
+use Rattle.std.proofs.Common.{sym, subst}
+use Rattle.wal_law.specs.Log.{Log}
+use Rattle.wal_law.specs.Effects.{HasGoneOn}
+use Rattle.wal.specs.Sides.{is_out}
+use Rattle.wal.proofs.Sides.{comes_back, seen_done}
+use Rattle.wal.proofs.memory.Wal.done.Goals as goal
+
+pub returns-clause-seen : goal.returns-clause-seen
+returns-clause-seen c =
+    subst (λ (log : Log). HasGoneOn c.args.self.now log) (sym c.take_io.ensures.log)
+    (seen_done c.args.side c.args.self.now (is_out c.args.side c.args.self.now c.args.io) c.args.ok
+    c.take_io.ensures.lawful)
+
+pub returns-clause-law : goal.returns-clause-law
+returns-clause-law c =
+    comes_back c.args.side c.args.self.now c.take_io.new.self c.args.io c.args.ok c.take_io.ensures.lawful
+    c.take_io.ensures.log

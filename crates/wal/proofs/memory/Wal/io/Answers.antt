@@ -1,0 +1,58 @@
+-- By the stage of the side's batch: the write of a block, the write that tells of them, or a barrier.
+use Rattle.std.proofs.Common.{◌≡◌, ◌≤◌, ◌<◌, ◌+◌, ◌∙◌, ℕ, ap, arith, inl, inr, subst, sym}
+use Rattle.disk.specs.Device.{Content}
+use Rattle.wal_law.specs.Io.{Io}
+use Rattle.wal_law.specs.Log.{Log}
+use Rattle.wal.specs.Batch.{IsStageOf, step_at}
+use Rattle.wal.specs.BySide.{IsBody, IsTelling, ahead_of, step_of, taken_by}
+use Rattle.wal.specs.Sides.{IsNextCall}
+use Rattle.wal.specs.declared.memory.batch.Batch.{Batch}
+use Rattle.wal.specs.declared.memory.batch.Stage.{Stage}
+use Rattle.wal.specs.declared.memory.batch.Stage.TheVariants.{Body}
+use Rattle.wal.proofs.Stages.{next_barrier_is, next_body_is, next_telling_is, stage_fits, step_is, taken_is}
+use Rattle.wal.proofs.memory.Wal.io.Goals.{in-Body, in-Header, in-BodyBarrier}
+use Rattle.wal.proofs.memory.Wal.io.Goals as goal
+
+pub returns-clause-call : goal.returns-clause-call
+returns-clause-call c =
+    let side = c.args.side in
+    let log : Log = c.args.self.now in
+    let batch : Batch = c.of-batch.result.now in
+    let io : Io = record {
+      beginning = c.self.inside.start + c.ahead.result;
+      step = c.step.result;
+      call = c.match-batch.call;
+      content = c.match-batch.content;
+    } in
+    let start : c.self.inside.start ≡ log.start = ap (λ (l : Log). l.start) c.self.view_is in
+    let beginning : io.beginning ≡ log.start + ahead_of side log = omega (arith, start, c.ahead.ensures) in
+    let taken : taken_by side log ≡ batch.taken =
+    taken_is side c.self.inside log batch c.self.view_is c.of-batch.ensures in
+    let at : step_of side log ≡ step_at batch.taken batch.stage =
+    step_is side c.self.inside log batch c.self.view_is c.of-batch.ensures in
+    let step : io.step ≡ step_of side log = c.step.ensures ∙ sym at in
+    elim c.match-batch.branch as (λ _. IsNextCall side log io) [
+      | in-Body w ↦ let number : ℕ = w.in-Body.number in
+          let is : step_of side log ≡ number =
+          at ∙ ap (λ (stage : Stage). step_at batch.taken stage) w.in-Body.is in
+          let fits : IsStageOf batch.taken (Body number) = stage_fits side c.self.inside batch (Body number)
+          c.self.invariant c.of-batch.ensures w.in-Body.is in
+          let within : step_of side log < taken_by side log = omega (arith, taken, is, fits) in
+          next_body_is side log io w.put_body.result within beginning step w.call-is
+          (subst (λ (content : Content). IsBody side log (step_of side log) w.put_body.result content)
+          (sym w.content-is) (subst (λ (n : ℕ). IsBody side log n w.put_body.result w.put_body.new.content) (sym is)
+          w.put_body.ensures.value))
+      | in-Header w ↦ let is : step_of side log ≡ taken_by side log + 1 =
+          at ∙ ap (λ (stage : Stage). step_at batch.taken stage) w.in-Header.is ∙ ap (λ (n : ℕ). n + 1) (sym taken) in
+          next_telling_is side log io w.put_telling.result is beginning step w.call-is
+          (subst (λ (content : Content). IsTelling side log w.put_telling.result content) (sym w.content-is)
+          w.put_telling.ensures.value)
+      | in-BodyBarrier w ↦ elim w.in-BodyBarrier.is as (λ _. IsNextCall side log io) [
+        | inl first ↦ let is : step_of side log ≡ taken_by side log =
+            at ∙ ap (λ (stage : Stage). step_at batch.taken stage) first ∙ sym taken in
+            next_barrier_is side log io (omega (arith, is)) (λ other. omega (arith, is, other)) beginning step w.call-is
+        | inr last ↦ let is : step_of side log ≡ taken_by side log + 2 =
+            at ∙ ap (λ (stage : Stage). step_at batch.taken stage) last ∙ ap (λ (n : ℕ). n + 2) (sym taken) in
+            next_barrier_is side log io (omega (arith, is)) (λ other. omega (arith, is, other)) beginning step w.call-is
+      ]
+    ]

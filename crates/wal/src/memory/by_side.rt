@@ -1,0 +1,139 @@
+//! In what the two sides of the log differ: the logger takes the tail, to the slots of the log, and tells of it by
+//! the header; the installer takes what is logged, home, and tells of it by the start.
+ghost use Rattle.std.specs.Prelude.{◌≡◌, ◌≤◌, ◌<◌, ◌+◌, ◌%◌, false, length, drop};
+ghost use Rattle.limits.specs.declared.TheConstants.{FIRST_SLOT_BLOCK, LOG_SLOTS};
+ghost use Rattle.wal.specs.Batch.{IsStageOf, step_at};
+ghost use Rattle.wal.specs.BySide.{IsBody, IsTelling, ahead_of, next_body, out_of, taken_by, to_take, with_ended};
+
+use super::Wal;
+use super::batch::Stage;
+use super::header::put_header;
+use super::search::next_newest;
+use crate::LogChange;
+use circ::put_start;
+use disk::{Block, BlockNo, Side};
+use limits::{FIRST_SLOT_BLOCK, LOG_HEADER_BLOCK, LOG_SLOTS, START_BLOCK};
+use std::collections::VecDeque;
+
+impl Wal {
+    // How many changes a side may take at once: the logger the tail, where its positions fit behind the settled
+    // start.
+    pub(super) fn to_take(&self, side: Side) -> usize
+        ensures { result ≡ to_take side self.now }
+    {
+        match side {
+            Side::Log => {
+                if self.changes.len() as u64 <= LOG_SLOTS {
+                    self.changes.len() - self.logged
+                } else {
+                    0
+                }
+            }
+            Side::Home => self.logged,
+        }
+    }
+
+    // How many changes stand before those that a side has taken.
+    pub(super) fn ahead(&self, side: Side) -> usize
+        ensures { result ≡ ahead_of side self.now }
+    {
+        match side {
+            Side::Log => self.logged,
+            Side::Home => 0,
+        }
+    }
+
+    // The call of a side for the blocks of so many changes from one on: the installer passes over what isn't the
+    // newest of its block.
+    pub(super) fn body_from(&self, side: Side, taken: usize, number: usize) -> Stage
+        requires order { number ≤ taken }
+        requires within { taken ≤ length self.now.changes }
+        ensures value { step_at taken result ≡ next_body side self.now taken number }
+        ensures stage { IsStageOf taken result }
+    {
+        let next = match side {
+            Side::Log => number,
+            Side::Home => next_newest(&self.changes, number, taken),
+        };
+        if next < taken {
+            Stage::Body(next)
+        } else {
+            Stage::BodyBarrier
+        }
+    }
+
+    // Puts a block of what a side has taken into a call's content, and answers where it goes.
+    pub(super) fn put_body(&self, side: Side, number: usize, content: &mut Block) -> BlockNo
+        requires { number < taken_by side self.now }
+        ensures value { IsBody side self.now number result content.new }
+        ensures within { result.0 < self.now.blocks }
+    {
+        match side {
+            Side::Log => {
+                let index = self.logged + number;
+                content.copy_from(&self.changes[index].content);
+                slot_block(self.start + index as u64)
+            }
+            Side::Home => {
+                let change = &self.changes[number];
+                content.copy_from(&change.content);
+                change.block
+            }
+        }
+    }
+
+    // Puts what tells of a side's changes into a call's content, and answers where it goes.
+    pub(super) fn put_telling(&self, side: Side, content: &mut Block) -> BlockNo
+        ensures value { IsTelling side self.now result content.new }
+        ensures within { result.0 < self.now.blocks }
+    {
+        match side {
+            Side::Log => {
+                let end = self.logged + self.batches.log.taken;
+                put_header(content, self.start, &self.changes, end);
+                BlockNo(LOG_HEADER_BLOCK)
+            }
+            Side::Home => {
+                put_start(content, self.start + self.batches.home.taken as u64);
+                BlockNo(START_BLOCK)
+            }
+        }
+    }
+
+    // What a side has taken is done: the group is logged, or the changes are home and go.
+    pub(super) fn end(&mut self, side: Side)
+        requires { out_of side self.old ≡ false }
+        ensures { self.new ≡ with_ended side self.old }
+    {
+        match side {
+            Side::Log => {
+                self.logged += self.batches.log.taken;
+                self.batches.log.end();
+            }
+            Side::Home => {
+                let taken = self.batches.home.taken;
+                drop_front(&mut self.changes, taken);
+                self.start += taken as u64;
+                self.logged -= taken;
+                self.batches.home.end();
+            }
+        }
+    }
+}
+
+// The block of a log position.
+fn slot_block(position: u64) -> BlockNo
+    ensures { result.0 ≡ FIRST_SLOT_BLOCK + position % LOG_SLOTS }
+{
+    BlockNo(FIRST_SLOT_BLOCK + (position % LOG_SLOTS) as u32)
+}
+
+// Lets the first of the changes go.
+fn drop_front(changes: &mut VecDeque<LogChange>, count: usize)
+    requires { count ≤ length changes.old.items }
+    ensures { changes.new.items ≡ drop count changes.old.items }
+{
+    for _ in 0..count {
+        let _ = changes.pop_front();
+    }
+}
