@@ -1,3 +1,4 @@
+pub mod CallsEnd
 pub mod CallsLeft
 pub mod CallsMade
 pub mod ComingHome
@@ -13,7 +14,6 @@ pub mod Opens
 pub mod OutCalls
 pub mod Raising
 pub mod Refusing
-pub mod SameNumbers
 pub mod SettlingCalls
 pub mod Staying
 pub mod StillOpen

@@ -201,7 +201,8 @@ IsCommitting o log blocks committing.NoMemory =
     (log.broken ≡ false) × HasNumbers o log blocks × (tail_told_after log blocks ≤ LOG_SLOTS)
 
 -- The blocks that a commit of the transaction may name: each once, no more than a transaction may change, and each one
--- of which it has taken a part alone. That they are those which its change writes is told of a worker alone.
+-- of which it has taken a part alone. What it changes lies in them, as Changes says; that it changes each of them is told
+-- of a worker alone.
 pub record AreChanged (begun : Begun) (blocks : List BlockNo) : Type 0 where
   pub once : AreOnce blocks
   pub few : length blocks ≤ CHANGED_BLOCKS

@@ -7,145 +7,71 @@ use Rattle.store_images.proofs.CallsMade.{spends_none, spends_one}
 use Rattle.store_images.proofs.OneCall.{answered, at_rest_is, made_one}
 use Rattle.store_images.proofs.SettlingCalls.{settles_none, settles_one}
 use Rattle.store_images.proofs.Staying.{none_left, same_open as same_stays}
-use Rattle.store_images.proofs.StillOpen.{called_further, open_by}
+use Rattle.store_images.proofs.StillOpen.{open_by}
 use Rattle.store_images.specs.LogSide.{MayMake, MayStep, gives_back, pending_of, side_with}
 use Rattle.store_images.proofs.opened.call_one.Goals as goal
 
-pub returns-clause-called : goal.returns-clause-called
-returns-clause-called g c = λ _.
+pub returns : goal.returns
+returns g c =
     let one = c.make_one.ensures.one (search rules) in
-    let old = c.args.store.now.core in
-    let new = c.make_one.new.core in
-    let d = g.D.CrashDisk.device c.args.store.now.disk in
-    let e = g.D.CrashDisk.device c.make_one.new.disk in
-    let size : d.size ≡ old.log.blocks = search rules in
-    let made = made_one _ old new d e c.lawful.ensures.log c.args.side one size c.requires in
-    made.called
-
-pub returns-clause-out : goal.returns-clause-out
-returns-clause-out g c =
-    let one = c.make_one.ensures.one (search rules) in
-    let old = c.args.store.now.core in
-    let new = c.make_one.new.core in
-    let d = g.D.CrashDisk.device c.args.store.now.disk in
-    let e = g.D.CrashDisk.device c.make_one.new.disk in
-    let size : d.size ≡ old.log.blocks = search rules in
-    let made = made_one _ old new d e c.lawful.ensures.log c.args.side one size c.requires in
-    made.kept.out
-
-pub returns-clause-fetches : goal.returns-clause-fetches
-returns-clause-fetches g c =
-    let one = c.make_one.ensures.one (search rules) in
-    let old = c.args.store.now.core in
-    let new = c.make_one.new.core in
-    let d = g.D.CrashDisk.device c.args.store.now.disk in
-    let e = g.D.CrashDisk.device c.make_one.new.disk in
-    let size : d.size ≡ old.log.blocks = search rules in
-    let made = made_one _ old new d e c.lawful.ensures.log c.args.side one size c.requires in
-    made.kept.fetches
-
-pub returns-clause-counts : goal.returns-clause-counts
-returns-clause-counts g c =
-    let one = c.make_one.ensures.one (search rules) in
-    let old = c.args.store.now.core in
-    let new = c.make_one.new.core in
-    let d = g.D.CrashDisk.device c.args.store.now.disk in
-    let e = g.D.CrashDisk.device c.make_one.new.disk in
-    let size : d.size ≡ old.log.blocks = search rules in
-    let made = made_one _ old new d e c.lawful.ensures.log c.args.side one size c.requires in
-    made.frame
-
-pub returns-clause-numbers : goal.returns-clause-numbers
-returns-clause-numbers g c =
-    let one = c.make_one.ensures.one (search rules) in
-    let old = c.args.store.now.core in
-    let new = c.make_one.new.core in
-    let d = g.D.CrashDisk.device c.args.store.now.disk in
-    let e = g.D.CrashDisk.device c.make_one.new.disk in
-    let size : d.size ≡ old.log.blocks = search rules in
-    let made = made_one _ old new d e c.lawful.ensures.log c.args.side one size c.requires in
-    record { begun = made.kept.begun; places = made.places }
-
-pub returns-clause-few : goal.returns-clause-few
-returns-clause-few g c =
-    let one = c.make_one.ensures.one (search rules) in
-    let old = c.args.store.now.core in
-    let new = c.make_one.new.core in
-    let d = g.D.CrashDisk.device c.args.store.now.disk in
-    let e = g.D.CrashDisk.device c.make_one.new.disk in
-    let size : d.size ≡ old.log.blocks = search rules in
-    let made = made_one _ old new d e c.lawful.ensures.log c.args.side one size c.requires in
-    spends_one old.log new.log d e made.called made.later.clock
-
-pub returns-clause-spends : goal.returns-clause-spends
-returns-clause-spends g c = λ turn.
-    let one = c.make_one.ensures.one (search rules) in
-    let old = c.args.store.now.core in
-    let new = c.make_one.new.core in
-    let d = g.D.CrashDisk.device c.args.store.now.disk in
-    let e = g.D.CrashDisk.device c.make_one.new.disk in
-    let size : d.size ≡ old.log.blocks = search rules in
-    let made = made_one _ old new d e c.lawful.ensures.log c.args.side one size c.requires in
-    settles_one old.log new.log d e (made.nears turn) made.later.clock
-
-pub returns-clause-open : goal.returns-clause-open
-returns-clause-open g c =
-    let one = c.make_one.ensures.one (search rules) in
-    let old = c.args.store.now.core in
-    let new = c.make_one.new.core in
-    let d = g.D.CrashDisk.device c.args.store.now.disk in
-    let e = g.D.CrashDisk.device c.make_one.new.disk in
-    let size : d.size ≡ old.log.blocks = search rules in
-    let made = made_one _ old new d e c.lawful.ensures.log c.args.side one size c.requires in
     let side = c.args.side in
+    let old = c.args.store.now.core in
+    let new = c.make_one.new.core in
+    let d = g.D.CrashDisk.device c.args.store.now.disk in
+    let e = g.D.CrashDisk.device c.make_one.new.disk in
+    let size : d.size ≡ old.log.blocks = search rules in
+    let made = made_one _ old new d e c.lawful.ensures.log side one size c.requires in
     let answer = answered _ old new d e side one size in
     let law = c.the_calls_of_a_side_are_steps.ensures in
-    open_by (MayStep side) (MayMake side) (MayStep side) d e old new
-    (side_with side d old idle idle) (side_with side d one.mid (out one.io) idle)
-    (side_with side e one.mid (pending_of (Some one.io) (Some one.ok)) idle) (side_with side e new idle idle)
-    (at_rest_is side d old) (at_rest_is side e new) _ _ _
-    (law.taken side d old one.mid one.io idle c.lawful.ensures.log one.goes one.lawful.log one.lawful.tidy)
-    (law.made side d e one.mid one.io one.ok idle one.lawful.log answer)
-    (law.given side e one.mid new one.io one.ok idle one.lawful.log one.back c.lawful-2.ensures.log
-    c.lawful-2.ensures.tidy)
-    (called_further old new d e made.kept.begun made.places made.positions made.settled made.called) made.called
-
-pub returns-clause-stays : goal.returns-clause-stays
-returns-clause-stays g c = λ base boot first last entries since.
-    let one = c.make_one.ensures.one (search rules) in
-    let old = c.args.store.now.core in
-    let new = c.make_one.new.core in
-    let d = g.D.CrashDisk.device c.args.store.now.disk in
-    let e = g.D.CrashDisk.device c.make_one.new.disk in
-    let size : d.size ≡ old.log.blocks = search rules in
-    let made = made_one _ old new d e c.lawful.ensures.log c.args.side one size c.requires in
-    let side = c.args.side in
-    let home = home_next base one.mid.log (Some (gives_back side one.ok)) in
-    let given = c.a_call_of_a_side_leaves_the_store_open.ensures side base d e old one.mid new one.io one.ok boot first
-    last entries since one.goes one.lawful.log one.lawful.tidy (answered _ old new d e side one size) one.back
-    c.lawful-2.ensures.log c.lawful-2.ensures.tidy in
     record {
-      past = past_one d e made.later;
-      left = c.an_open_store_keeps_its_files.ensures.call d d e base old idle idle boot
-          (settled_place old.log) first last entries
-          (none_left d boot first entries (settled_place old.log)) since (omega arith) made.later;
-      further = made.settled;
-      calls = record { device = e; core = new } ∷ [];
-      by_calls = (
-        record {
-          call = made.later;
-          further = made.settled;
-          so = record {
+      out = made.kept.out;
+      boot = search rules;
+      «open» = open_by (MayStep side) (MayMake side) (MayStep side) d e old new
+          (side_with side d old idle idle) (side_with side d one.mid (out one.io) idle)
+          (side_with side e one.mid (pending_of (Some one.io) (Some one.ok)) idle) (side_with side e new idle idle)
+          (at_rest_is side d old) (at_rest_is side e new) _ _ _
+          (law.taken side d old one.mid one.io idle c.lawful.ensures.log one.goes one.lawful.log one.lawful.tidy)
+          (law.made side d e one.mid one.io one.ok idle one.lawful.log answer)
+          (law.given side e one.mid new one.io one.ok idle one.lawful.log one.back c.lawful-2.ensures.log
+          c.lawful-2.ensures.tidy)
+          made.further made.called;
+      counts = made.frame;
+      numbers = made.numbers;
+      fetches = made.kept.fetches;
+      may = search rules;
+      called = λ _. made.called;
+      none = search rules;
+      few = spends_one old.log new.log d e made.called made.later.clock;
+      stays = λ base boot first last entries since.
+          let home = home_next base one.mid.log (Some (gives_back side one.ok)) in
+          let given = c.a_call_of_a_side_leaves_the_store_open.ensures side base d e old one.mid new one.io one.ok
+          boot first last entries since one.goes one.lawful.log one.lawful.tidy answer one.back c.lawful-2.ensures.log
+          c.lawful-2.ensures.tidy in
+          record {
+            past = past_one d e made.later;
+            left = c.an_open_store_keeps_its_files.ensures.call d d e base old idle idle boot (settled_place old.log)
+                first last entries (none_left d boot first entries (settled_place old.log)) since (omega arith)
+                made.later;
+            further = made.further.settled;
+            calls = record { device = e; core = new } ∷ [];
+            by_calls = (
+              record {
+                call = made.later;
+                further = made.further.settled;
+                so = record {
+                  base = home;
+                  since = given;
+                  stops = λ image crash. c.a_stop_leaves_a_beginning.ensures.files home e new idle idle boot first last
+                      entries image given crash;
+                };
+              },
+              (refl, refl),
+            );
             base = home;
             since = given;
-            stops = λ image crash. c.a_stop_leaves_a_beginning.ensures.files home e new idle idle boot first last
-                entries image given crash;
           };
-        },
-        (refl, refl),
-      );
-      base = home;
-      since = given;
+      model = search rules;
+      spends = λ turn. settles_one old.log new.log d e (made.nears turn) made.later.clock;
     }
 
 pub returns-then-not-make_one-clause-few : goal.returns-then-not-make_one-clause-few
