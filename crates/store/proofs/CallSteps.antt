@@ -467,7 +467,7 @@ module _ (o : Outset) (now : Opened) (worker : State) (new : Side) (made : Optio
     -- ---- its procedure was committed
     module _ (has : has_committed made ≡ true)
         (goes_with : GoesOnWith s calling.base store new now.boot 0 o.first entries calling.last
-        (side worker now.core))
+        made (side worker now.core))
         (longer_kept : (before d : Device) (boot settled fewer : ℕ) (first : Tree) (entries more : List Entry)
         → HasKeptFiles before d boot first entries settled → fewer ≤ settled
         → HasKeptFiles before d boot first (entries ++ more) fewer)
@@ -625,8 +625,7 @@ module _ (o : Outset) (now : Opened) (worker : State) (new : Side) (made : Optio
     pub stepped : (has_committed made ≡ false → IsRunningOver s calling.base (with_core store new.core)
         (fetches_of new.worker) now.boot o.first entries calling.last × StandsBeside now.core new.core)
         → (has_committed made ≡ true → GoesOnWith s calling.base store new now.boot 0 o.first
-        entries calling.last
-        (side worker now.core))
+        entries calling.last made (side worker now.core))
         → ((before d : Device) (boot settled fewer : ℕ) (first : Tree) (entries more : List Entry)
         → HasKeptFiles before d boot first entries settled → fewer ≤ settled
         → HasKeptFiles before d boot first (entries ++ more) fewer)

@@ -162,7 +162,7 @@ module _ (old new : Side) where
 module _ (old new : Side) (boot number : ℕ) (entries : List Committed) where
   abbrev Takes : Phase → Option Step → Type 0
   Takes phase made = StandsAt boot entries phase old.worker → has_committed made ≡ true
-      → HasTakenPlace boot number old new
+      → HasTakenPlace boot number made old new
 
   some_same : {X : Type 0} (a b : X) → Some a ≡ Some b → a ≡ b
   some_same a b is = cc
@@ -188,12 +188,12 @@ module _ (old new : Side) (boot number : ℕ) (entries : List Committed) where
   was_seen snap object (inl read) = inl read
   was_seen snap object (inr claimed) = inr claimed.0
 
-  place_taken : (job : Job) (tx : ℕ) (done : Outcome) (base : State) (answer : Commit Outcome) (added : List BlockNo)
+  place_taken : (job : Job) (tx : ℕ) (done : Outcome) (base : State) (answer : Commit Outcome)
       → IsNext old.worker (plan.Done done) → old.worker.work.job ≡ Some job
       → IsCommit old.core tx (planned_of done) done answer new.core
       → new.worker ≡ after_commit job done.reply answer base
-      → Takes Planning (Some (step.Commit added (committing_of answer)))
-  place_taken job tx done base (commit.Committed receipt) added next job_is took is stands has = record {
+      → Takes Planning (Some (step.Commit (blocks_of done.written) (committing_of answer)))
+  place_taken job tx done base (commit.Committed receipt) next job_is took is stands has = record {
     tx = tx;
     plan = planned_of done;
     place = receipt.place.0;
@@ -205,16 +205,17 @@ module _ (old new : Side) (boot number : ℕ) (entries : List Committed) where
     own = subst (λ (seen : Option Seen). IsSomeAnd seen (λ seen. All (IsSeenIn seen) done.written))
         (sym next.snap_is) (All-weaker (IsWritable next.snap) (IsSeenIn (seen_of next.snap))
         (was_seen next.snap) done.written next.plan.0.writable);
+    named = refl;
   }
-  place_taken job tx done base (commit.Full back change) added next job_is took is stands has =
+  place_taken job tx done base (commit.Full back change) next job_is took is stands has =
       absurd (true≢false (sym has))
-  place_taken job tx done base (commit.Foreign back change) added next job_is took is stands has =
+  place_taken job tx done base (commit.Foreign back change) next job_is took is stands has =
       absurd (true≢false (sym has))
-  place_taken job tx done base (commit.NoMemory back change) added next job_is took is stands has =
+  place_taken job tx done base (commit.NoMemory back change) next job_is took is stands has =
       absurd (true≢false (sym has))
-  place_taken job tx done base (commit.Broken back change) added next job_is took is stands has =
+  place_taken job tx done base (commit.Broken back change) next job_is took is stands has =
       absurd (true≢false (sym has))
-  place_taken job tx done base (commit.Spent back change) added next job_is took is stands has =
+  place_taken job tx done base (commit.Spent back change) next job_is took is stands has =
       absurd (true≢false (sym has))
 
   given_not : (ok : Bool) (io : Fetch) (made : Step) → old.worker.begun.io ≡ Some io
@@ -232,8 +233,7 @@ module _ (old new : Side) (boot number : ℕ) (entries : List Committed) where
     wanted = λ tx addr mode made tx_is next was stands has. absurd (true≢false (sym has));
     claimed = λ tx block made tx_is next was stands has. absurd (true≢false (sym has));
     committed = λ job tx done made tx_is next none job_is was.
-        place_taken job tx done _ was.answer (blocks_of done.written) next
-        job_is was.core was.worker;
+        place_taken job tx done _ was.answer next job_is was.core was.worker;
     lacked = λ tx made tx_is none was stands has. absurd (true≢false (sym has));
     given = given_not;
     refused = λ why job tx made job_is tx_is was stands has. absurd (true≢false (sym has));
@@ -243,7 +243,7 @@ module _ (old new : Side) (boot number : ℕ) (entries : List Committed) where
 
   pub takes_place : (made : Option Step) → GoesOn old.worker.phase old made new
       → IsWorkerAt boot entries old.worker
-      → has_committed made ≡ true → HasTakenPlace boot number old new
+      → has_committed made ≡ true → HasTakenPlace boot number made old new
   takes_place made goes worker_at has =
       by_cases old new Takes takes_cases old.worker.phase made goes worker_at.stands has
 

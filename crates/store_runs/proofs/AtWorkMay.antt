@@ -47,7 +47,7 @@ use Rattle.wal_law.specs.Room.{HasPlaces}
 use Rattle.wal_law.specs.declared.outcomes.Seq.{Seq}
 use Rattle.store_promise.specs.LogTold.{LogTold, settled_told}
 use Rattle.store_promise.specs.Progress.{Begun, Progress, Wished, has_part_alone, has_taken, is_fetching}
-use Rattle.store_promise.specs.Progress.{is_object_in}
+use Rattle.store_promise.specs.Progress.{has_loaded, is_object_in}
 use Rattle.store_promise.specs.declared.aims.Aim.{Aim}
 use Rattle.store_promise.specs.declared.aims.Aim.TheVariants as aim
 use Rattle.store_promise.specs.Progress as how
@@ -138,7 +138,8 @@ module _ (told : Told) (worker : ℕ) (core : CoreState) (tx : ℕ) (knowing : K
   want_may addr mode home found seen new (want.Loading back) is caused = caused
   want_may addr mode home found seen new (want.Outside back) is caused =
       absurd (is.1 (record { out = is_out; home = home }))
-  want_may addr mode home found seen new (want.Fetch back io) is caused = (caused, not_loaded addr.block is.2.absent)
+  want_may addr mode home found seen new (want.Fetch back io) is caused =
+      (caused.0, not_loaded addr.block is.2.absent, caused.1)
 
   pub claim_may : (block : BlockNo) (addr : Addr) → IsHomeOn core.log.blocks addr.block → (begun : Begun)
       → (new : CoreState) (answer : Claim) → IsClaimed core tx addr answer new
@@ -532,7 +533,8 @@ module _ (told : Told) (number : ℕ) (idle : (other : ℕ) → other ≢ number
   not_caused (Some (step.Wanted addr mode wish.Busy)) off = absurd (true≢false off)
   not_caused (Some (step.Wanted addr mode wish.Loading)) off = absurd (true≢false off)
   not_caused (Some (step.Wanted addr mode wish.Held)) off = left_free (schedule.wish_of addr mode)
-  not_caused (Some (step.Wanted addr mode wish.Fetch)) off = left_free (schedule.wish_of addr mode)
+  not_caused (Some (step.Wanted addr mode wish.Fetch)) off =
+      (left_free (schedule.wish_of addr mode), λ other differs. ap (has_loaded addr.block) (idle other differs))
   not_caused (Some (step.Wanted addr mode wish.Outside)) off = tt
   not_caused (Some (step.Wanted addr mode wish.NoMemory)) off = left_free (schedule.wish_of addr mode)
   not_caused (Some (step.Claimed block wish.Busy)) off = absurd (true≢false off)

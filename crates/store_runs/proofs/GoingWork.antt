@@ -18,6 +18,7 @@ use Rattle.procedures.specs.After.{after as leads_to}
 use Rattle.model.specs.Tree.{Tree}
 use Rattle.procedures.proofs.Joined.{push}
 use Rattle.txn_law.specs.Core.{CoreState}
+use Rattle.txn_law.specs.Group.{blocks_of}
 use Rattle.wal_law.specs.declared.outcomes.Seq.{Seq}
 use Rattle.store_promise.proofs.RulesAre.{to_run_rule}
 use Rattle.store_promise.specs.declared.events.Committing.TheVariants as committing
@@ -60,7 +61,7 @@ use Rattle.store_runs.proofs.GoingBeside.{is_there}
 use Rattle.store_runs.proofs.GoingOn.{goes_on_with, with_fetches}
 use Rattle.store_runs.proofs.StayBeside.{AllWillStand, all_stand, others_stay, own_moves}
 use Rattle.store_workers.specs.Beside.{LeavesOthers, Replaces}
-use Rattle.store_runs.proofs.OwnChanges.{keeps_others, planned_has}
+use Rattle.store_runs.proofs.OwnChanges.{keeps_others, keeps_unnamed, planned_has}
 
 -- ---- a step of work is no call of the device
 
@@ -331,7 +332,7 @@ module _ (b : Beginning) (number clock : ℕ) (store : StoreSide) (workers all_t
     pub leads : leads_to b.tree (entries_of (transcript_of mid)) next
     pub files : (place : ℕ) → StandsAfter later.geometry b.tree (take place (entries_of (transcript_of mid)))
         (later.blocks place)
-    pub changes : ChangesOwnIn b.opened.size b.events t later.blocks entry
+    pub changes : ChangesOwnIn b.opened.size b.events t later.blocks made entry
 
   module _ (left : Left e.entry) (told_then : IsTold o then_told then_store)
       (moved : calls_device made ≡ false → IsMovedBy store.device made store.device) where
@@ -409,7 +410,7 @@ module _ (b : Beginning) (number clock : ℕ) (store : StoreSide) (workers all_t
     }
 
     module _ (goes_with : GoesOnWith o going.base store step_to boot number b.tree (entries_of t) going.last
-        (side worker store.core))
+        made (side worker store.core))
         (has_files : HasFileBlocks going.base core goes_with.left)
         (one_geometry : (g h : Geometry) → g.blocks ≡ h.blocks → g.inodes ≡ h.inodes → g ≡ h)
         (before_it : o.blocks (length t.history) ≡ file_blocks going.base store.core) where
@@ -495,20 +496,31 @@ module _ (b : Beginning) (number clock : ℕ) (store : StoreSide) (workers all_t
 
       changes : (committed : Committed) (j : Job) (begun : Begun) → committed.worker ≡ number
           → progress_of worker ≡ At j (Planning begun)
-          → ChangesOwn b.opened.size b.events t then_set.blocks committed
+          → ChangesOwn b.opened.size b.events t then_set.blocks made committed
       changes committed j begun worker_is planned = record {
         job = j;
         begun = begun;
         planned = ap (λ (w : ℕ). progress_now b.events t w) worker_is ∙ so.progress ∙ planned;
+        named = blocks_of goes_with.taken.plan.written;
+        made_is = goes_with.taken.named ∙ ap (λ (at : ℕ). Some (step.Commit (blocks_of goes_with.taken.plan.written)
+            (committing.Committed (record { 0 = at })))) (goes_with.next ∙ ap (λ (n : ℕ). n + 1) counted);
         others = subst (λ (next : Image). KeepsOthers b.opened.size begun
             (then_set.blocks (length t.history)) next)
             (sym (late (length t.history + 1) (let same = counted in omega (arith, same))))
             (subst (λ (here : Image). KeepsOthers b.opened.size begun here now)
             (sym (early (length t.history) (let same = counted in omega (arith, same)) ∙ before_it))
             (others j begun planned (seen_in worker.work.snap) refl goes_with.taken.own));
+        unnamed = λ block within lacks.
+            ap (λ (image : Image). image block.0)
+            (late (length t.history + 1) (let same = counted in omega (arith, same)) ∙ goes_with.writes)
+            ∙ keeps_unnamed b.opened.size (file_blocks going.base store.core) goes_with.taken.plan.written block within
+            lacks
+            ∙ sym (ap (λ (image : Image). image block.0)
+            (early (length t.history) (let same = counted in omega (arith, same)) ∙ before_it));
       }
 
-      pub committed : (n : Committed) → ChangesOwn b.opened.size b.events t then_set.blocks n → Left (Some n)
+      pub committed : (n : Committed) → ChangesOwn b.opened.size b.events t then_set.blocks made n
+          → Left (Some n)
       committed n changed = record {
         later = then_set;
         next = goes_with.left;
@@ -531,7 +543,7 @@ module _ (b : Beginning) (number clock : ℕ) (store : StoreSide) (workers all_t
         → IsRunningOver o going.base then_store [] boot b.tree (entries_of t) going.last)
         → (has_committed made ≡ true →
         (goes : GoesOnWith o going.base store step_to boot number b.tree (entries_of t) going.last
-        (side worker store.core)) × HasFileBlocks going.base core goes.left)
+        made (side worker store.core)) × HasFileBlocks going.base core goes.left)
         → ((g h : Geometry) → g.blocks ≡ h.blocks → g.inodes ≡ h.inodes → g ≡ h)
         → o.blocks (length t.history) ≡ file_blocks going.base store.core
         → (n : Noting boot number clock (progress_of worker) made before mid) → Left (entry_part n).entry

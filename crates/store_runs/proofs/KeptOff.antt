@@ -38,7 +38,7 @@ use Rattle.txn_law.specs.Core.{CoreState, IsOut}
 use Rattle.txn_law.specs.Fetch.{Fetch}
 use Rattle.txn_law.specs.Group.{blocks_of}
 use Rattle.txn_law.specs.Holds.{is_hold_of, is_written}
-use Rattle.txn_law.specs.Leaves.{is_fetching, taken_by}
+use Rattle.txn_law.specs.Leaves.{in_memory, is_fetching, taken_by}
 use Rattle.txn_law.specs.Object.{ObjectBytes}
 use Rattle.txn_law.specs.Others.{IsKeptOff}
 use Rattle.txn_law.specs.Present.{content_in, is_pending, present_of}
@@ -52,9 +52,9 @@ use Rattle.txn_law.proofs.Others.{found_some, kept_off_by}
 use Rattle.txn_law.proofs.Swept.{in_cons, in_first}
 use Rattle.txn_law.proofs.TakenBy.{is_hold_by}
 use Rattle.store_promise.specs.Progress as how
-use Rattle.store_promise.specs.Progress.{Begun, Stage, Wished, aim_keeps_off, has_taken, is_fetching as fetches}
-use Rattle.store_promise.specs.Progress.{shares, stage_takes}
-use Rattle.store_promise.specs.Schedule.{IsLeftFree, IsSoOfAnother, Told, whole_wish, wish_of}
+use Rattle.store_promise.specs.Progress.{Begun, Stage, Wished, aim_keeps_off, has_loaded, has_taken}
+use Rattle.store_promise.specs.Progress.{is_fetching as fetches, shares, stage_takes}
+use Rattle.store_promise.specs.Schedule.{IsLeftFree, IsSoOfAnother, IsSoOfNoOther, Told, whole_wish, wish_of}
 use Rattle.store_promise.specs.Waiting.{HasTakenWell, IsAim}
 use Rattle.store_promise.specs.Aims.{IsAsMuch}
 use Rattle.store_promise.specs.declared.aims.Aim.{Aim}
@@ -65,7 +65,7 @@ use Rattle.store_promise.specs.declared.events.Step.TheVariants as step
 use Rattle.store_promise.specs.declared.events.Wish.TheVariants as wish
 use Rattle.store_runs.specs.AtWork.{IsAtWork, IsLoadedBut, LoadsFor}
 use Rattle.store_runs.specs.AtWork as at_work
-use Rattle.store_runs.proofs.LeftFree.{left_free}
+use Rattle.store_runs.proofs.LeftFree.{left_free, none_loaded_beside}
 use Rattle.store_workers.proofs.LoneWorker.{had, has_of, own_change, seen_of, was_read}
 use Rattle.store_workers.proofs.PlansStay.{wish_by}
 use Rattle.store_workers.proofs.WorkCases.{Cases, IsWished, by_cases}
@@ -91,7 +91,8 @@ use Rattle.store_workers.specs.declared.workers.parts.State.{State}
 -- refused as foreign
 abbrev pub IsCaused : Told → ℕ → Option Step → Type 0
 IsCaused told number (Some (step.Wanted addr mode wish.Held)) = IsLeftFree told number (wish_of addr mode)
-IsCaused told number (Some (step.Wanted addr mode wish.Fetch)) = IsLeftFree told number (wish_of addr mode)
+IsCaused told number (Some (step.Wanted addr mode wish.Fetch)) =
+    IsLeftFree told number (wish_of addr mode) × IsSoOfNoOther told number (has_loaded addr.block)
 IsCaused told number (Some (step.Wanted addr mode wish.NoMemory)) = IsLeftFree told number (wish_of addr mode)
 IsCaused told number (Some (step.Claimed block wish.Held)) = IsLeftFree told number (whole_wish block)
 IsCaused told number (Some (step.Claimed block wish.NoMemory)) = IsLeftFree told number (whole_wish block)
@@ -265,6 +266,12 @@ module _ (boot : ℕ) (entries : List Entry) (told : Told) (core : CoreState) (w
   free_so addr mode left =
       left_free boot entries told core workers number worker tidy share is each beyond tx tx_is addr mode left
 
+  -- and have nothing in memory of a block that isn't there
+  unloaded_so : (addr : Addr) (mode : Mode) → in_memory core addr.block ≡ None
+      → IsSoOfNoOther told number (has_loaded addr.block)
+  unloaded_so addr mode absent = none_loaded_beside boot entries told core workers number worker tidy share is each
+      beyond tx tx_is addr mode absent
+
   -- another's transaction has taken what keeps it off
   busy_so : (addr : Addr) (mode : Mode) → IsKeptOff core tx addr mode
       → IsSoOfAnother told number (has_taken (wish_of addr mode))
@@ -310,7 +317,8 @@ module _ (boot : ℕ) (entries : List Entry) (told : Told) (core : CoreState) (w
         → IsWanted core tx addr mode answer new
         → IsCaused told number (Some (step.Wanted addr mode (answer_of answer)))
     wanted_caused new addr mode asks (want.Held back bytes) is = free_so addr mode is.1
-    wanted_caused new addr mode asks (want.Fetch back io) is = free_so addr mode is.1
+    wanted_caused new addr mode asks (want.Fetch back io) is =
+        (free_so addr mode is.1, unloaded_so addr mode is.2.absent)
     wanted_caused new addr mode asks (want.Outside back) is = tt
     wanted_caused new addr mode asks (want.NoMemory back) is = free_so addr mode is.1
     wanted_caused new addr mode asks (want.Busy back) is = busy_so addr mode (kept_off addr mode asks is.1)

@@ -16,18 +16,19 @@ use Rattle.txn.proofs.OwnChange.{taken_at}
 use Rattle.txn_law.specs.Core.{CoreState}
 use Rattle.txn_law.specs.Fetch.{Fetch}
 use Rattle.txn_law.specs.Holds.{IsFree, IsHoldOf, KeepsOff, is_hold_of}
-use Rattle.txn_law.specs.Leaves.{is_fetching, taken_by}
+use Rattle.txn_law.specs.Leaves.{in_memory, is_fetching, taken_by}
 use Rattle.txn_law.specs.Tidy.{AreTidy}
 use Rattle.txn_law.specs.Wishes.{IsOpen, IsWhole}
 use Rattle.txn_law.specs.declared.hold.Hold.{Hold}
 use Rattle.txn_law.proofs.Claims.{all_four, found_by}
 use Rattle.store_promise.specs.Progress as how
-use Rattle.store_promise.specs.Progress.{Begun, Stage, Wished, aim_keeps_off, has_taken, is_fetching as fetches}
-use Rattle.store_promise.specs.Progress.{shares, stage_takes, takes}
-use Rattle.store_promise.specs.Schedule.{IsLeftFree, Told, wish_of}
+use Rattle.store_promise.specs.Progress.{Begun, Progress, Stage, Wished, aim_keeps_off, has_loaded, has_taken}
+use Rattle.store_promise.specs.Progress.{is_fetching as fetches, is_object_in, shares, stage_takes, takes}
+use Rattle.store_promise.specs.Schedule.{IsLeftFree, IsSoOfNoOther, Told, wish_of}
 use Rattle.store_promise.specs.declared.aims.Aim.{Aim}
 use Rattle.store_promise.specs.declared.aims.Aim.TheVariants as aim
-use Rattle.store_runs.specs.AtWork.{IsAtWork}
+use Rattle.store_runs.specs.AtWork as at_work
+use Rattle.store_runs.specs.AtWork.{FetchesFor, IsAimLoaded, IsAtWork, LoadsFor}
 use Rattle.store_workers.specs.Beside.{IsFetchAt, IsOneOf, IsTakenAs, IsTakenIn, NotesTaken, ShareCore}
 use Rattle.store_workers.specs.Knowing.{known_in}
 use Rattle.store_workers.specs.Phases.{has_transaction}
@@ -130,13 +131,14 @@ module _ (w : State) where
     noted_in (Waiting place) so =
         absurd (true≢false (sym (of_stage w.asked.waiting (how.Waiting place.0) so)))
 
+  -- what isn't so of a stage isn't so of who is there
+  not_at : (is : Progress → Bool) → is how.Idle ≡ false → (job : Option Job) (stage : Stage)
+      → ((j : how.Job) → is (how.At j stage) ≡ false) → is (at_stage job stage) ≡ true → ⊥
+  not_at is idle None stage never so = true≢false (sym so ∙ idle)
+  not_at is idle (Some job) stage never so = true≢false (sym so ∙ never (handed job))
+
   -- and what it is told to fetch it fetches
   module _ (block : BlockNo) where
-    not_at : (job : Option Job) (stage : Stage) → ((j : how.Job) → fetches block (how.At j stage) ≡ false)
-        → fetches block (at_stage job stage) ≡ true → ⊥
-    not_at None stage never so = true≢false (sym so)
-    not_at (Some job) stage never so = true≢false (sym so ∙ never (handed job))
-
     fetch_at : (stage : how.Taken → Stage)
         → ((j : how.Job) (taken : how.Taken) → fetches block (how.At j (stage taken))
         ≡ nat_eq taken.addr.block.0 block.0) → IsFetchOf w
@@ -162,18 +164,75 @@ module _ (w : State) where
         → fetches block (progress_in phase w.work.job mine w.asked w.known) ≡ true → IsFetchAt block w.begun.io
     fetch_in boot entries Idle stands so = absurd (true≢false (sym so))
     fetch_in boot entries Called stands so =
-        absurd (not_at w.work.job (how.Called (known_in w.known)) (λ j. refl) so)
-    fetch_in boot entries Planning stands so = absurd (not_at w.work.job (how.Planning mine) (λ j. refl) so)
+        absurd (not_at (fetches block) refl w.work.job (how.Called (known_in w.known)) (λ j. refl) so)
+    fetch_in boot entries Planning stands so = absurd (not_at (fetches block) refl w.work.job (how.Planning mine) (λ j. refl) so)
     fetch_in boot entries Reading stands so =
         fetch_at (λ taken. how.Reading mine taken) (λ j taken. refl) stands.1 so
     fetch_in boot entries (Read ok) stands so =
         fetch_at (λ taken. how.Read mine taken ok) (λ j taken. refl) stands.1 so
     fetch_in boot entries (Refused why) stands so =
-        absurd (not_at w.work.job (how.Refused mine why) (λ j. refl) so)
+        absurd (not_at (fetches block) refl w.work.job (how.Refused mine why) (λ j. refl) so)
     fetch_in boot entries Again stands so =
-        absurd (not_at w.work.job (how.Again mine w.known.off) (λ j. refl) so)
+        absurd (not_at (fetches block) refl w.work.job (how.Again mine w.known.off) (λ j. refl) so)
     fetch_in boot entries (Waiting place) stands so =
-        absurd (not_at w.asked.waiting (how.Waiting place.0) (λ j. refl) so)
+        absurd (not_at (fetches block) refl w.asked.waiting (how.Waiting place.0) (λ j. refl) so)
+
+  -- and of a block that isn't in memory it is told to have no object, while it goes by its plan
+  module _ (block : BlockNo) (core : CoreState) (absent : in_memory core block ≡ None) where
+    not_loaded : (tx : ℕ) (one : Aim) → IsAimLoaded core tx one → is_object_in block one ≡ true → ⊥
+    not_loaded tx (aim.Object addr mode) is same =
+        let none : Some is.content ≡ None = sym is.there
+        ∙ ap (λ (b : BlockNo). in_memory core b) (one_block addr.block block (eqb-true addr.block.0 block.0 same))
+        ∙ absent in
+        cc
+    not_loaded tx (aim.Claim claimed) is same = true≢false (sym same)
+
+    of_plan : (job : Option Job) → has_loaded block (at_stage job (how.Planning mine)) ≡ true
+        → list_any (is_object_in block) w.known.taken ≡ true
+    of_plan None so = absurd (true≢false (sym so))
+    of_plan (Some job) so = so
+
+    none_loaded : (found : Option ℕ) → IsSomeAnd found (λ number. All (IsAimLoaded core number) w.known.taken)
+        → list_any (is_object_in block) w.known.taken ≡ true → ⊥
+    none_loaded None loads so = loads
+    none_loaded (Some tx) loads so =
+        let (one, is, same) = found_any (is_object_in block) (IsAimLoaded core tx) w.known.taken loads so in
+        not_loaded tx one is same
+
+    is_there : (P : Addr → Type 0) (wish : Option Addr) → IsSomeAnd wish P → is_some wish ≡ true
+    is_there P None has = absurd has
+    is_there P (Some addr) has = refl
+
+    is_wished : (found : Option ℕ) → FetchesFor found w.asked w.known core → is_some w.asked.wish ≡ true
+    is_wished None loads = absurd loads
+    is_wished (Some tx) loads =
+        is_there (λ addr. at_work.has_taken core tx addr ≡ true) w.asked.wish loads.1
+
+    of_fetching : (stage : how.Taken → Stage)
+        → ((j : how.Job) (taken : how.Taken) → has_loaded block (how.At j (stage taken)) ≡ false)
+        → (wish : Option Addr) → is_some wish ≡ true
+        → has_loaded block (at_stage w.work.job (at_fetch stage mine w.asked.mode wish)) ≡ true → ⊥
+    of_fetching stage never None there so = true≢false (sym there)
+    of_fetching stage never (Some addr) there so =
+        not_at (has_loaded block) refl w.work.job (stage (taken_as w.asked.mode addr))
+        (λ j. never j (taken_as w.asked.mode addr)) so
+
+    loaded_in : (phase : Phase) → LoadsFor phase w.begun.tx w.asked w.known core
+        → has_loaded block (progress_in phase w.work.job mine w.asked w.known) ≡ true → ⊥
+    loaded_in Idle loads so = true≢false (sym so)
+    loaded_in Called loads so =
+        not_at (has_loaded block) refl w.work.job (how.Called (known_in w.known)) (λ j. refl) so
+    loaded_in Planning loads so = none_loaded w.begun.tx loads (of_plan w.work.job so)
+    loaded_in Reading loads so = of_fetching (λ taken. how.Reading mine taken) (λ j taken. refl) w.asked.wish
+        (is_wished w.begun.tx loads) so
+    loaded_in (Read ok) loads so = of_fetching (λ taken. how.Read mine taken ok) (λ j taken. refl) w.asked.wish
+        (is_wished w.begun.tx loads) so
+    loaded_in (Refused why) loads so =
+        not_at (has_loaded block) refl w.work.job (how.Refused mine why) (λ j. refl) so
+    loaded_in Again loads so =
+        not_at (has_loaded block) refl w.work.job (how.Again mine w.known.off) (λ j. refl) so
+    loaded_in (Waiting place) loads so =
+        not_at (has_loaded block) refl w.asked.waiting (how.Waiting place.0) (λ j. refl) so
 
 -- ---- what the others leave free
 
@@ -263,3 +322,16 @@ module _ (boot : ℕ) (entries : List Entry) (told : Told) (core : CoreState) (w
     settled = λ other differs. false_from_ne_true (fetches addr.block (told.workers other))
         (never_fetched left.settled other (slice_get workers other) refl);
   }
+
+  -- nor has another an object in memory of a block that isn't there
+  never_loaded : in_memory core addr.block ≡ None → (other : ℕ) → (found : Option State)
+      → slice_get workers other ≡ found → has_loaded addr.block (told.workers other) ≡ true → ⊥
+  never_loaded absent other None none so =
+      true≢false (sym so ∙ ap (has_loaded addr.block) (beyond other none))
+  never_loaded absent other (Some w) w_is so =
+      let (told_is, stands, at) = each other w w_is in
+      loaded_in w addr.block core absent w.phase at.loads (sym (ap (has_loaded addr.block) told_is) ∙ so)
+
+  pub none_loaded_beside : in_memory core addr.block ≡ None → IsSoOfNoOther told number (has_loaded addr.block)
+  none_loaded_beside absent = λ other differs. false_from_ne_true (has_loaded addr.block (told.workers other))
+      (never_loaded absent other (slice_get workers other) refl)

@@ -4,6 +4,7 @@ pub mod AtWorkGoes
 pub mod AtWorkMay
 pub mod AtWorkStays
 pub mod AtWorkTold
+pub mod BySide
 pub mod FormattedRun
 pub mod GoingBeside
 pub mod GoingCall

@@ -1,6 +1,7 @@
 -- What a worker's commit writes lies in what its transaction has taken, and so all else stays.
 use Rattle.std.proofs.Common.{◌≡◌, ◌∙◌, sym, ap, ◌⊎◌, inl, inr, ℕ, ◌+◌, ◌<◌, arith, refl}
-use Rattle.std.proofs.Common.{Bool, true, false, ◌&&◌, ◌||◌, nat_eq, nat_lt, List, [], ◌∷◌, map, length}
+use Rattle.std.proofs.Common.{Bool, true, false, ◌&&◌, ◌||◌, if◌then◌else◌, nat_eq, nat_lt, ne_eqb}
+use Rattle.std.proofs.Common.{List, [], ◌∷◌, map, length}
 use Rattle.std.proofs.Common.{Option, Some, None, All}
 use Rattle.std.specs.List.{list_any}
 use Rattle.std.specs.Prelude.{Contains}
@@ -10,6 +11,7 @@ use Rattle.disk.specs.Crash.{Image}
 use Rattle.disk.specs.declared.block.BlockNo.{BlockNo}
 use Rattle.limits.specs.declared.TheConstants.{BLOCK_BYTES}
 use Rattle.objects.specs.Addr.{Overlap}
+use Rattle.objects.specs.Spliced.{spliced}
 use Rattle.objects.specs.Mode.{covers, is_exclusive}
 use Rattle.objects.specs.declared.addr.Addr.{Addr}
 use Rattle.objects.specs.declared.mode.Mode.{Mode}
@@ -17,11 +19,14 @@ use Rattle.objects.specs.declared.mode.Mode.TheVariants as modes
 use Rattle.layout.specs.declared.geometry.Geometry.{Geometry}
 use Rattle.inode.specs.Snap.{is_claimed, is_seen, same_addr}
 use Rattle.txn_law.specs.Object.{ObjectBytes}
-use Rattle.txn_law.specs.Window.{with_objects}
+use Rattle.txn_law.specs.Group.{blocks_of}
+use Rattle.txn_law.specs.Records.{lies_in}
+use Rattle.txn_law.specs.Window.{with_object, with_objects}
 use Rattle.txn_law.proofs.Beside.{stays_beside}
+use Rattle.txn_law.proofs.Laid.{among_after}
 use Rattle.txn_law.proofs.Swept.{in_cons}
 use Rattle.store_promise.specs.Aims.{IsAsMuch, IsCovered}
-use Rattle.store_promise.specs.Changes.{KeepsOthers}
+use Rattle.store_promise.specs.Changes.{KeepsOthers, KeepsUnnamed}
 use Rattle.store_promise.specs.Progress.{At, Begun, Planning, Taken, Wished, aim_keeps_off, aim_of}
 use Rattle.store_promise.specs.Progress.{keeps_off, shares, takes}
 use Rattle.store_promise.specs.Waiting.{AreTakenBy}
@@ -221,3 +226,27 @@ keeps_others g size b seen blocks written had held claims own sizes whole addr w
     (All-weaker (IsSeenIn seen) (IsAside addr)
     (λ object is. apart addr g b seen held claims had free object is) written own)
     sizes (whole addr.block.0 within)
+
+-- ---- and a block that isn't named stays
+
+unlaid : (image : Image) (written : List ObjectBytes) (block : BlockNo) → lies_in written block ≡ false
+    → with_objects image written block.0 ≡ image block.0
+unlaid image [] block none = refl
+unlaid image (o ∷ os) block none =
+    by (nat_eq o.addr.block.0 block.0) refl none (λ later. unlaid (with_object image o) os block later)
+  where
+    apart : nat_eq o.addr.block.0 block.0 ≡ false → nat_eq block.0 o.addr.block.0 ≡ false
+    apart other = ne_eqb block.0 o.addr.block.0
+        (λ same. true≢false (sym (eq-eqb o.addr.block.0 block.0 (sym same)) ∙ other))
+
+    by : (same : Bool) → nat_eq o.addr.block.0 block.0 ≡ same → (same || lies_in os block) ≡ false
+        → (lies_in os block ≡ false → with_objects (with_object image o) os block.0 ≡ with_object image o block.0)
+        → with_objects (with_object image o) os block.0 ≡ image block.0
+    by true is none rest = absurd (true≢false none)
+    by false is none rest = rest none
+        ∙ ap (λ (t : Bool). if t then spliced (image block.0) o.addr.offset o.bytes else image block.0) (apart is)
+
+pub keeps_unnamed : (size : ℕ) (blocks : Image) (written : List ObjectBytes)
+    → KeepsUnnamed size (blocks_of written) blocks (with_objects blocks written)
+keeps_unnamed size blocks written block within lacks =
+    unlaid blocks written block (sym (among_after block [] written) ∙ lacks)

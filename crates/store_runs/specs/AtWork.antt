@@ -13,6 +13,7 @@ use Rattle.txn.specs.Outcomes.{TakesPlace}
 use Rattle.txn_law.specs.Commit.{Planned}
 use Rattle.txn_law.specs.Core.{CoreState}
 use Rattle.txn_law.specs.Fetch.{Fetch}
+use Rattle.txn_law.specs.Group.{blocks_of}
 use Rattle.txn_law.specs.Leaves.{in_memory, taken_by}
 use Rattle.txn_law.specs.Object.{ObjectBytes}
 use Rattle.txn_law.specs.Window.{with_objects}
@@ -146,8 +147,8 @@ IsSeenIn seen object = (is_seen object.addr seen.objects ≡ true)
     ⊎ (is_claimed object.addr.block seen.claims ≡ true)
 
 -- What a worker's plan ended in took a place, and lies ready as an entry, which tells of a step of the
--- sequential server. It writes what was read and claimed for it.
-pub record HasTakenPlace (boot number : ℕ) (old new : Side) : Type 0 where
+-- sequential server. It writes what was read and claimed for it, in the blocks that the commit names.
+pub record HasTakenPlace (boot number : ℕ) (made : Option Step) (old new : Side) : Type 0 where
   pub tx : ℕ
   pub plan : Planned
   pub place : ℕ
@@ -156,13 +157,14 @@ pub record HasTakenPlace (boot number : ℕ) (old new : Side) : Type 0 where
   pub ready : new.worker.work.entry ≡ Some entry
   pub tells : TellsOf boot plan (entry_by number entry)
   pub own : IsSomeAnd (seen_in old.worker.work.snap) (λ seen. All (IsSeenIn seen) plan.written)
+  pub named : made ≡ Some (step.Commit (blocks_of plan.written) (committing.Committed (record { 0 = place })))
 
 -- A place was taken, the next one. In the setting that has from it on the blocks that stand for the files
 -- then, the run goes on with the place's entry, a step of the sequential server from the files as they were;
 -- and those blocks are the old ones with what was written.
 pub record GoesOnWith (o : Setting) (base : Image) (store : StoreSide) (new : Side) (boot number : ℕ)
-    (first : Tree) (entries : List Committed) (last : Tree) (old : Side) : Type 0 where
-  pub taken : HasTakenPlace boot number old new
+    (first : Tree) (entries : List Committed) (last : Tree) (made : Option Step) (old : Side) : Type 0 where
+  pub taken : HasTakenPlace boot number made old new
   pub next : taken.place ≡ length entries + 1
   pub left : Tree
   pub goes : procedures.step last taken.entry.ctx taken.entry.call taken.entry.reply left

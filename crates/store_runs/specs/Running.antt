@@ -2,8 +2,12 @@
 use Rattle.std.specs.Prelude.{◌≡◌, ℕ, ◌+◌, ◌-◌, ◌^◌, All, Bool, List, Option, Some, None, IfSome, if◌then◌else◌, map}
 use Rattle.std.specs.Prelude.{min}
 use Rattle.disk.specs.Device.{Device, current}
+use Rattle.disk.specs.declared.block.Side.{Side}
+use Rattle.disk.specs.declared.block.Side.TheVariants as sides
+use Rattle.log_seats.specs.declared.caller.Caller.{Caller}
 use Rattle.txn.specs.Core.{CoreState}
 use Rattle.wal.specs.Io.{Io, IsCallWithin}
+use Rattle.wal_law.specs.Calls.{Pending}
 use Rattle.store_promise.specs.declared.events.Step.{Step}
 use Rattle.store_promise.specs.DeviceCalls.{DoesStep}
 use Rattle.store_promise.specs.Running.{StoreSide}
@@ -30,9 +34,29 @@ abbrev pub DoesItsStep : StoreSide → Option Step → StoreSide → Type 0
 DoesItsStep old made new = DoesStep (call_told old.logging) (call_told old.installing) made
     (current old.device) (current new.device)
 
+-- ---- by the side
+
+-- who makes the calls of a side, and who those of the other
+abbrev pub of_side : Side → Calls → Caller
+of_side sides.Log calls = calls.logger
+of_side sides.Home calls = calls.installer
+
+abbrev pub beside : Side → Calls → Caller
+beside sides.Log calls = calls.installer
+beside sides.Home calls = calls.logger
+
+-- what it has out
+abbrev pub out_of : Caller → Pending
+out_of caller = pending_of caller.io caller.made
+
 -- a device call that is out goes to a block of the image
 abbrev pub IsWithin : ℕ → Option Io → Type 0
 IsWithin blocks out = IfSome out (λ io. IsCallWithin blocks io.call)
+
+-- so does that of either side
+pub record AreWithin (blocks : ℕ) (calls : Calls) : Type 0 where
+  pub logging : IsWithin blocks calls.logger.io
+  pub installing : IsWithin blocks calls.installer.io
 
 -- neither has a call out
 abbrev pub AreQuiet : Calls → Type 0
@@ -61,8 +85,7 @@ pub record MovesOne (workers : List Worker) (number : ℕ) (Does : Worker → Wo
 -- what workers read, and what is out, goes to blocks of the image
 pub record RunsWell (workers : List Worker) (core : CoreState) (calls : Calls) : Type 0 where
   pub reads : All (λ (worker : Worker). ReadsWithin core.log.blocks worker.state) workers
-  pub log_within : IsWithin core.log.blocks calls.logger.io
-  pub inst_within : IsWithin core.log.blocks calls.installer.io
+  pub within : AreWithin core.log.blocks calls
 
 -- the count of device calls with one more, as far as it can count
 abbrev pub one_more : ℕ → ℕ

@@ -119,7 +119,7 @@ pub fn a_worker_leaves_the_run_going()
         → IsRunningOver o base store (fetches_of worker) boot first entries last
         → GoesOn worker.phase (side worker store.core) made new → KeepsHomeOf (side worker store.core) new
         → IsLawful new.core.log → AreTidy new.core → IsWorkerAt boot entries worker → has_committed made ≡ true
-        → GoesOnWith o base store new boot number first entries last (side worker store.core) }
+        → GoesOnWith o base store new boot number first entries last made (side worker store.core) }
 {
     store_promise::a_worker_keeps_the_run_going();
 }

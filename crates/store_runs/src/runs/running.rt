@@ -1,16 +1,18 @@
 //! The events of a run.
 ghost use Rattle.std.specs.Prelude.{◌≡◌, ◌+◌, ◌^◌, ◌<◌, ◌≤◌, ◌++◌, All, IsTrue, [], None, length, vec_len};
-ghost use Rattle.std.specs.Prelude.{IsFalse, false, vec_capacity};
+ghost use Rattle.std.specs.Prelude.{IsFalse, Some, false, true, vec_capacity, ℕ};
 ghost use Rattle.layout.specs.Geometry.{IsLawful};
 ghost use Rattle.model.specs.Sound.{SoundTime};
 ghost use Rattle.nfs_types.specs.Fits.{CallFits};
 ghost use Rattle.store_promise.specs.Room.{HasRoom};
 ghost use Rattle.store_promise.specs.Running.{IsLogStep};
 ghost use Rattle.store_promise.specs.Transcript.{calls_device, refusals};
-ghost use Rattle.store_images.specs.LogSide.{MayInstIo, MayInstall, MayLog, MayLogIo};
+ghost use Rattle.store_images.specs.LogSide.{MayMake, MayStep, gives_back, makes, takes};
 ghost use Rattle.store_runs.specs.Going.{KeepsCore, LeavesGoing, run_side};
-ghost use Rattle.store_runs.specs.Running.{AreQuiet, DoesItsStep, IsAtRest, KeepsFits, MovesOne, RunsWell, counted};
-ghost use Rattle.store_runs.specs.Running.{one_more, side_of};
+ghost use Rattle.log_seats.specs.Making.{IsTried};
+ghost use Rattle.log_seats.specs.Steps.{HasStepped, comes_back, goes_out};
+ghost use Rattle.store_runs.specs.Running.{AreQuiet, AreWithin, DoesItsStep, IsAtRest, KeepsFits, MovesOne, RunsWell};
+ghost use Rattle.store_runs.specs.Running.{beside, counted, of_side, one_more, side_of};
 ghost use Rattle.store_images.specs.Counts.{SameFrame};
 ghost use Rattle.store_images.specs.Settling.{IsIdle};
 ghost use Rattle.store_workers.specs.Telling.{HasWorked, TakesCall, TellsWork, answers_told};
@@ -18,6 +20,7 @@ ghost use Rattle.store_workers.specs.Telling.{entries_told, told};
 ghost use Rattle.store_workers.specs.Worker.{ReadsWithin, ctx_of};
 ghost use Rattle.store_workers.specs.WorkerReads.{MakesRead};
 ghost use Rattle.store_workers.specs.WorkerSteps.{side};
+ghost use Rattle.wal.specs.Sides.{call_is_made, may_call};
 
 use super::going::{a_log_event_leaves_a_run_going, a_work_event_leaves_a_run_going};
 use super::going_workers::{a_call_leaves_a_run_going, a_read_leaves_a_run_going};
@@ -27,14 +30,11 @@ use log_seats::{Installer, Logger, Stepped};
 use nfs_types::{Call, Credential, Moment};
 use procs::Done;
 use std::alloc::Global;
-use store_images::Store;
-use store_promise::{
-    CallAnswer, Entry, Event, Run, Step, a_device_counts_the_calls_of_its_steps,
-    the_installer_leaves_the_store_open, the_logger_leaves_the_store_open,
-    what_was_read_is_at_home,
-};
+use store_images::{Store, the_calls_of_a_side_are_steps};
+use store_promise::{CallAnswer, Entry, Event, Run, Step, a_device_counts_the_calls_of_its_steps};
 use store_workers::Worker;
 use txn::Core;
+use wal::IoCall;
 
 /// A run that goes on: the store with its workers, the device calls that are out, and how many device calls
 /// the events have made.
@@ -138,19 +138,19 @@ impl<D: CrashDisk> Running<D> {
                 run.note_step(step);
             }
             Event::Log => {
-                let step = self.log();
+                let step = self.step_call(Side::Log);
                 run.note_step(step);
             }
             Event::LogIo => {
-                let step = self.log_io();
+                let step = self.make_call(Side::Log);
                 run.note_step(step);
             }
             Event::Install => {
-                let step = self.install();
+                let step = self.step_call(Side::Home);
                 run.note_step(step);
             }
             Event::InstIo => {
-                let step = self.inst_io();
+                let step = self.make_call(Side::Home);
                 run.note_step(step);
             }
         }
@@ -248,100 +248,50 @@ impl<D: CrashDisk> Running<D> {
 }
 
 impl<D: CrashDisk> Running<D> {
-    // Gives back the log's device call that was made, or takes the next.
-    fn log(&mut self) -> Option<Step>
+    // Gives back the device call of a side that was made, or takes the next.
+    fn step_call(&mut self, side: Side) -> Option<Step>
         requires { RunsWell self.old.workers.items self.old.store.core self.old.calls }
         ensures well { RunsWell self.new.workers.items self.new.store.core self.new.calls }
         ensures model { D.keeps_model self.new.store.disk → D.keeps_model self.old.store.disk }
         ensures quiet { calls_device result ≡ false }
-        ensures step { IsLogStep MayLog
+        ensures step { IsLogStep (MayStep side)
             (side_of (D.device self.old.store.disk) self.old.store.core self.old.calls) result
             (side_of (D.device self.new.store.disk) self.new.store.core self.new.calls) }
         ensures workers { self.new.workers ≡ self.old.workers }
-        ensures clock { self.new.clock ≡ counted self.old.clock result }
+        ensures clock { self.new.clock ≡ self.old.clock }
     {
-        the_logger_leaves_the_store_open();
+        the_calls_of_a_side_are_steps();
         a_device_counts_the_calls_of_its_steps();
-        what_was_read_is_at_home();
         self.store.core.lawful();
-        let stepped = self.calls.logger.step(Side::Log, &mut self.store.core);
+        let stepped = self.calls.step(side, &mut self.store.core);
         self.store.core.lawful();
         match stepped {
-            Some(Stepped::Next(call)) => Some(Step::LogNext(call)),
-            Some(Stepped::Done(ok)) => Some(Step::LogDone(ok)),
+            Some(Stepped::Next(call)) => Some(taken(side, call)),
+            Some(Stepped::Done(ok)) => Some(given(side, ok)),
             None => None,
         }
     }
 
-    // The log's device call is made.
-    fn log_io(&mut self) -> Option<Step>
+    // The device call of a side is made.
+    fn make_call(&mut self, side: Side) -> Option<Step>
         requires { RunsWell self.old.workers.items self.old.store.core self.old.calls }
         ensures well { RunsWell self.new.workers.items self.new.store.core self.new.calls }
         ensures model { D.keeps_model self.new.store.disk → D.keeps_model self.old.store.disk }
         ensures does { DoesItsStep
             (side_of (D.device self.old.store.disk) self.old.store.core self.old.calls) result
             (side_of (D.device self.new.store.disk) self.new.store.core self.new.calls) }
-        ensures step { IsLogStep MayLogIo
+        ensures step { IsLogStep (MayMake side)
             (side_of (D.device self.old.store.disk) self.old.store.core self.old.calls) result
             (side_of (D.device self.new.store.disk) self.new.store.core self.new.calls) }
         ensures workers { self.new.workers ≡ self.old.workers }
         ensures clock { self.new.clock ≡ counted self.old.clock result }
     {
-        the_logger_leaves_the_store_open();
+        the_calls_of_a_side_are_steps();
         a_device_counts_the_calls_of_its_steps();
-        what_was_read_is_at_home();
         self.store.core.lawful();
-        let ok = self.calls.logger.make(&mut self.store.disk)?;
+        let ok = self.calls.make(side, &mut self.store.disk)?;
         self.count();
-        Some(Step::LogIo(ok))
-    }
-
-    // Gives back the installer's device call that was made, or takes the next.
-    fn install(&mut self) -> Option<Step>
-        requires { RunsWell self.old.workers.items self.old.store.core self.old.calls }
-        ensures well { RunsWell self.new.workers.items self.new.store.core self.new.calls }
-        ensures model { D.keeps_model self.new.store.disk → D.keeps_model self.old.store.disk }
-        ensures quiet { calls_device result ≡ false }
-        ensures step { IsLogStep MayInstall
-            (side_of (D.device self.old.store.disk) self.old.store.core self.old.calls) result
-            (side_of (D.device self.new.store.disk) self.new.store.core self.new.calls) }
-        ensures workers { self.new.workers ≡ self.old.workers }
-        ensures clock { self.new.clock ≡ counted self.old.clock result }
-    {
-        the_installer_leaves_the_store_open();
-        a_device_counts_the_calls_of_its_steps();
-        what_was_read_is_at_home();
-        self.store.core.lawful();
-        let stepped = self.calls.installer.step(Side::Home, &mut self.store.core);
-        self.store.core.lawful();
-        match stepped {
-            Some(Stepped::Next(call)) => Some(Step::InstNext(call)),
-            Some(Stepped::Done(ok)) => Some(Step::InstDone(ok)),
-            None => None,
-        }
-    }
-
-    // The installer's device call is made.
-    fn inst_io(&mut self) -> Option<Step>
-        requires { RunsWell self.old.workers.items self.old.store.core self.old.calls }
-        ensures well { RunsWell self.new.workers.items self.new.store.core self.new.calls }
-        ensures model { D.keeps_model self.new.store.disk → D.keeps_model self.old.store.disk }
-        ensures does { DoesItsStep
-            (side_of (D.device self.old.store.disk) self.old.store.core self.old.calls) result
-            (side_of (D.device self.new.store.disk) self.new.store.core self.new.calls) }
-        ensures step { IsLogStep MayInstIo
-            (side_of (D.device self.old.store.disk) self.old.store.core self.old.calls) result
-            (side_of (D.device self.new.store.disk) self.new.store.core self.new.calls) }
-        ensures workers { self.new.workers ≡ self.old.workers }
-        ensures clock { self.new.clock ≡ counted self.old.clock result }
-    {
-        the_installer_leaves_the_store_open();
-        a_device_counts_the_calls_of_its_steps();
-        what_was_read_is_at_home();
-        self.store.core.lawful();
-        let ok = self.calls.installer.make(&mut self.store.disk)?;
-        self.count();
-        Some(Step::InstIo(ok))
+        Some(made(side, ok))
     }
 
     /// The store, once what is out was given back and the workers have ended.
@@ -424,7 +374,72 @@ fn end_workers(workers: Vec<Worker>, core: &mut Core<Done>)
     rest.destroy_empty();
 }
 
+// The step in which a side takes a call.
+fn taken(side: Side, call: IoCall) -> Step
+    ensures step { result ≡ takes side call }
+    ensures quiet { calls_device (Some result) ≡ false }
+{
+    match side {
+        Side::Log => Step::LogNext(call),
+        Side::Home => Step::InstNext(call),
+    }
+}
+
+// The step in which a side's call is made.
+fn made(side: Side, ok: bool) -> Step
+    ensures step { result ≡ makes side ok }
+    ensures calls { calls_device (Some result) ≡ true }
+{
+    match side {
+        Side::Log => Step::LogIo(ok),
+        Side::Home => Step::InstIo(ok),
+    }
+}
+
+// The step in which a side gives its call back.
+fn given(side: Side, ok: bool) -> Step
+    ensures step { result ≡ gives_back side ok }
+    ensures quiet { calls_device (Some result) ≡ false }
+{
+    match side {
+        Side::Log => Step::LogDone(ok),
+        Side::Home => Step::InstDone(ok),
+    }
+}
+
 impl Calls {
+    // A side gives its call back, or takes the next.
+    fn step(&mut self, side: Side, core: &mut Core<Done>) -> Option<Stepped>
+        ensures step { HasStepped (may_call side) (goes_out side) (comes_back side) core.old
+            (of_side side self.old).io (of_side side self.old).made result core.new
+            (of_side side self.new).io (of_side side self.new).made }
+        ensures beside { beside side self.new ≡ beside side self.old }
+        ensures within { AreWithin core.old.log.blocks self.old → AreWithin core.new.log.blocks self.new }
+        ensures blocks { core.new.log.blocks ≡ core.old.log.blocks }
+        ensures inodes { core.new.inodes ≡ core.old.inodes }
+    {
+        match side {
+            Side::Log => self.logger.step(Side::Log, core),
+            Side::Home => self.installer.step(Side::Home, core),
+        }
+    }
+
+    // A side's call is made.
+    fn make<D: CrashDisk>(&mut self, side: Side, disk: &mut D) -> Option<bool>
+        ensures made { IsTried (call_is_made side) (D.device disk.old) (of_side side self.old).io
+            (of_side side self.old).made result (D.device disk.new) (of_side side self.new).made }
+        ensures io { (of_side side self.new).io ≡ (of_side side self.old).io }
+        ensures beside { beside side self.new ≡ beside side self.old }
+        ensures within { (blocks : ℕ) → AreWithin blocks self.old → AreWithin blocks self.new }
+        ensures size { (D.device disk.new).size ≡ (D.device disk.old).size }
+        ensures model { D.keeps_model disk.new → D.keeps_model disk.old }
+    {
+        match side {
+            Side::Log => self.logger.make(disk),
+            Side::Home => self.installer.make(disk),
+        }
+    }
+
     // Gives back what is out.
     fn end(self, core: &mut Core<Done>)
         ensures blocks { core.new.log.blocks ≡ core.old.log.blocks }

@@ -4,13 +4,13 @@ use Rattle.store_runs.proofs.MovesOne.{moves_one}
 use Rattle.store_runs.proofs.runs.running.Running.hand.Goals as goal
 
 pub returns-then-hand-clause-step : goal.returns-then-hand-clause-step
-returns-then-hand-clause-step g c = λ there.
+returns-then-hand-clause-step g c = λ there sound fits.
     moves_one c.args.self.now.workers.items c.args.worker _ c.index_mut.result.now c.hand.new.self there
     c.index_mut.ensures.value
     ((refl, c.hand.ensures.taken.0 c.if-hand.true, c.hand.ensures.took c.if-hand.true), c.hand.ensures.fits)
 
 pub returns-else-hand-clause-step : goal.returns-else-hand-clause-step
-returns-else-hand-clause-step g c = λ there.
+returns-else-hand-clause-step g c = λ there sound fits.
     moves_one c.args.self.now.workers.items c.args.worker _ c.index_mut.result.now c.hand.new.self there
     c.index_mut.ensures.value (
       (

@@ -1,4 +1,4 @@
-use Rattle.std.proofs.Common.{◌≡◌, ◌<◌, ap, sym, subst, inl, inr, arith, ℕ, List, length, false, Option, None}
+use Rattle.std.proofs.Common.{◌≡◌, ◌∙◌, ◌<◌, Bool, if◌then◌else◌, ap, sym, subst, inl, inr, arith, ℕ, List, length, false, Option, None}
 use Rattle.std.proofs.lemmas.Bool.{cases_lt}
 use Rattle.std.proofs.lemmas.List.{length-map}
 use Rattle.disk.specs.Device.{current}
@@ -11,7 +11,7 @@ use Rattle.store_promise.specs.ToldOf.{call_told}
 use Rattle.store_promise.specs.Transcript.{calls_device}
 use Rattle.store_promise.proofs.DeviceCalls.{does_nothing, not_called}
 use Rattle.store_runs.specs.Going.{IsGoing, IsNextEvent, NotesStep}
-use Rattle.store_runs.specs.Running.{DoesItsStep, side_of, states_of}
+use Rattle.store_runs.specs.Running.{DoesItsStep, counted, one_more, side_of, states_of}
 use Rattle.store_workers.specs.declared.workers.Worker.{Worker}
 use Rattle.store_workers.specs.declared.workers.parts.State.{State}
 use Rattle.store_runs.proofs.GoingRead.{with_model}
@@ -31,6 +31,11 @@ is_quiet old new made moved none =
     does_nothing (call_told old.logging) (call_told old.installing) made (current old.device) (current new.device)
     none (not_called old.device new.device made moved none)
 
+-- it isn't counted
+uncounted : (clock next : ℕ) (made : Option Step) → calls_device made ≡ false → next ≡ clock
+    → next ≡ counted clock made
+uncounted clock next made none same = same ∙ sym (ap (λ (calls : Bool). if calls then one_more clock else clock) none)
+
 -- by whether there is a worker of the number
 by_number : {A : Type 0} (number count : ℕ) → (number < count → A) → ((number < count → ⊥) → A) → A
 by_number number count there absent = elim (cases_lt number count) [
@@ -41,21 +46,22 @@ by_number number count there absent = elim (cases_lt number count) [
 pub returns-in-Log-clause-goes : goal.returns-in-Log-clause-goes
 returns-in-Log-clause-goes g c = λ b keeps next at.
     let before = c.args.self.now in
-    let after = c.log-step.new.self in
+    let after = c.step_call-step.new.self in
     let notes = c.note_step-in-Log.ensures in
     let old = side_of (g.D.CrashDisk.device before.store.disk) before.store.core before.calls in
     let new = side_of (g.D.CrashDisk.device after.store.disk) after.store.core after.calls in
     taken_on b old new (states_of before.workers.items) (states_of after.workers.items) before.clock after.clock
-    c.log-step.result c.args.run.now
-    c.note_step-in-Log.new.self at c.has_few_steps.ensures c.log-step.ensures.clock
-    c.log-step.ensures.step.device
+    c.step_call-step.result c.args.run.now
+    c.note_step-in-Log.new.self at c.has_few_steps.ensures
+    (uncounted before.clock after.clock c.step_call-step.result c.step_call-step.ensures.quiet c.step_call-step.ensures.clock)
+    c.step_call-step.ensures.step.device
     (subst (λ (ws : List State). IsGoing b new ws c.note_step-in-Log.new.self)
-    (sym (ap (λ ws. states_of ws.items) c.log-step.ensures.workers))
-    (c.a_log_event_leaves_a_run_going.ensures b event.Log old new c.log-step.result
+    (sym (ap (λ ws. states_of ws.items) c.step_call-step.ensures.workers))
+    (c.a_log_event_leaves_a_run_going.ensures b event.Log old new c.step_call-step.result
     (states_of before.workers.items) c.args.run.now
     c.note_step-in-Log.new.self (subst (λ (e : Event). IsNextEvent b e c.args.run.now) c.in-Log.is next)
-    c.log-step.ensures.step
-    (is_quiet old new c.log-step.result c.log-step.ensures.step.device c.log-step.ensures.quiet)
+    c.step_call-step.ensures.step
+    (is_quiet old new c.step_call-step.result c.step_call-step.ensures.step.device c.step_call-step.ensures.quiet)
     (record {
       steps = notes.steps;
       boot = notes.boot;
@@ -66,21 +72,21 @@ returns-in-Log-clause-goes g c = λ b keeps next at.
 pub returns-in-LogIo-clause-goes : goal.returns-in-LogIo-clause-goes
 returns-in-LogIo-clause-goes g c = λ b keeps next at.
     let before = c.args.self.now in
-    let after = c.log_io-step.new.self in
+    let after = c.make_call-step.new.self in
     let notes = c.note_step-in-LogIo.ensures in
     let old = side_of (g.D.CrashDisk.device before.store.disk) before.store.core before.calls in
     let new = side_of (g.D.CrashDisk.device after.store.disk) after.store.core after.calls in
     taken_on b old new (states_of before.workers.items) (states_of after.workers.items) before.clock after.clock
-    c.log_io-step.result c.args.run.now
-    c.note_step-in-LogIo.new.self at c.has_few_steps.ensures c.log_io-step.ensures.clock
-    c.log_io-step.ensures.step.device
+    c.make_call-step.result c.args.run.now
+    c.note_step-in-LogIo.new.self at c.has_few_steps.ensures c.make_call-step.ensures.clock
+    c.make_call-step.ensures.step.device
     (subst (λ (ws : List State). IsGoing b new ws c.note_step-in-LogIo.new.self)
-    (sym (ap (λ ws. states_of ws.items) c.log_io-step.ensures.workers))
-    (c.a_log_event_leaves_a_run_going.ensures b event.LogIo old new c.log_io-step.result
+    (sym (ap (λ ws. states_of ws.items) c.make_call-step.ensures.workers))
+    (c.a_log_event_leaves_a_run_going.ensures b event.LogIo old new c.make_call-step.result
     (states_of before.workers.items) c.args.run.now
     c.note_step-in-LogIo.new.self (subst (λ (e : Event). IsNextEvent b e c.args.run.now) c.in-LogIo.is next)
-    c.log_io-step.ensures.step
-    c.log_io-step.ensures.does
+    c.make_call-step.ensures.step
+    c.make_call-step.ensures.does
     (record {
       steps = notes.steps;
       boot = notes.boot;
@@ -91,21 +97,23 @@ returns-in-LogIo-clause-goes g c = λ b keeps next at.
 pub returns-in-Install-clause-goes : goal.returns-in-Install-clause-goes
 returns-in-Install-clause-goes g c = λ b keeps next at.
     let before = c.args.self.now in
-    let after = c.install-step.new.self in
+    let after = c.step_call-step-in-Install.new.self in
     let notes = c.note_step-in-Install.ensures in
     let old = side_of (g.D.CrashDisk.device before.store.disk) before.store.core before.calls in
     let new = side_of (g.D.CrashDisk.device after.store.disk) after.store.core after.calls in
     taken_on b old new (states_of before.workers.items) (states_of after.workers.items) before.clock after.clock
-    c.install-step.result c.args.run.now
-    c.note_step-in-Install.new.self at c.has_few_steps.ensures c.install-step.ensures.clock
-    c.install-step.ensures.step.device
+    c.step_call-step-in-Install.result c.args.run.now
+    c.note_step-in-Install.new.self at c.has_few_steps.ensures
+    (uncounted before.clock after.clock c.step_call-step-in-Install.result
+    c.step_call-step-in-Install.ensures.quiet c.step_call-step-in-Install.ensures.clock)
+    c.step_call-step-in-Install.ensures.step.device
     (subst (λ (ws : List State). IsGoing b new ws c.note_step-in-Install.new.self)
-    (sym (ap (λ ws. states_of ws.items) c.install-step.ensures.workers))
-    (c.a_log_event_leaves_a_run_going.ensures b event.Install old new c.install-step.result
+    (sym (ap (λ ws. states_of ws.items) c.step_call-step-in-Install.ensures.workers))
+    (c.a_log_event_leaves_a_run_going.ensures b event.Install old new c.step_call-step-in-Install.result
     (states_of before.workers.items) c.args.run.now
     c.note_step-in-Install.new.self (subst (λ (e : Event). IsNextEvent b e c.args.run.now) c.in-Install.is next)
-    c.install-step.ensures.step
-    (is_quiet old new c.install-step.result c.install-step.ensures.step.device c.install-step.ensures.quiet)
+    c.step_call-step-in-Install.ensures.step
+    (is_quiet old new c.step_call-step-in-Install.result c.step_call-step-in-Install.ensures.step.device c.step_call-step-in-Install.ensures.quiet)
     (record {
       steps = notes.steps;
       boot = notes.boot;
@@ -116,21 +124,21 @@ returns-in-Install-clause-goes g c = λ b keeps next at.
 pub returns-in-InstIo-clause-goes : goal.returns-in-InstIo-clause-goes
 returns-in-InstIo-clause-goes g c = λ b keeps next at.
     let before = c.args.self.now in
-    let after = c.inst_io-step.new.self in
+    let after = c.make_call-step-in-InstIo.new.self in
     let notes = c.note_step-in-InstIo.ensures in
     let old = side_of (g.D.CrashDisk.device before.store.disk) before.store.core before.calls in
     let new = side_of (g.D.CrashDisk.device after.store.disk) after.store.core after.calls in
     taken_on b old new (states_of before.workers.items) (states_of after.workers.items) before.clock after.clock
-    c.inst_io-step.result c.args.run.now
-    c.note_step-in-InstIo.new.self at c.has_few_steps.ensures c.inst_io-step.ensures.clock
-    c.inst_io-step.ensures.step.device
+    c.make_call-step-in-InstIo.result c.args.run.now
+    c.note_step-in-InstIo.new.self at c.has_few_steps.ensures c.make_call-step-in-InstIo.ensures.clock
+    c.make_call-step-in-InstIo.ensures.step.device
     (subst (λ (ws : List State). IsGoing b new ws c.note_step-in-InstIo.new.self)
-    (sym (ap (λ ws. states_of ws.items) c.inst_io-step.ensures.workers))
-    (c.a_log_event_leaves_a_run_going.ensures b event.InstIo old new c.inst_io-step.result
+    (sym (ap (λ ws. states_of ws.items) c.make_call-step-in-InstIo.ensures.workers))
+    (c.a_log_event_leaves_a_run_going.ensures b event.InstIo old new c.make_call-step-in-InstIo.result
     (states_of before.workers.items) c.args.run.now
     c.note_step-in-InstIo.new.self (subst (λ (e : Event). IsNextEvent b e c.args.run.now) c.in-InstIo.is next)
-    c.inst_io-step.ensures.step
-    c.inst_io-step.ensures.does
+    c.make_call-step-in-InstIo.ensures.step
+    c.make_call-step-in-InstIo.ensures.does
     (record {
       steps = notes.steps;
       boot = notes.boot;

@@ -1,7 +1,7 @@
 use Rattle.std.proofs.Common.{rules, sym, subst, ◌<◌, ℕ, All, length, set}
 use Rattle.store_workers.specs.Worker.{ReadsWithin}
 use Rattle.store_workers.specs.declared.workers.Worker.{Worker}
-use Rattle.store_runs.specs.Running.{IsWithin}
+use Rattle.store_runs.specs.Running.{AreWithin}
 use Rattle.store_runs.proofs.MovesOne.{all_get, all_set, moves_one}
 use Rattle.store_runs.proofs.runs.running.Running.work.Goals as goal
 
@@ -18,8 +18,7 @@ returns-clause-well g c =
     record {
       reads = subst (λ (n : ℕ). All (λ (w : Worker). ReadsWithin n w.state)
           (set workers c.args.worker c.work_of.new.one)) blocks reads;
-      log_within = subst (λ (n : ℕ). IsWithin n c.args.self.now.calls.logger.io) blocks c.requires.well.log_within;
-      inst_within = subst (λ (n : ℕ). IsWithin n c.args.self.now.calls.installer.io) blocks c.requires.well.inst_within;
+      within = subst (λ (n : ℕ). AreWithin n c.args.self.now.calls) blocks c.requires.well.within;
     }
 
 pub returns-clause-step : goal.returns-clause-step
