@@ -4,15 +4,11 @@ ghost use Rattle.std.specs.Prelude.{ℕ, IfOk, ◌∷◌, true, false, is_some, 
 ghost use Rattle.limits.specs.declared.TheConstants.{CHANGED_BLOCKS};
 ghost use Rattle.objects.specs.declared.addr.Addr.{Addr};
 ghost use Rattle.wal_law.specs.Log.{settled_place, installed_place, tail_count, added_blocks};
-ghost use Rattle.wal_law.specs.Calls.{LogCallGoesOut, LogCallComesBack, InstCallGoesOut, InstCallComesBack};
 ghost use Rattle.wal_law.specs.Calls.{AgreesBeside, Pending, home_after};
 ghost use Rattle.disk.specs.Device.{Device, current, newest as newest_content};
 ghost use Rattle.disk.specs.Crash.{Image};
 ghost use Rattle.wal.specs.Sides.{IsNextCall, call_comes_back, call_goes_out, is_out, may_call, with_back};
 ghost use Rattle.wal_law.specs.Io.{IsCallWithin};
-ghost use Rattle.wal_law.specs.Logger.{IsNextLogCall, may_log, is_log_out, with_log_back};
-ghost use Rattle.wal_law.specs.Installer.{IsNextInstCall, may_install, is_inst_out};
-ghost use Rattle.wal_law.specs.Installer.{with_inst_back};
 ghost use Rattle.txn_law.specs.Core.{IsOut, with_begun, with_log_call, with_inst_call, without, past};
 ghost use Rattle.txn_law.specs.CoreLaw.{IsFresh, IsLawfulCore};
 ghost use Rattle.txn_law.specs.CoreWindow.{IsHomeOf, KeepsHome, KeepsReads, IsPending};
@@ -23,7 +19,8 @@ ghost use Rattle.txn_law.specs.Leaves.{without_fetch};
 ghost use Rattle.txn_law.specs.Wishes.{IsWhole};
 ghost use Rattle.txn.specs.Answering.{OfSome};
 ghost use Rattle.txn.specs.Outcomes.{IsWanted, IsWithin, IsClaimed, IsCommit, IsGiven, IsSetBy};
-ghost use Rattle.txn.specs.Sides.{CoreBack, LeavesBack, base_back, with_call};
+ghost use Rattle.txn.specs.Sides.{CoreBack, CoreHandsOut, CoreTakesBack, LeavesBack, base_back, with_call};
+ghost use Rattle.disk.specs.declared.block.Side.TheVariants.{Log as LogSide, Home};
 
 mod ending;
 mod places;
@@ -306,63 +303,30 @@ impl<C: Change> Core<C> {
         self.state.lawful();
     }
 
-    /// The log's next device call, if there is one and none is out.
+    /// The logger's next device call, if there is one and none is out.
     pub fn log_next(&mut self) -> Option<LogIo>
-        ensures causes { is_some result ≡ may_log self.old.log }
-        ensures some { IsSome result → self.new ≡ with_log_call self.old }
-        ensures none { IsNone result → self.new ≡ self.old }
-        ensures within { IfSome result (λ io. IsCallWithin self.new.log.blocks io.call) }
-        ensures call { IfSome result (IsNextLogCall self.new.log) }
-        ensures law { IfSome result (λ io. LogCallGoesOut self.old.log io self.new.log) }
-        ensures stays { (other : ℕ) → KeepsReads self.old self.new other }
-        ensures keeps { KeepsHome self.old self.new }
+        ensures { CoreHandsOut LogSide self.old result self.new }
     {
         self.next(Side::Log)
     }
 
-    /// Gives the log's device call back, with whether it was answered Ok.
+    /// Gives one back, with whether it was answered Ok.
     pub fn log_done(&mut self, io: LogIo, ok: bool)
-        ensures log { self.new.log ≡ (if is_log_out self.old.log io then with_log_back self.old.log ok
-            else self.old.log) }
-        ensures blocks { self.new.log.blocks ≡ self.old.log.blocks }
-        ensures others { self.new ≡ record self.old { log = self.new.log } }
-        ensures law { LogCallComesBack self.old.log io ok self.new.log }
-        ensures stays { (other : ℕ) → KeepsReads self.old self.new other }
-        ensures keeps { KeepsHome self.old self.new }
+        ensures { CoreTakesBack LogSide self.old io ok self.new }
     {
         self.done(Side::Log, io, ok);
     }
 
     /// The installer's next device call, if there is one and none is out.
     pub fn inst_next(&mut self) -> Option<InstIo>
-        ensures causes { is_some result ≡ may_install self.old.log }
-        ensures some { IsSome result → self.new ≡ with_inst_call self.old }
-        ensures none { IsNone result → self.new ≡ self.old }
-        ensures within { IfSome result (λ io. IsCallWithin self.new.log.blocks io.call) }
-        ensures call { IfSome result (IsNextInstCall self.new.log) }
-        ensures law { IfSome result (λ io. InstCallGoesOut self.old.log io self.new.log) }
-        ensures stays { (other : ℕ) → KeepsReads self.old self.new other }
-        ensures keeps { KeepsHome self.old self.new }
+        ensures { CoreHandsOut Home self.old result self.new }
     {
         self.next(Side::Home)
     }
 
-    /// Gives the installer's device call back, with whether it was answered Ok.
+    /// Gives one back, with whether it was answered Ok.
     pub fn inst_done(&mut self, io: InstIo, ok: bool)
-        ensures log { self.new.log ≡ (if is_inst_out self.old.log io then with_inst_back self.old.log ok
-            else self.old.log) }
-        ensures blocks { self.new.log.blocks ≡ self.old.log.blocks }
-        ensures only { self.new ≡ record self.old {
-          log = self.new.log;
-          records = past (installed_place self.new.log) self.old.records;
-          present = self.new.present;
-        } }
-        ensures leaves { Leaves self.new (taken_by self.old) (is_fetching self.old) (in_memory self.old) }
-        ensures law { InstCallComesBack self.old.log io ok self.new.log }
-        ensures stays { (other : ℕ) → KeepsReads self.old self.new other }
-        ensures keeps { (base : Image) → IsHomeOf base self.old
-            → IsHomeOf (if is_inst_out self.old.log io then home_after base self.old.log ok
-            else base) self.new }
+        ensures { CoreTakesBack Home self.old io ok self.new }
     {
         self.done(Side::Home, io, ok);
     }

@@ -1,6 +1,6 @@
 -- Logger and installer as one machine, by the side of the disk that each works on: the logger on the log's side, the
 -- installer on the home side. The agreements of the two stand in `wal_law`.
-use Rattle.std.specs.Prelude.{Bool, Result}
+use Rattle.std.specs.Prelude.{◌≡◌, Bool, if◌then◌else◌, IfSome, IsNone, IsSome, Option, Result, is_some}
 use Rattle.disk.specs.Device.{Device}
 use Rattle.disk.specs.declared.block.Side.{Side}
 use Rattle.disk.specs.declared.block.Side.TheVariants.{Log as LogSide, Home}
@@ -8,8 +8,9 @@ use Rattle.disk.specs.declared.device.Failed.{Failed}
 use Rattle.wal_law.specs.Calls.{InstCallComesBack, InstCallGoesOut, InstCallIsMade, LogCallComesBack, LogCallGoesOut}
 use Rattle.wal_law.specs.Calls.{LogCallIsMade}
 use Rattle.wal_law.specs.Installer.{IsNextInstCall, is_inst_out, may_install, with_inst_back, with_inst_out}
-use Rattle.wal_law.specs.Io.{Io}
-use Rattle.wal_law.specs.Log.{Log}
+use Rattle.wal_law.specs.Effects.{HasGoneOn}
+use Rattle.wal_law.specs.Io.{Io, IsCallWithin}
+use Rattle.wal_law.specs.Log.{IsLawful, Log}
 use Rattle.wal_law.specs.Logger.{IsNextLogCall, is_log_out, may_log, with_log_back, with_log_out}
 
 -- the side has a call to hand out
@@ -51,3 +52,20 @@ call_is_made Home = InstCallIsMade
 abbrev pub call_comes_back : Side → Log → Io → Bool → Log → Type 0
 call_comes_back LogSide = LogCallComesBack
 call_comes_back Home = InstCallComesBack
+
+-- The log hands out the side's next call, where it has one.
+pub record HandsOut (side : Side) (old : Log) (handed : Option Io) (new : Log) : Type 0 where
+  pub lawful : IsLawful old
+  pub causes : is_some handed ≡ may_call side old
+  pub none : IsNone handed → new ≡ old
+  pub some : IsSome handed → new ≡ with_out side old
+  pub call : IfSome handed (IsNextCall side new)
+  pub within : IfSome handed (λ io. IsCallWithin new.blocks io.call)
+  pub seen : HasGoneOn old new
+  pub law : IfSome handed (λ io. call_goes_out side old io new)
+
+-- The log takes a call of the side back, with whether it was made.
+pub record TakesBack (side : Side) (old : Log) (io : Io) (ok : Bool) (new : Log) : Type 0 where
+  pub log : new ≡ (if is_out side old io then with_back side old ok else old)
+  pub seen : HasGoneOn old new
+  pub law : call_comes_back side old io ok new

@@ -4,13 +4,12 @@ ghost use Rattle.std.specs.Prelude.{◌≡◌, ◌<◌, IfSome, IsNone, IsSome, 
 ghost use Rattle.std.specs.Prelude.{◌+◌, nat_lt, true, false};
 ghost use Rattle.wal.specs.Batch.{IsStageOf, step_at};
 ghost use Rattle.wal.specs.BySide.{has_batch, out_of, step_of, taken_by, with_side};
+ghost use Rattle.disk.specs.declared.block.Side.TheVariants.{Log as LogSide, Home};
+ghost use Rattle.wal.specs.Sides.{HandsOut, TakesBack};
 ghost use Rattle.wal.specs.Sides.{IsNextCall, call_comes_back, call_goes_out, is_out, may_call, with_back, with_out};
-ghost use Rattle.wal_law.specs.Calls.{InstCallComesBack, InstCallGoesOut, LogCallComesBack, LogCallGoesOut};
 ghost use Rattle.wal_law.specs.Effects.{HasGoneOn};
-ghost use Rattle.wal_law.specs.Installer.{IsNextInstCall, is_inst_out, may_install, with_inst_back, with_inst_out};
 ghost use Rattle.wal_law.specs.Io.{IsCallWithin};
 ghost use Rattle.wal_law.specs.Log.{IsLawful};
-ghost use Rattle.wal_law.specs.Logger.{IsNextLogCall, is_log_out, may_log, with_log_back, with_log_out};
 
 use super::Wal;
 use super::batch::Stage;
@@ -44,23 +43,14 @@ impl Wal {
 
     /// The logger's next call: the writes of the tail to its slots, a barrier, the write of the header, a barrier.
     pub fn log_next(&mut self) -> Option<LogIo>
-        ensures lawful { IsLawful self.old }
-        ensures causes { is_some result ≡ may_log self.old }
-        ensures none { IsNone result → self.new ≡ self.old }
-        ensures some { IsSome result → self.new ≡ with_log_out self.old }
-        ensures call { IfSome result (IsNextLogCall self.new) }
-        ensures within { IfSome result (λ io. IsCallWithin self.new.blocks io.call) }
-        ensures seen { HasGoneOn self.old self.new }
-        ensures law { IfSome result (λ io. LogCallGoesOut self.old io self.new) }
+        ensures { HandsOut LogSide self.old result self.new }
     {
         self.next(Side::Log)
     }
 
     /// Takes one back.
     pub fn log_done(&mut self, io: LogIo, ok: bool)
-        ensures log { self.new ≡ (if is_log_out self.old io then with_log_back self.old ok else self.old) }
-        ensures seen { HasGoneOn self.old self.new }
-        ensures law { LogCallComesBack self.old io ok self.new }
+        ensures { TakesBack LogSide self.old io ok self.new }
     {
         self.done(Side::Log, io, ok);
     }
@@ -68,22 +58,14 @@ impl Wal {
     /// The installer's next call: the writes of the newest logged content of each block to its home, a barrier, the
     /// write of the start behind them, a barrier.
     pub fn inst_next(&mut self) -> Option<InstIo>
-        ensures causes { is_some result ≡ may_install self.old }
-        ensures none { IsNone result → self.new ≡ self.old }
-        ensures some { IsSome result → self.new ≡ with_inst_out self.old }
-        ensures call { IfSome result (IsNextInstCall self.new) }
-        ensures within { IfSome result (λ io. IsCallWithin self.new.blocks io.call) }
-        ensures seen { HasGoneOn self.old self.new }
-        ensures law { IfSome result (λ io. InstCallGoesOut self.old io self.new) }
+        ensures { HandsOut Home self.old result self.new }
     {
         self.next(Side::Home)
     }
 
     /// Takes one back.
     pub fn inst_done(&mut self, io: InstIo, ok: bool)
-        ensures log { self.new ≡ (if is_inst_out self.old io then with_inst_back self.old ok else self.old) }
-        ensures seen { HasGoneOn self.old self.new }
-        ensures law { InstCallComesBack self.old io ok self.new }
+        ensures { TakesBack Home self.old io ok self.new }
     {
         self.done(Side::Home, io, ok);
     }
