@@ -1,0 +1,40 @@
+-- What a record that was judged is to a script, by what it was taken for.
+use Rattle.std.proofs.Common.{◌≡◌, ℕ, Some, None, inl, inr, refl, sym, ap}
+use Rattle.std.specs.Prelude.{◌⊎◌}
+use Rattle.nfs_types.specs.declared.ctx.Credential.{Credential}
+use Rattle.nfs_types.specs.declared.program.ProgramCall.{ProgramCall}
+use Rattle.rpc.specs.declared.refusal.Refusal.{Refusal}
+use Rattle.rpc.specs.declared.refusal.Refusal.TheVariants.{SystemError}
+use Rattle.session_wire.specs.declared.message.Judged.{Judged}
+use Rattle.session_wire.specs.declared.message.Judged.TheVariants.{Closed, Refused, Call}
+use Rattle.session_wire.specs.Judging.{Judges}
+use Rattle.sim_words.specs.Messages.{message_in}
+
+cause : Judged → Refusal
+cause Closed = SystemError
+cause (Refused xid refusal) = refusal
+cause (Call xid credential call) = SystemError
+
+-- the connection closes
+pub closed : (verdict : Judged) → Judges Closed verdict → message_in verdict ≡ None
+closed Closed told = refl
+closed (Refused xid refusal) told = refl
+closed (Call xid credential call) (inl told) = absurd (cc)
+closed (Call xid credential call) (inr told) = absurd (cc)
+
+-- it is refused, or memory was
+pub refused : (xid : ℕ) (refusal : Refusal) (verdict : Judged) → Judges (Refused xid refusal) verdict
+    → (message_in verdict ≡ None) ⊎ (refusal ≡ SystemError)
+unfolding cause
+refused xid refusal Closed told = inl refl
+refused xid refusal (Refused other why) told = inl refl
+refused xid refusal (Call other credential call) (inl told) = absurd (cc)
+refused xid refusal (Call other credential call) (inr told) = inr (ap cause told)
+
+-- it is a call
+pub called : (xid : ℕ) (credential : Credential) (call : ProgramCall) (verdict : Judged)
+    → Judges (Call xid credential call) verdict → verdict ≡ Call xid credential call
+called xid credential call Closed told = absurd (cc)
+called xid credential call (Refused other refusal) told = absurd (cc)
+called xid credential call (Call other caller of) (inl told) = sym told
+called xid credential call (Call other caller of) (inr told) = absurd (cc)

@@ -1,0 +1,56 @@
+-- Which command may stand where.
+use Rattle.std.specs.Prelude.{ℕ, ◌+◌, Bool, ◌&&◌, nat_lt, nat_le, List, length, Option, Some, None, if◌then◌else◌}
+use Rattle.limits.specs.declared.TheConstants.{BLOCK_BYTES}
+use Rattle.sim_words.specs.declared.command.Command.{Command}
+use Rattle.sim_words.specs.declared.command.Command.TheVariants as command
+use Rattle.sim_words.specs.declared.place.Place.{Place}
+use Rattle.sim_words.specs.declared.place.Place.TheVariants.{First, Opened, Running, Stopped}
+use Rattle.sim_words.specs.Reading.{◌>>=◌}
+
+-- the blocks of the image of an open store
+abbrev pub open_blocks : Place → Option ℕ
+open_blocks First = None
+open_blocks (Opened blocks) = Some blocks
+open_blocks (Running blocks) = Some blocks
+open_blocks (Stopped blocks) = None
+
+-- the blocks of an image that a crash left
+abbrev pub stopped_blocks : Place → Option ℕ
+stopped_blocks First = None
+stopped_blocks (Opened blocks) = None
+stopped_blocks (Running blocks) = None
+stopped_blocks (Stopped blocks) = Some blocks
+
+-- an image is made once
+abbrev pub after_image : Place → ℕ → Option Place
+after_image First blocks = Some (Opened blocks)
+after_image (Opened had) blocks = None
+after_image (Running had) blocks = None
+after_image (Stopped had) blocks = None
+
+-- files are told only of a store that was just opened
+abbrev pub after_show : Place → Option Place
+after_show First = None
+after_show (Opened blocks) = Some (Running blocks)
+after_show (Running blocks) = None
+after_show (Stopped blocks) = None
+
+-- bytes from an offset on lie in a block
+abbrev pub lies_in_a_block : ℕ → List ℕ → Bool
+lies_in_a_block offset bytes = nat_le (offset + length bytes) BLOCK_BYTES
+
+-- bytes may be changed within a block of the image
+abbrev pub after_poke : Place → ℕ → ℕ → List ℕ → Option Place
+after_poke place block offset bytes = stopped_blocks place
+    >>= λ blocks. if nat_lt block blocks && lies_in_a_block offset bytes then Some (Stopped blocks) else None
+
+-- The place behind a command that may stand at a place. A moment may stand at each, an image is opened again only
+-- where a crash left it, and the store goes on or the device stops only where it is open.
+abbrev pub after : Place → Command → Option Place
+after place (command.Time moment) = Some place
+after place (command.Image blocks inodes) = after_image place blocks
+after place command.Open = stopped_blocks place >>= λ blocks. Some (Opened blocks)
+after place (command.Act action) = open_blocks place >>= λ blocks. Some (Running blocks)
+after place (command.Crash choice) = open_blocks place >>= λ blocks. Some (Stopped blocks)
+after place (command.Poke block offset bytes) = after_poke place block offset bytes
+after place command.Show = after_show place

@@ -1,0 +1,50 @@
+-- A script as commands.
+use Rattle.std.specs.Prelude.{◌≡◌, ℕ, ◌+◌, Bool, ◌||◌, List, [], ◌∷◌, ◌++◌, Option, Some, None, Result, Ok, Err}
+use Rattle.std.specs.Prelude.{◌==◌, if◌then◌else◌, length}
+use Rattle.sim_words.specs.declared.command.Command.{Command}
+use Rattle.sim_words.specs.declared.fault.ScriptFault.{ScriptFault}
+use Rattle.sim_words.specs.declared.fault.ScriptFault.TheVariants.{Line, NoMemory}
+use Rattle.sim_words.specs.declared.place.Place.{Place}
+use Rattle.sim_words.specs.declared.place.Place.TheVariants.{First}
+use Rattle.sim_words.specs.Lines.{command_of}
+use Rattle.sim_words.specs.Places.{after}
+use Rattle.sim_words.specs.Reading.{◌>>=◌}
+use Rattle.sim_words.specs.Texts.{is_comment, lines_of, words_of}
+
+-- a line without words is passed over, and so is a comment
+abbrev pub is_passed_over : List ℕ → Bool
+is_passed_over line = is_comment line || (length (words_of line) == 0)
+
+-- the command of a line that stands at a place, and the place behind it
+abbrev pub taken : Place → List ℕ → Option (Command × Place)
+taken place line = do
+  command ← command_of (words_of line)
+  next ← after place command
+  Some (command, next)
+
+-- commands before others
+abbrev pub behind : List Command → Result (List Command) ℕ → Result (List Command) ℕ
+behind commands (Ok others) = Ok (commands ++ others)
+behind commands (Err line) = Err line
+
+-- the commands of a line that is none, and of one that is one, before those of the others
+abbrev pub going_on : ℕ → (Place → Result (List Command) ℕ) → Option (Command × Place) → Result (List Command) ℕ
+going_on number others None = Err number
+going_on number others (Some it) = behind (it.0 ∷ []) (others it.1)
+
+-- The commands of lines, the first of which stands at a place and has this number, or the number of the first bad
+-- line.
+unfoldable pub commands_from : Place → ℕ → List (List ℕ) → Result (List Command) ℕ
+commands_from place number [] = Ok []
+commands_from place number (line ∷ lines) =
+    if is_passed_over line then commands_from place (number + 1) lines
+    else going_on number (λ next. commands_from next (number + 1) lines) (taken place line)
+
+-- the commands of a script, or the number of its first bad line, the first line being line 1
+abbrev pub script_of : List ℕ → Result (List Command) ℕ
+script_of text = commands_from First 1 (lines_of text)
+
+-- why a script isn't read: its first bad line, or that memory was refused, of which nothing is said
+abbrev pub IsUnread : List ℕ → ScriptFault → Type 0
+IsUnread text (Line number) = script_of text ≡ Err number
+IsUnread text NoMemory = Unit {0}

@@ -1,0 +1,62 @@
+//! A message that a script hands to a worker.
+ghost use Rattle.std.specs.Prelude.{◌≡◌};
+ghost use Rattle.sim_words.specs.Messages.{message_of, message_with};
+ghost use Rattle.sim_words.specs.Reading.{Gives};
+
+use crate::fault::LineFault;
+use limits::RECORD_BYTES;
+use nfs_types::{Call, Credential, ProgramCall};
+use rpc::Refusal;
+use session_wire::{Judged, judge};
+use std::alloc::Global;
+
+/// A call of a procedure of NFS.
+#[derive(Drop)]
+pub struct Message {
+    pub xid: u32,
+    pub credential: Credential,
+    pub call: Call,
+}
+
+/// The call that these bytes spell.
+#[tactic(auto, using(crate::proofs::Messages::refused, crate::proofs::Messages::closed, crate::proofs::Messages::called))]
+pub fn message_of(alloc: Global, bytes: &[u8]) -> Result<Message, LineFault>
+    ensures { Gives (λ message. message) result (message_of bytes.now) }
+{
+    if bytes.len() > RECORD_BYTES {
+        return Err(LineFault::Bad);
+    }
+    match judge(alloc, bytes) {
+        Judged::Closed => Err(LineFault::Bad),
+        Judged::Refused { refusal, .. } => Err(fault_of(refusal)),
+        Judged::Call {
+            xid,
+            credential,
+            call,
+        } => message_with(xid, credential, call),
+    }
+}
+
+// What it is to a script that a call is refused: that is bad, but where memory was refused.
+fn fault_of(refusal: Refusal) -> LineFault
+    ensures { refusal ≡ Refusal.SystemError → result ≡ LineFault.NoMemory }
+{
+    match refusal {
+        Refusal::SystemError => LineFault::NoMemory,
+        _ => LineFault::Bad,
+    }
+}
+
+// A call of NFS as a message; one of MOUNT is bad.
+fn message_with(xid: u32, credential: Credential, call: ProgramCall) -> Result<Message, LineFault>
+    ensures { Gives (λ message. message) result (message_with xid credential call) }
+{
+    match call {
+        ProgramCall::Nfs(call) => Ok(Message {
+            xid,
+            credential,
+            call,
+        }),
+        ProgramCall::Mount(_) => Err(LineFault::Bad),
+    }
+}

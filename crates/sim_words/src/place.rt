@@ -1,0 +1,100 @@
+//! Which command may stand where.
+ghost use Rattle.std.specs.Prelude.{◌≡◌};
+ghost use Rattle.sim_words.specs.Places.{after, after_image, after_show, lies_in_a_block, open_blocks, stopped_blocks};
+ghost use Rattle.sim_words.specs.Places.{after_poke};
+
+use crate::command::Command;
+use limits::BLOCK_BYTES;
+
+/// Where the next command of a script stands, and how many blocks the image has.
+#[derive(Clone, Copy)]
+pub enum Place {
+    /// No image was made yet.
+    First,
+    /// The store was just opened.
+    Opened(u32),
+    /// The store is open, and something may have happened to it.
+    Running(u32),
+    /// The device has stopped.
+    Stopped(u32),
+}
+
+impl Place {
+    /// The place behind a command, or None where it may not stand here.
+    pub fn after(self, command: &Command) -> Option<Place>
+        ensures { result ≡ after self command.now }
+    {
+        match command {
+            Command::Time(_) => Some(self),
+            Command::Image { blocks, .. } => self.after_image(*blocks),
+            Command::Open => Some(Place::Opened(self.stopped_blocks()?)),
+            Command::Act(_) => Some(Place::Running(self.open_blocks()?)),
+            Command::Crash(_) => Some(Place::Stopped(self.open_blocks()?)),
+            Command::Poke {
+                block,
+                offset,
+                bytes,
+            } => self.after_poke(*block, *offset, bytes.as_slice()),
+            Command::Show => self.after_show(),
+        }
+    }
+
+    // An image is made once.
+    fn after_image(self, blocks: u32) -> Option<Place>
+        ensures { result ≡ after_image self blocks }
+    {
+        match self {
+            Place::First => Some(Place::Opened(blocks)),
+            Place::Opened(_) | Place::Running(_) | Place::Stopped(_) => None,
+        }
+    }
+
+    // Bytes may be changed within a block of the image.
+    fn after_poke(self, block: u32, offset: u32, bytes: &[u8]) -> Option<Place>
+        ensures { result ≡ after_poke self block offset bytes.now }
+    {
+        let blocks = self.stopped_blocks()?;
+        if block < blocks && lies_in_a_block(offset, bytes) {
+            Some(Place::Stopped(blocks))
+        } else {
+            None
+        }
+    }
+
+    // Files are told only of a store that was just opened.
+    fn after_show(self) -> Option<Place>
+        ensures { result ≡ after_show self }
+    {
+        match self {
+            Place::Opened(blocks) => Some(Place::Running(blocks)),
+            Place::First | Place::Running(_) | Place::Stopped(_) => None,
+        }
+    }
+
+    // The blocks of the image of an open store.
+    fn open_blocks(self) -> Option<u32>
+        ensures { result ≡ open_blocks self }
+    {
+        match self {
+            Place::Opened(blocks) | Place::Running(blocks) => Some(blocks),
+            Place::First | Place::Stopped(_) => None,
+        }
+    }
+
+    // The blocks of an image that a crash left.
+    fn stopped_blocks(self) -> Option<u32>
+        ensures { result ≡ stopped_blocks self }
+    {
+        match self {
+            Place::Stopped(blocks) => Some(blocks),
+            Place::First | Place::Opened(_) | Place::Running(_) => None,
+        }
+    }
+}
+
+// Whether bytes from an offset on lie in a block.
+fn lies_in_a_block(offset: u32, bytes: &[u8]) -> bool
+    ensures { result ≡ lies_in_a_block offset bytes.now }
+{
+    offset as usize + bytes.len() <= BLOCK_BYTES
+}
