@@ -51,6 +51,13 @@ impl Done {
     {
         &self.draft.reply
     }
+
+    /// The reply, by itself.
+    pub fn into_reply(self) -> Reply
+        ensures { result ≡ self.entry.reply }
+    {
+        self.draft.reply
+    }
 }
 
 impl Change for Done {

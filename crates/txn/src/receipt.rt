@@ -41,4 +41,11 @@ impl<C> Receipt<C> {
     {
         &self.change
     }
+
+    /// The change, by itself.
+    pub fn into_change(self) -> C
+        ensures { result ≡ self.change }
+    {
+        self.change
+    }
 }
