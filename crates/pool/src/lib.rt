@@ -13,7 +13,7 @@ pub use beginning::{Ledgers, Pool, begin};
 pub use locked::Locked;
 pub use log_seats::Caller;
 pub use pool_calls::{Gate, IoSeat, NoGate, Point, Turn, Whole};
-pub use pool_jobs::{Answer, Bearer, Connections, Job, Received, receive};
+pub use pool_jobs::{Answer, Bearer, Connections, Job, Received, Stream};
 pub use seat::Seat;
 pub use shared::{Look, Shared};
 pub use steps::{installer_io, installer_step, logger_io, logger_step, worker_io, worker_step};

@@ -6,10 +6,8 @@ use crate::connection::Connection;
 use crate::driving::{drive_batch, see_through, wait_while_crowded};
 use crate::hall::Hall;
 use crate::sizes::{MOST_WAITING_BYTES, REPLY_BATCH_BYTES, STREAM_PIECE_BYTES};
-use bytes::Bytes;
 use disk::Source;
-use pool::{Answer, Received, Whole, receive};
-use rpc::Records;
+use pool::{Answer, Received, Stream, Whole};
 use server_parts::SeatKey;
 use std::alloc::Global;
 use std::io::{ErrorKind, Read};
@@ -66,7 +64,7 @@ fn read_pieces<L: Ledger, G: Whole, I: Whole, P, S: Source, R: Wait + Clock>(
     let Ok(mut batch) = Batch::new(hall.alloc) else {
         return true;
     };
-    let mut records = Records::new(hall.alloc);
+    let mut stream = Stream::new(hall.alloc, desk.key, desk.number);
     for _ in rt.forever() {
         if !desk
             .connection
@@ -81,10 +79,10 @@ fn read_pieces<L: Ledger, G: Whole, I: Whole, P, S: Source, R: Wait + Clock>(
         if count == 0 {
             return true;
         }
-        if records.feed(&piece.as_slice()[..count]).is_err() {
+        if stream.feed(&piece, count).is_err() {
             return true;
         }
-        if !serve_records(rt, hall, desk, &mut records, &mut batch) {
+        if !serve_records(rt, hall, desk, &mut stream, &mut batch) {
             return true;
         }
     }
@@ -113,12 +111,12 @@ fn serve_records<L: Ledger, G: Whole, I: Whole, P, S: Source, R: Wait + Clock>(
     rt: &R,
     hall: &Hall<L, G, I, P, S>,
     desk: &Desk<'_>,
-    records: &mut Records,
+    stream: &mut Stream,
     batch: &mut Batch,
 ) -> bool {
     let mut replies = Vec::new(hall.alloc);
     for _ in rt.forever() {
-        let gathered = gather(rt, hall, desk, records, batch, &mut replies);
+        let gathered = gather(rt, hall, desk, stream, batch, &mut replies);
         let is_well = answer_batch(rt, hall, desk, batch, &mut replies);
         let goes_on = is_well && gathered != Gathered::Closes;
         let is_over = !goes_on || gathered == Gathered::All;
@@ -150,7 +148,7 @@ fn gather<L: Ledger, G: Whole, I: Whole, P, S, R: Wait>(
     rt: &R,
     hall: &Hall<L, G, I, P, S>,
     desk: &Desk<'_>,
-    records: &mut Records,
+    stream: &mut Stream,
     batch: &mut Batch,
     replies: &mut Vec<u8>,
 ) -> Gathered {
@@ -165,13 +163,13 @@ fn gather<L: Ledger, G: Whole, I: Whole, P, S, R: Wait>(
         if batch.is_full() || replies.len() >= REPLY_BATCH_BYTES {
             return Gathered::Batch;
         }
-        let Ok(next) = records.next() else {
+        let Ok(next) = stream.next(hall.alloc) else {
             return Gathered::Closes;
         };
-        let Some(record) = next else {
+        let Some(received) = next else {
             return Gathered::All;
         };
-        if !take_record(hall.alloc, desk, &record, batch, replies) {
+        if !take_record(hall.alloc, received, batch, replies) {
             return Gathered::Closes;
         }
     }
@@ -182,12 +180,11 @@ fn gather<L: Ledger, G: Whole, I: Whole, P, S, R: Wait>(
 // to end.
 fn take_record(
     alloc: Global,
-    desk: &Desk<'_>,
-    record: &Bytes,
+    received: Received,
     batch: &mut Batch,
     replies: &mut Vec<u8>,
 ) -> bool {
-    match receive(alloc, desk.key, desk.number, record) {
+    match received {
         Received::Closed => false,
         Received::Answered(answer) => put(alloc, &answer, replies),
         Received::Job(job) => batch.jobs.push_back(job).is_ok(),
