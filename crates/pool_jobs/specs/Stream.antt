@@ -4,7 +4,7 @@ use Rattle.pool_jobs.specs.declared.receiving.Received.{Received}
 use Rattle.pool_jobs.specs.Received.{IsReceived}
 
 -- a connection's key and number; what came of its stream; the records that were received, in their order; what is left
-pub record Course : Type 0 where
+pub record CutStream : Type 0 where
   pub key : ℕ
   pub number : ℕ
   pub came : List ℕ
@@ -15,7 +15,7 @@ abbrev pub records_of : List (List ℕ × Unit {0}) → List (List ℕ)
 records_of noted = map (λ one. one.0) noted
 
 -- One record more is received, and as this.
-pub record ReceivesNext (old : Course) (received : Received) (new : Course) : Type 0 where
+pub record ReceivesNext (old : CutStream) (received : Received) (new : CutStream) : Type 0 where
   pub message : List ℕ
   pub is : IsReceived old.key old.number message received
   pub rest : new ≡ record old { received = old.received ++ message ∷ []; left = new.left }

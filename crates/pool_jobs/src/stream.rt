@@ -30,9 +30,9 @@ pub struct Stream {
 impl Model for Stream {
     ghost use Rattle.std.specs.Prelude.{flat_map, take};
     ghost use Rattle.rpc.specs.Records.{CutsOff};
-    ghost use Rattle.pool_jobs.specs.Stream.{Course, records_of};
+    ghost use Rattle.pool_jobs.specs.Stream.{CutStream, records_of};
 
-    ghost Value = { Course };
+    ghost Value = { CutStream };
 
     ghost view = { λ s. record {
       key = s.key;
