@@ -2,6 +2,7 @@
 #![tactic(auto)]
 
 mod beginning;
+mod ending;
 mod locked;
 mod seat;
 mod shared;
@@ -10,6 +11,7 @@ mod told;
 mod work;
 
 pub use beginning::{Ledgers, Pool, begin};
+pub use ending::{Ended, Unsettled, end};
 pub use locked::Locked;
 pub use log_seats::Caller;
 pub use pool_calls::{Gate, IoSeat, NoGate, Point, Turn, Whole};
