@@ -4,9 +4,9 @@ ghost use Rattle.std.specs.Thread.{IsSend, IsSync};
 use crate::connection::Connection;
 use crate::hall::Hall;
 use crate::reading::read_all;
-use crate::sizes::{ACCEPT_SLEEP_MILLISECONDS, MOST_CONNECTIONS};
+use crate::sizes::{ACCEPT_SLEEP_MILLISECONDS, MOST_CONNECTIONS, SILENT_SECONDS};
 use disk::Source;
-use pool::Whole;
+use pool::{Connections, Whole};
 use std::alloc::Global;
 use std::net::{TcpListener, TcpStream};
 use std::sync::ledger::Ledger;
@@ -79,17 +79,17 @@ where
     );
 }
 
-// Lets a connection in, where not too many are open.
-fn let_in<L: Ledger, G: Whole, I: Whole, P, S, R: Wait>(
+// Lets a connection in, where not too many are open, or one of them gives it its place.
+fn let_in<L: Ledger, G: Whole, I: Whole, P, S, R: Wait + Clock>(
     rt: &R,
     hall: &Hall<L, G, I, P, S>,
     stream: TcpStream,
 ) -> Option<Guest> {
     let mut open = hall.signs.open.lock(rt);
-    if open.count() >= MOST_CONNECTIONS {
+    if open.count() >= MOST_CONNECTIONS && !make_place(rt, &mut *open) {
         return None;
     }
-    let connection = Arc::new(hall.alloc, Connection::new(hall.alloc, stream)).ok()?;
+    let connection = Arc::new(hall.alloc, Connection::new(rt, hall.alloc, stream)).ok()?;
     let writer = Arc::try_clone(&connection).ok()?;
     let listed = Arc::try_clone(&connection).ok()?;
     let (key, number) = open.accept(listed).ok()?;
@@ -99,6 +99,61 @@ fn let_in<L: Ledger, G: Whole, I: Whole, P, S, R: Wait>(
         key,
         number,
     })
+}
+
+// The connection that has been silent longest, and for how many seconds.
+#[derive(Clone, Copy)]
+struct Silent {
+    key: usize,
+    number: u64,
+    seconds: u64,
+}
+
+// Ends the connection that has been silent longest, where that is long enough. Whether there was one.
+fn make_place<R: Wait + Clock>(
+    rt: &R,
+    open: &mut Connections<Arc<Connection, Global>>,
+) -> bool {
+    let Some(silent) = longest_silent(rt, open) else {
+        return false;
+    };
+    let Some(connection) = open.find(silent.key, silent.number) else {
+        return false;
+    };
+    if !connection.outgoing.shut_silent(rt, SILENT_SECONDS) {
+        return false;
+    }
+    connection.close();
+    drop(open.close(silent.key, silent.number));
+    true
+}
+
+// The connection that has been silent longest, if one is silent.
+fn longest_silent<R: Wait + Clock>(
+    rt: &R,
+    open: &Connections<Arc<Connection, Global>>,
+) -> Option<Silent> {
+    let mut longest: Option<Silent> = None;
+    for key in 0..open.keys() {
+        let Some(bearer) = open.at(key) else {
+            continue;
+        };
+        let Some(seconds) = bearer.peer.outgoing.silent(rt) else {
+            continue;
+        };
+        let is_longer = match longest {
+            Some(found) => seconds > found.seconds,
+            None => true,
+        };
+        if is_longer {
+            longest = Some(Silent {
+                key,
+                number: bearer.number,
+                seconds,
+            });
+        }
+    }
+    longest
 }
 
 // Ends a connection for which there is no thread.

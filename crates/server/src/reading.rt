@@ -75,7 +75,10 @@ fn read_pieces<L: Ledger, G: Whole, I: Whole, P, S: Source, R: Wait + Clock>(
         {
             return false;
         }
-        let Ok(count) = read_piece(desk.connection, piece.as_mut_slice()) else {
+        desk.connection.outgoing.listen(rt);
+        let taken = read_piece(desk.connection, piece.as_mut_slice());
+        desk.connection.outgoing.hear(rt);
+        let Ok(count) = taken else {
             return false;
         };
         if count == 0 {
@@ -276,7 +279,12 @@ fn drive_on<L: Ledger, G: Whole, I: Whole, P, S: Source, R: Wait + Clock>(
 }
 
 // Writes the replies, if there are any. False where no more can be written.
-fn write<R: Wait>(rt: &R, alloc: Global, desk: &Desk<'_>, replies: &mut Vec<u8>) -> bool {
+fn write<R: Wait + Clock>(
+    rt: &R,
+    alloc: Global,
+    desk: &Desk<'_>,
+    replies: &mut Vec<u8>,
+) -> bool {
     if replies.is_empty() {
         return true;
     }
