@@ -1,5 +1,5 @@
 //! What a connection still has to be sent.
-ghost use Rattle.std.specs.Prelude.{◌≡◌, ◌≢◌, ◌↔◌, ◌⊎◌, ◌+◌, ◌-◌, ◌^◌, ◌≤◌, ◌||◌, [], true, false, not, max, min, IsTrue, IfSome, IfNone, length};
+ghost use Rattle.std.specs.Prelude.{◌≡◌, ◌≢◌, ◌↔◌, ◌⊎◌, ◌+◌, ◌-◌, ◌^◌, ◌<◌, ◌≤◌, ◌||◌, [], true, false, not, max, min, IsTrue, IfSome, IfNone, length};
 
 use crate::{Replies, Silence};
 use std::alloc::Global;
@@ -212,19 +212,23 @@ impl Outbox {
 
     /// Notes that bytes came at this second, or that none are waited for any more.
     pub fn hear(&mut self, second: u64)
-        ensures { self.new ≡ record self.old { silence = record {
-          last = max self.old.silence.last second;
-          listens = false;
-        } } }
+        ensures { self.new ≡ record self.old {
+          silence = record {
+            last = max self.old.silence.last second;
+            listens = false;
+          };
+        } }
     {
         self.silence.hear(second);
     }
 
     /// Notes that replies were written at this second.
     pub fn tell(&mut self, second: u64)
-        ensures { self.new ≡ record self.old { silence = record self.old.silence {
-          last = max self.old.silence.last second;
-        } } }
+        ensures { self.new ≡ record self.old {
+          silence = record self.old.silence {
+            last = max self.old.silence.last second;
+          };
+        } }
     {
         self.silence.tell(second);
     }
@@ -239,5 +243,23 @@ impl Outbox {
             return None;
         }
         self.silence.lasts(second)
+    }
+
+    /// Ends a connection that has been silent for more than so many seconds, so that another can have its place: no
+    /// more is written, and no call comes. Whether it has been; else nothing changes.
+    pub fn give_place(&mut self, second: u64, most: u64) -> bool
+        ensures given { (result ≡ true) ↔ (IsSilent self.old × (most < second - self.old.silence.last)) }
+        ensures ends { result ≡ true → (self.new.shut ≡ true) × (self.new.ended ≡ true)
+            × (self.new.replies.pending.items ≡ []) × (self.new.replies.writing ≡ false) }
+        ensures stays { result ≡ false → self.new ≡ self.old }
+    {
+        match self.silent(second) {
+            Some(seconds) if seconds > most => {
+                self.shut();
+                self.end();
+                true
+            }
+            _ => false,
+        }
     }
 }

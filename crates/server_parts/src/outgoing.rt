@@ -1,5 +1,5 @@
 //! The replies of a connection, shared by the threads that answer its calls.
-use crate::{Offer, Outbox};
+use crate::{Offer, Outbox, steady_second};
 use std::alloc::Global;
 use std::io::Write;
 use std::sync::{Condvar, Mutex, Wait};
@@ -20,7 +20,7 @@ impl Outgoing {
     /// Nothing waits, of a connection that has just come.
     pub fn new<R: Clock>(rt: &R, alloc: Global) -> Outgoing {
         Outgoing {
-            outbox: Mutex::new(Outbox::new(alloc, second(rt))),
+            outbox: Mutex::new(Outbox::new(alloc, steady_second(rt))),
             to_write: Condvar::new(),
             written: Condvar::new(),
         }
@@ -98,7 +98,7 @@ impl Outgoing {
     fn next_batch<R: Wait + Clock>(&self, rt: &R, is_done: bool, used: Vec<u8>) -> Option<Vec<u8>> {
         let mut outbox = self.outbox.lock(rt);
         let next = outbox.go_on(is_done, used);
-        outbox.tell(second(rt));
+        outbox.tell(steady_second(rt));
         self.written.notify_one();
         next
     }
@@ -152,35 +152,22 @@ impl Outgoing {
 
     /// Notes that bytes came, or that none are waited for any more.
     pub fn hear<R: Wait + Clock>(&self, rt: &R) {
-        self.outbox.lock(rt).hear(second(rt));
+        self.outbox.lock(rt).hear(steady_second(rt));
     }
 
-    /// For how many seconds the connection has been silent: its thread waits for bytes, each call is answered and each
-    /// reply written, and more can be.
-    pub fn silent<R: Wait + Clock>(&self, rt: &R) -> Option<u64> {
-        self.outbox.lock(rt).silent(second(rt))
+    /// For how many seconds the connection has been silent at this second (`steady_second`): its thread waits for bytes,
+    /// each call is answered and each reply written, and more can be.
+    pub fn silent<R: Wait>(&self, rt: &R, second: u64) -> Option<u64> {
+        self.outbox.lock(rt).silent(second)
     }
 
-    /// Writes no more, where the connection has been silent for more than so many seconds. Whether it was.
-    pub fn shut_silent<R: Wait + Clock>(&self, rt: &R, most: u64) -> bool {
-        let mut outbox = self.outbox.lock(rt);
-        let is_silent = match outbox.silent(second(rt)) {
-            Some(seconds) => seconds > most,
-            None => false,
-        };
-        if is_silent {
-            outbox.shut();
-            outbox.end();
+    /// Ends a connection that has been silent for more than so many seconds at this second (`steady_second`). Whether
+    /// it has been.
+    pub fn give_place<R: Wait>(&self, rt: &R, second: u64, most: u64) -> bool {
+        let is_given = self.outbox.lock(rt).give_place(second, most);
+        if is_given {
             self.to_write.notify_one();
         }
-        is_silent
-    }
-}
-
-// The second of a clock that doesn't go back. One that can't be read stands at its beginning: then no silence is long.
-fn second<R: Clock>(rt: &R) -> u64 {
-    match rt.monotonic() {
-        Ok(time) => time.as_secs(),
-        Err(_) => 0,
+        is_given
     }
 }
