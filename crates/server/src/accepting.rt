@@ -7,6 +7,7 @@ use crate::reading::read_all;
 use crate::sizes::{ACCEPT_SLEEP_MILLISECONDS, MOST_CONNECTIONS, SILENT_SECONDS};
 use disk::Source;
 use pool::{Connections, Whole};
+use server_parts::{Silent, steady_second};
 use std::alloc::Global;
 use std::net::{TcpListener, TcpStream};
 use std::sync::ledger::Ledger;
@@ -101,56 +102,47 @@ fn let_in<L: Ledger, G: Whole, I: Whole, P, S, R: Wait + Clock>(
     })
 }
 
-// The connection that has been silent longest, and for how many seconds.
-#[derive(Clone, Copy)]
-struct Silent {
-    key: usize,
-    number: u64,
-    seconds: u64,
-}
-
 // Ends the connection that has been silent longest, where that is long enough. Whether there was one.
-fn make_place<R: Wait + Clock>(
-    rt: &R,
-    open: &mut Connections<Arc<Connection, Global>>,
-) -> bool {
-    let Some(silent) = longest_silent(rt, open) else {
-        return false;
-    };
-    let Some(connection) = open.find(silent.key, silent.number) else {
-        return false;
-    };
-    if !connection.outgoing.shut_silent(rt, SILENT_SECONDS) {
-        return false;
+fn make_place<R: Wait + Clock>(rt: &R, open: &mut Connections<Arc<Connection, Global>>) -> bool {
+    let second = steady_second(rt);
+    for _ in 0..MOST_CONNECTIONS {
+        let Some(silent) = longest_silent(rt, open, second) else {
+            return false;
+        };
+        let Some(connection) = open.find(silent.key, silent.number) else {
+            return false;
+        };
+        if connection.outgoing.give_place(rt, second, SILENT_SECONDS) {
+            connection.close();
+            drop(open.close(silent.key, silent.number));
+            return true;
+        }
+        if silent.seconds <= SILENT_SECONDS {
+            return false;
+        }
+        // Something has come of it meanwhile.
     }
-    connection.close();
-    drop(open.close(silent.key, silent.number));
-    true
+    false
 }
 
-// The connection that has been silent longest, if one is silent.
-fn longest_silent<R: Wait + Clock>(
+// The connection that has been silent longest at this second, if one is silent.
+fn longest_silent<R: Wait>(
     rt: &R,
     open: &Connections<Arc<Connection, Global>>,
+    second: u64,
 ) -> Option<Silent> {
-    let mut longest: Option<Silent> = None;
+    let mut longest = None;
     for key in 0..open.keys() {
         let Some(bearer) = open.at(key) else {
             continue;
         };
-        let Some(seconds) = bearer.peer.outgoing.silent(rt) else {
-            continue;
-        };
-        let is_longer = match longest {
-            Some(found) => seconds > found.seconds,
-            None => true,
-        };
-        if is_longer {
-            longest = Some(Silent {
+        if let Some(seconds) = bearer.peer.outgoing.silent(rt, second) {
+            let silent = Silent {
                 key,
                 number: bearer.number,
                 seconds,
-            });
+            };
+            longest = Some(silent.or_longer(longest));
         }
     }
     longest
