@@ -3,7 +3,7 @@ ghost use Rattle.std.specs.Prelude.{◌≤◌, IfOk, length};
 
 use crate::batch::Batch;
 use crate::connection::Connection;
-use crate::driving::{drive_batch, see_through, wait_while_crowded};
+use crate::driving::{Seen, drive_batch, see_through, wait_while_crowded};
 use crate::hall::Hall;
 use crate::sizes::{MOST_WAITING_BYTES, REPLY_BATCH_BYTES, STREAM_PIECE_BYTES};
 use disk::Source;
@@ -73,7 +73,10 @@ fn read_pieces<L: Ledger, G: Whole, I: Whole, P, S: Source, R: Wait + Clock>(
         {
             return false;
         }
-        let Ok(count) = read_piece(desk.connection, piece.as_mut_slice()) else {
+        desk.connection.outgoing.listen(rt);
+        let taken = read_piece(desk.connection, piece.as_mut_slice());
+        desk.connection.outgoing.hear(rt);
+        let Ok(count) = taken else {
             return false;
         };
         if count == 0 {
@@ -255,7 +258,7 @@ fn answer_row<L: Ledger, G: Whole, I: Whole, P, S: Source, R: Wait + Clock>(
 }
 
 // Drives a seat, whose call counts as handed on, to its answer, and puts the reply. Where its change waits to be
-// settled it is parked. False where memory is refused for the reply.
+// settled it is parked. False where memory is refused for the reply, or no call is there to be answered.
 fn drive_on<L: Ledger, G: Whole, I: Whole, P, S: Source, R: Wait + Clock>(
     rt: &R,
     hall: &Hall<L, G, I, P, S>,
@@ -264,16 +267,20 @@ fn drive_on<L: Ledger, G: Whole, I: Whole, P, S: Source, R: Wait + Clock>(
     replies: &mut Vec<u8>,
 ) -> bool {
     match see_through(rt, hall, key) {
-        None => true,
-        Some(answer) => {
+        Seen::Parked => true,
+        Seen::Answered(answer) => {
             desk.connection.outgoing.take_back(rt);
             put(hall.alloc, &answer, replies)
+        }
+        Seen::Nothing => {
+            desk.connection.outgoing.take_back(rt);
+            false
         }
     }
 }
 
 // Writes the replies, if there are any. False where no more can be written.
-fn write<R: Wait>(rt: &R, alloc: Global, desk: &Desk<'_>, replies: &mut Vec<u8>) -> bool {
+fn write<R: Wait + Clock>(rt: &R, alloc: Global, desk: &Desk<'_>, replies: &mut Vec<u8>) -> bool {
     if replies.is_empty() {
         return true;
     }
