@@ -1,12 +1,12 @@
 //! From an open store over a file to a server.
-ghost use Rattle.std.specs.Prelude.{◌≡◌, ◌+◌};
+ghost use Rattle.std.specs.Prelude.{◌≡◌, ◌+◌, IfOk};
 ghost use Rattle.server.specs.Announcing.{Announces};
 
 use crate::announcing::Announcer;
 use crate::hall::Sides;
 use crate::serving::{ServeFault, serve};
 use disk::{BlockFile, FileDisk, FilePort, FileSource};
-use pool::{Ledgers, Whole, begin};
+use pool::{Ended, Ledgers, Whole, begin};
 use procs::Done;
 use std::alloc::Global;
 use std::marker::Brand;
@@ -19,7 +19,7 @@ use store_images::{Store, parts};
 use txn::Core;
 
 /// Serves from an open store: so many workers, and so many connections, or without end where that is 0. Then
-/// all is settled. It is announced once memory and threads are there; where that fails no client is served.
+/// all is settled, and the core is given back. It is announced once memory and threads are there; where that fails no client is served.
 pub fn serve_store<F, R, A>(
     rt: &R,
     alloc: Global,
@@ -28,12 +28,13 @@ pub fn serve_store<F, R, A>(
     workers: u32,
     connections: u32,
     announcer: A,
-) -> (A, Result<(), ServeFault>)
+) -> (A, Result<Ended, ServeFault>)
 where
     F: BlockFile + Send + Sync,
     R: Threads + Wait + Clock + Sync,
     A: Announcer + Drop,
-    ensures { Announces A.tells announcer result.1 result.0 }
+    ensures told { Announces A.tells announcer result.1 result.0 }
+    ensures boot { IfOk result.1 (λ ended. ended.core.boot ≡ store.core.boot) }
 {
     let (core, _, disk) = parts(store);
     let Ok((log, home, sources)) = disk.split(alloc, workers as usize) else {
@@ -71,7 +72,7 @@ fn serve_opened<L, G, I, F, R, A>(
     listener: &TcpListener,
     connections: u32,
     announcer: A,
-) -> (A, Result<(), ServeFault>)
+) -> (A, Result<Ended, ServeFault>)
 where
     L: Ledger + Send + Sync,
     G: Whole + Send + Sync,
@@ -86,7 +87,8 @@ where
     requires installed { (ledgers.installed.name ≡ I.name) × (ledgers.installed.parts ≡ I.parts)
         × (I.all ≡ I.parts) × (ledgers.installed.parts ≡ 1) × (I.first ≡ opened.core.inst_calls) }
     requires boot { opened.core.boot ≡ G.boot }
-    ensures { Announces A.tells announcer result.1 result.0 }
+    ensures told { Announces A.tells announcer result.1 result.0 }
+    ensures boot { IfOk result.1 (λ ended. ended.core.boot ≡ opened.core.boot) }
 {
     let Opened { core, workers } = opened;
     match begin::<L, G, I>(alloc, core, workers, ledgers) {

@@ -1,5 +1,5 @@
 //! The server: how it begins and ends.
-ghost use Rattle.std.specs.Prelude.{◌≡◌, IfErr};
+ghost use Rattle.std.specs.Prelude.{◌≡◌, IfErr, IfOk, Ok};
 ghost use Rattle.std.specs.Thread.{IsSend, IsSync};
 ghost use Rattle.server.specs.Announcing.{Announces};
 
@@ -11,7 +11,7 @@ use crate::logging::log_all;
 use crate::sizes::MOST_JOB_THREADS;
 use crate::working::{finish_all, work_all};
 use disk::{Port, Source};
-use pool::{Pool, Whole};
+use pool::{Ended, Pool, Unsettled, Whole, end};
 use std::alloc::Global;
 use std::net::TcpListener;
 use std::sync::Wait;
@@ -31,8 +31,8 @@ pub enum ServeFault {
     Device,
 }
 
-/// Serves so many connections, or without end where that is 0, and then settles all. It is announced once memory and
-/// threads are there; where that fails no client is served.
+/// Serves so many connections, or without end where that is 0, and then settles all, and gives the core back. It is
+/// announced once memory and threads are there; where that fails no client is served.
 pub fn serve<L, G, I, P, S, R, A>(
     rt: &R,
     alloc: Global,
@@ -41,7 +41,7 @@ pub fn serve<L, G, I, P, S, R, A>(
     listener: &TcpListener,
     connections: u32,
     announcer: A,
-) -> (A, Result<(), ServeFault>)
+) -> (A, Result<Ended, ServeFault>)
 where
     L: Ledger + Send + Sync,
     G: Whole + Send + Sync,
@@ -50,55 +50,34 @@ where
     S: Source + Send + Drop,
     R: Threads + Wait + Clock + Sync,
     A: Announcer + Drop,
-    ensures { Announces A.tells announcer result.1 result.0 }
+    ensures told { Announces A.tells announcer result.1 result.0 }
+    ensures boot { IfOk result.1 (λ ended. ended.core.boot ≡ G.boot) }
 {
     let settled = pool.shared.look(rt).settled.0;
     let signs = Signs::new(alloc, pool.seats.len(), settled);
     let devices = Devices::new(alloc, sides);
     let (Ok(signs), Ok(devices)) = (signs, devices) else {
-        dissolve(rt, pool);
+        drop(end(rt, pool));
         return (announcer, Err(ServeFault::Memory));
     };
     let hall = Hall::new(alloc, pool, devices, signs);
     let (announcer, ran) = run(rt, &hall, listener, connections, announcer);
-    let outcome = match ran {
-        Ok(()) => outcome_of(rt, &hall),
-        Err(fault) => Err(fault),
-    };
-    dissolve(rt, hall.into_pool());
-    (announcer, outcome)
+    let ended = all_settled(end(rt, hall.into_pool()));
+    match ran {
+        Ok(()) => (announcer, ended),
+        Err(fault) => (announcer, Err(fault)),
+    }
 }
 
-// Whether all is settled.
-fn outcome_of<L: Ledger, G: Whole, I: Whole, P, S, R: Wait>(
-    rt: &R,
-    hall: &Hall<L, G, I, P, S>,
-) -> Result<(), ServeFault>
-    ensures { IfErr result (λ fault. fault ≡ ServeFault.Device) }
+// The core with all settled, or that the device failed.
+fn all_settled(ended: Result<Ended, Unsettled>) -> Result<Ended, ServeFault>
+    ensures same { IfOk result (λ core. ended ≡ Ok core) }
+    ensures fault { IfErr result (λ fault. fault ≡ ServeFault.Device) }
 {
-    let look = hall.shared.look(rt);
-    if look.is_settled && !look.broken {
-        Ok(())
-    } else {
-        Err(ServeFault::Device)
+    match ended {
+        Ok(core) => Ok(core),
+        Err(Unsettled) => Err(ServeFault::Device),
     }
-}
-
-// Gives back what the seats have.
-fn dissolve<L: Ledger, G: Whole, I: Whole, R: Wait>(rt: &R, pool: Pool<L, G, I>) {
-    let Pool {
-        shared,
-        seats,
-        logger,
-        installer,
-    } = pool;
-    let mut seats = seats;
-    while let Some(seat) = seats.pop() {
-        shared.leave(rt, seat.into_inner());
-    }
-    seats.destroy_empty();
-    shared.leave_log(rt, logger);
-    shared.leave_install(rt, installer);
 }
 
 // Runs the threads, until so many connections have ended and all is settled. No connection is accepted before that it
