@@ -68,22 +68,20 @@ def call(stream, xid, more=b""):
 
 
 def further(server):
-    """A connection that is let in. Some may be closed before it: a thread that has just answered may not wait for bytes
-    yet."""
-    for _ in range(1000):
-        stream = server.connect()
-        if is_answered(stream, 7):
-            return stream
-        stream.close()
-    raise AssertionError("none of 1000 further connections was let in")
+    """A connection that is let in, where each other one waits for bytes."""
+    server.wait_until_idle()
+    stream = server.connect()
+    is_so("a further connection wasn't let in", is_answered(stream, 7))
+    return stream
 
 
 def full(server, clock, silent):
     """So many connections as are open at most. These have been silent since second 1000, the others since 1010 or later."""
     streams = [server.connect() for _ in range(MOST)]
-    # (these come first: when the others are answered, nothing goes on with them any more)
-    for it in [*silent, *others(silent)]:
+    for it in range(MOST):
         call(streams[it], it)
+    # (a thread notes the time once it has written a reply)
+    server.wait_until_idle()
     clock.set(1010)
     for it in others(silent):
         call(streams[it], it)
@@ -98,6 +96,7 @@ def test_the_connection_that_was_silent_longest_gives_its_place(place):
     clock = HeldClock(place, 1000)
     server = Server(place, place.image(), **clock.given)
     streams = full(server, clock, [17])
+    server.wait_until_idle()
     clock.set(1000 + MINUTE)
     with server.connect() as stream:
         is_so("a place was given away after a minute", not is_answered(stream, 8))
@@ -106,6 +105,7 @@ def test_the_connection_that_was_silent_longest_gives_its_place(place):
     is_so("the one that was silent longest was kept", is_closed(streams[17]))
     streams[17] = stream
     # No other has been silent for so long: each is still there.
+    server.wait_until_idle()
     with server.connect() as another:
         is_so("another place was given away", not is_answered(another, 8))
     for it, stream in enumerate(streams):
@@ -117,10 +117,12 @@ def test_half_a_record_is_silence_and_a_whole_one_ends_it(place):
     clock = HeldClock(place, 1000)
     server = Server(place, place.image(), **clock.given)
     streams = full(server, clock, [17, 40])
+    server.wait_until_idle()
     clock.set(1001 + MINUTE)
     call(streams[17], 17, wire.null_call(18)[:9])
     for it in others([17]):
         call(streams[it], it)
+    server.wait_until_idle()
     clock.set(1002 + 2 * MINUTE)
     for it in others([17]):
         call(streams[it], it)
@@ -138,9 +140,8 @@ def test_a_connection_that_takes_a_place_counts(place):
     with server.connect() as stream:
         is_so("a further connection was let in", not is_answered(stream, 8))
     clock.set(1001 + MINUTE)
-    # Let in or closed: it is the last that the server takes.
-    streams.append(server.connect())
-    is_answered(streams[-1], 7)
+    # It is the last that the server takes.
+    streams.append(further(server))
     for it in streams:
         it.close()
     server.end()

@@ -19,10 +19,11 @@ use Rattle.server.specs.declared.serving.ServeFault.{ServeFault}
 use Rattle.server.specs.declared.serving.ServeFault.TheVariants as server
 use Rattle.nfsd.specs.declared.fault.Fault.{Fault}
 use Rattle.nfsd.specs.declared.fault.Fault.TheVariants as fault
-use Rattle.nfsd.specs.Done.{Answers, AreAsked, DoesCommand, FormatsDevice, IsAnnounced, IsWithoutMemory, Obeys, Outcome}
+use Rattle.nfsd.specs.Done.{Answers, AreAsked, DoesCommand, FormatsDevice, IsWithoutMemory, Obeys, Outcome}
 use Rattle.nfsd.specs.Done.{ServesClients, ServesDevice, TellsOutcome, Told, device_of, formatted_line}
-use Rattle.nfsd.specs.Done.{listening_line, moment_at, outcome_of_server}
+use Rattle.nfsd.specs.Done.{moment_at, outcome_of_server}
 use Rattle.nfsd.specs.Faults.{status_of_outcome}
+use Rattle.nfsd.specs.Lines.{IsAnnouncedBy}
 
 -- the command that was asked for was done, so the arguments were obeyed
 pub obeys_command : (first : FirstContents) (words : List Text) (args : Args) (client : Client)
@@ -83,29 +84,20 @@ serves old new time client later opened store moment result outcome opens at ser
     go (Ok count) served = (opened, store, count, opens, served, left)
     go (Err why) served = (opened, store, opens, served, left)
 
--- a device was opened, but where it listens wasn't printed
-pub unannounced : (old : Device) (written written' : Option (List ℕ)) (opened : Opened) (why : Fault)
-    (device : Option Device) → HasOpened old (Ok opened) → why ≡ fault.Print
-    → ServesClients old written (Err why) device written'
-unannounced old written written' opened why device opens is =
-    subst (λ (f : Fault). ServesClients old written (Err f) device written') (sym is) (opened, opens)
-
--- a device was opened, where it listens was printed, and what comes of it is what came of its server
+-- a device was opened, and what comes of it is what came of its server, which printed where it listens as that tells
 pub listens : (old : Device) (written written' : Option (List ℕ)) (opened : Opened) (address : List ℕ)
     (ended : Result (Unit {0}) ServeFault) (outcome : Outcome) (device : Option Device)
-    → HasOpened old (Ok opened) → Appends written written' (listening_line address)
+    → HasOpened old (Ok opened) → IsAnnouncedBy written address ended written'
     → outcome ≡ outcome_of_server ended → ServesClients old written outcome device written'
 listens old written written' opened address ended outcome device opens printed is =
-    subst (λ (o : Outcome). ServesClients old written o device written') (sym is) (go ended)
+    subst (λ (o : Outcome). ServesClients old written o device written') (sym is) (go ended printed)
   where
-    shown : IsAnnounced old written written'
-    shown = (opened, opens, address, printed)
-
-    go : (ended : Result (Unit {0}) ServeFault)
+    go : (ended : Result (Unit {0}) ServeFault) → IsAnnouncedBy written address ended written'
         → ServesClients old written (outcome_of_server ended) device written'
-    go (Ok done) = shown
-    go (Err server.Memory) = shown
-    go (Err server.Device) = shown
+    go (Ok done) line = (opened, opens, address, line)
+    go (Err server.Memory) same = (opened, opens, same)
+    go (Err server.Output) whatever = (opened, opens)
+    go (Err server.Device) line = (opened, opens, address, line)
 
 -- the device of the image's file was formatted, so the command was done
 pub formats_command : (first : FirstContents) (image : _) (blocks : Option ℕ) (size inodes time : ℕ) (new : Device)

@@ -252,7 +252,11 @@ fn answer_row<L: Ledger, G: Whole, I: Whole, P, S: Source, R: Wait + Clock>(
         None => is_well,
         Some(job) => {
             desk.connection.outgoing.hand_on(rt);
-            hall.signs.jobs.put(rt, job) && is_well
+            let is_put = hall.signs.jobs.put(rt, job);
+            if !is_put {
+                desk.connection.outgoing.take_back(rt);
+            }
+            is_put && is_well
         }
     }
 }
