@@ -1,7 +1,7 @@
 -- What follows from what the program did.
 use Rattle.std.proofs.Common.{◌≡◌, ◌∙◌, ℕ, ◌-◌, ◌⊎◌, ap, inl, inr, List, Option, Ok, Err, arith, refl, subst}
 use Rattle.std.proofs.Common.{Result, Some, sym}
-use Rattle.std.specs.Prelude.{IfErr, OnOk}
+use Rattle.std.specs.Prelude.{IfErr, IfOk, OnOk}
 use Rattle.std.specs.Io.KnownBytes.{Appends}
 use Rattle.clap.specs.Words.{Text}
 use Rattle.disk.specs.declared.file.FirstContents.{FirstContents}
@@ -15,6 +15,7 @@ use Rattle.nfs_types.specs.declared.ctx.Moment.{Moment}
 use Rattle.session.specs.Serving.{Client, HasServed}
 use Rattle.session.specs.declared.serving.SessionFault.{SessionFault}
 use Rattle.store_images.specs.Opening.{HasOpened, Opened}
+use Rattle.pool.specs.declared.ending.Ended.{Ended}
 use Rattle.server.specs.declared.serving.ServeFault.{ServeFault}
 use Rattle.server.specs.declared.serving.ServeFault.TheVariants as server
 use Rattle.nfsd.specs.declared.fault.Fault.{Fault}
@@ -86,18 +87,26 @@ serves old new time client later opened store moment result outcome opens at ser
 
 -- a device was opened, and what comes of it is what came of its server, which printed where it listens as that tells
 pub listens : (old : Device) (written written' : Option (List ℕ)) (opened : Opened) (address : List ℕ)
-    (ended : Result (Unit {0}) ServeFault) (outcome : Outcome) (device : Option Device)
+    (ended : Result Ended ServeFault) (outcome : Outcome) (device : Option Device)
     → HasOpened old (Ok opened) → IsAnnouncedBy written address ended written'
+    → IfOk ended (λ core. core.core.boot ≡ opened.core.boot)
     → outcome ≡ outcome_of_server ended → ServesClients old written outcome device written'
-listens old written written' opened address ended outcome device opens printed is =
-    subst (λ (o : Outcome). ServesClients old written o device written') (sym is) (go ended printed)
+listens old written written' opened address ended outcome device opens printed boot is =
+    subst (λ (o : Outcome). ServesClients old written o device written') (sym is) (go ended printed boot)
   where
-    go : (ended : Result (Unit {0}) ServeFault) → IsAnnouncedBy written address ended written'
+    go : (ended : Result Ended ServeFault) → IsAnnouncedBy written address ended written'
+        → IfOk ended (λ core. core.core.boot ≡ opened.core.boot)
         → ServesClients old written (outcome_of_server ended) device written'
-    go (Ok done) line = (opened, opens, address, line)
-    go (Err server.Memory) same = (opened, opens, same)
-    go (Err server.Output) whatever = (opened, opens)
-    go (Err server.Device) line = (opened, opens, address, line)
+    go (Ok core) line boot = (
+      opened,
+      opens,
+      address,
+      line,
+      record { core = core.core; boot_is = boot; settled = core.settled; sound = core.sound },
+    )
+    go (Err server.Memory) same boot = (opened, opens, same)
+    go (Err server.Output) whatever boot = (opened, opens)
+    go (Err server.Device) line boot = (opened, opens, address, line)
 
 -- the device of the image's file was formatted, so the command was done
 pub formats_command : (first : FirstContents) (image : _) (blocks : Option ℕ) (size inodes time : ℕ) (new : Device)

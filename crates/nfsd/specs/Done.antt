@@ -8,6 +8,8 @@ use Rattle.limits.specs.declared.TheConstants.{MOST_BLOCKS}
 use Rattle.disk.specs.declared.file.FirstContents.{FirstContents}
 use Rattle.disk.specs.Device.{Device}
 use Rattle.disk.specs.File.{file_device, first_in}
+use Rattle.wal_law.specs.Log.{settled_place}
+use Rattle.txn_law.specs.Core.{CoreState}
 use Rattle.nfs_types.specs.declared.ctx.Moment.{Moment}
 use Rattle.nfsd_words.specs.declared.Args.{Args}
 use Rattle.nfsd_words.specs.declared.Args.TheVariants.{Format, Once, Serve}
@@ -69,11 +71,19 @@ abbrev pub IsAnnounced : Device → Option (List ℕ) → Option (List ℕ) → 
 IsAnnounced old written written' = (opened : Opened) × HasOpened old (Ok opened)
     × (address : List ℕ) × Appends written written' (listening_line address)
 
--- `serve` of a device: it was opened as a store, where it listens was printed, and its clients were served; or
--- it was opened and that couldn't be printed, or no memory was left to begin with, and nothing was printed; or it was
+-- each commit of a core that came of this store is settled
+pub record HasEnded (opened : Opened) : Type 0 where
+  pub core : CoreState
+  pub boot_is : core.boot ≡ opened.core.boot
+  pub settled : settled_place core.log ≡ core.log.places
+  pub sound : core.log.broken ≡ false
+
+-- `serve` of a device: it was opened as a store, where it listens was printed, its clients were served, and all is
+-- settled; or that device failed; or it was opened and that couldn't be printed, or no memory was left to begin with, and nothing was printed; or it was
 -- refused, and nothing was printed
 abbrev pub ServesClients : Device → Option (List ℕ) → Outcome → Option Device → Option (List ℕ) → Type 0
-ServesClients old written (Ok done) device written' = IsAnnounced old written written'
+ServesClients old written (Ok done) device written' = (opened : Opened) × HasOpened old (Ok opened)
+    × (address : List ℕ) × Appends written written' (listening_line address) × HasEnded opened
 ServesClients old written (Err (fault.Session session.NoMemory)) device written' = (opened : Opened)
     × HasOpened old (Ok opened) × (written' ≡ written)
 ServesClients old written (Err (fault.Session why)) device written' = IsAnnounced old written written'
@@ -83,8 +93,8 @@ ServesClients old written (Err (fault.Open why)) device written' = (new : Device
 ServesClients old written (Err other) device written' = ⊥
 
 -- what comes of a server by how it ended
-abbrev pub outcome_of_server : Result (Unit {0}) ServeFault → Outcome
-outcome_of_server (Ok done) = Ok done
+abbrev pub outcome_of_server : {T : Type 0} → Result T ServeFault → Outcome
+outcome_of_server (Ok done) = Ok tt
 outcome_of_server (Err server.Memory) = Err (fault.Session session.NoMemory)
 outcome_of_server (Err server.Output) = Err fault.Print
 outcome_of_server (Err server.Device) = Err (fault.Session session.Device)

@@ -10,7 +10,7 @@ listening_line address = (codes "listening " ++ address) ++ 10 ∷ []
 
 -- what was printed of a server by how it ended: nothing where no memory or no thread was left to begin with; where it
 -- couldn't be printed that isn't said; and else the line of its address, and nothing else
-abbrev pub IsAnnouncedBy : Option (List ℕ) → List ℕ → Result (Unit {0}) ServeFault → Option (List ℕ) → Type 0
+abbrev pub IsAnnouncedBy : {T : Type 0} → Option (List ℕ) → List ℕ → Result T ServeFault → Option (List ℕ) → Type 0
 IsAnnouncedBy written address (Err Memory) written' = written' ≡ written
 IsAnnouncedBy written address (Err Output) written' = Unit {0}
 IsAnnouncedBy written address other written' = Appends written written' (listening_line address)

@@ -1,5 +1,5 @@
 //! What the program does to a device whose files it serves over TCP.
-ghost use Rattle.std.specs.Prelude.{◌≡◌, IfErr, string_bytes};
+ghost use Rattle.std.specs.Prelude.{◌≡◌, IfErr, IfOk, string_bytes};
 ghost use Rattle.disk.specs.File.{file_device, first_in};
 ghost use Rattle.nfsd.specs.Done.{ServesClients, device_in, outcome_of_server};
 ghost use Rattle.nfsd.specs.Lines.{IsAnnouncedBy};
@@ -10,7 +10,7 @@ use crate::fault::Fault;
 use crate::image_disk::ImageDisk;
 use crate::trouble::Trouble;
 use disk::{BlockFile, FileDisk};
-use server::{ServeFault, serve_store};
+use server::{Ended, ServeFault, serve_store};
 use session::SessionFault;
 use std::alloc::Global;
 use std::io::Write;
@@ -83,12 +83,13 @@ fn serve_announced<F, R, O>(
     workers: u32,
     connections: u32,
     writer: &mut O,
-) -> Result<(), ServeFault>
+) -> Result<Ended, ServeFault>
 where
     F: BlockFile + Send + Sync,
     R: Threads + Wait + Clock + Sync,
     O: Write,
-    ensures { IsAnnouncedBy (O.contents writer.old) (string_bytes listening.now.address) result
+    ensures boot { IfOk result (λ ended. ended.core.boot ≡ store.core.boot) }
+    ensures told { IsAnnouncedBy (O.contents writer.old) (string_bytes listening.now.address) result
         (O.contents writer.new) }
 {
     let address = listening.address.as_str();
@@ -107,11 +108,11 @@ where
 }
 
 // What comes of a server by how it ended.
-fn outcome_of(ended: Result<(), ServeFault>) -> Result<(), Fault>
+fn outcome_of(ended: Result<Ended, ServeFault>) -> Result<(), Fault>
     ensures { result ≡ outcome_of_server ended }
 {
     match ended {
-        Ok(()) => Ok(()),
+        Ok(_) => Ok(()),
         Err(ServeFault::Memory) => Err(Fault::Session(SessionFault::NoMemory)),
         Err(ServeFault::Output) => Err(Fault::Print),
         Err(ServeFault::Device) => Err(Fault::Session(SessionFault::Device)),

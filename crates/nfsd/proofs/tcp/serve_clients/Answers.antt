@@ -5,4 +5,4 @@ use Rattle.nfsd.proofs.tcp.serve_clients.Goals as goal
 pub returns : goal.returns
 returns g c =
     listens _ _ _ _ _ c.serve_announced-ended.result c.outcome_of.result _ c.in-Ok.ensures.opened
-    c.serve_announced-ended.ensures c.outcome_of.ensures
+    c.serve_announced-ended.ensures.told c.serve_announced-ended.ensures.boot c.outcome_of.ensures
