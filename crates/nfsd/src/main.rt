@@ -1,16 +1,19 @@
 //! The program: makes images, and serves one client over the standard input and output, or many over TCP.
 #![tactic(auto)]
 
+mod announcement;
 mod answer;
 mod arguments;
 mod device;
 mod fault;
 mod fault_stream;
+mod image_disk;
 mod image_files;
 mod lines;
 mod streams;
 mod tcp;
 mod trouble;
+mod watched_image;
 
 use crate::answer::{answer, conclude};
 use crate::arguments::arguments;
@@ -22,12 +25,13 @@ use session::Input;
 use std::alloc::AllocError;
 use std::env::Env;
 use std::fs::Files;
-use std::io::{Read, Write};
+use std::io::{Eprint, Read, Write};
 use std::net::{Net, TcpListener, TcpStream};
 use std::process::ExitCode;
 use std::sync::Wait;
 use std::thread::Threads;
 use std::time::Clock;
+use watched_files::Alarm;
 
 fn main(rt: HostRuntime) -> ExitCode {
     let input = Input::new(rt.reader());
@@ -45,6 +49,7 @@ where
         + Threads
         + Wait
         + Clock
+        + Eprint
         + Sync,
     R::File: BlockFile + Send + Sync,
     I: Read + Drop,
@@ -52,6 +57,7 @@ where
     E: Write + Drop,
 {
     let mut faults = FaultStream::new(errors);
+    let alarm = Alarm::new(rt);
     let given = match arguments(rt) {
         Ok(given) => given,
         Err(fault) => return conclude(&mut faults, &Err(fault)),
@@ -65,6 +71,7 @@ where
         Ok(line) => {
             let (status, _disk) = answer(
                 rt,
+                &alarm,
                 line.as_slice(),
                 FirstContents::whatever(),
                 &mut input,
