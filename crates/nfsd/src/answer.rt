@@ -10,6 +10,7 @@ use crate::device::{format_device, serve_device};
 use crate::fault::Fault;
 use crate::fault_stream::FaultStream;
 use crate::image_files::{make_image, open_for_threads, open_image};
+use crate::scripts::play_script;
 use crate::streams::{Streams, fill};
 use crate::tcp::{listen_at, serve_clients};
 use crate::trouble::Trouble;
@@ -189,5 +190,6 @@ where
             let alloc = rt.alloc();
             serve_clients(rt, alloc, disk, &listening, workers, connections, writer)
         }
+        Args::Sim { script } => (None, play_script(rt, script, writer)),
     }
 }

@@ -8,6 +8,7 @@ mod fault;
 mod fault_stream;
 mod image_files;
 mod lines;
+mod scripts;
 mod streams;
 mod tcp;
 mod trouble;

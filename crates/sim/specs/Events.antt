@@ -1,4 +1,4 @@
--- What a command of a script is to a run: its events.
+-- What happens to an open store, as events of a run.
 use Rattle.std.specs.Prelude.{ℕ, zero, suc, List, [], ◌∷◌, ◌++◌}
 use Rattle.store_promise.specs.declared.events.Event.{Event}
 use Rattle.store_promise.specs.declared.events.Event.TheVariants as event
@@ -22,18 +22,19 @@ unfoldable pub repeated : ℕ → List Event → List Event
 repeated zero events = []
 repeated (suc times) events = events ++ repeated times events
 
--- a worker makes a step, and the read that may be due
+-- a worker makes a step, and then the read that may be due
 abbrev pub drive_events : ℕ → List Event
 drive_events worker = repeated DRIVES (event.Work worker ∷ event.Read worker ∷ [])
 
--- a device call is taken, made and given back
+-- a device call of the log is taken, made and given back
 abbrev pub log_events : ℕ → List Event
 log_events calls = repeated calls (event.Log ∷ event.LogIo ∷ event.Log ∷ [])
 
+-- and so is one of the installer
 abbrev pub install_events : ℕ → List Event
 install_events calls = repeated calls (event.Install ∷ event.InstIo ∷ event.Install ∷ [])
 
--- the events of what happens to an open store at a moment
+-- the events of what happens at a moment; that a device call fails is none
 abbrev pub events_of : Moment → Action → List Event
 events_of moment (act.Call worker xid credential call) = event.Call worker credential moment call ∷ []
 events_of moment (act.Drive worker) = drive_events worker

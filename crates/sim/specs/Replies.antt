@@ -1,5 +1,5 @@
 -- The replies of a run.
-use Rattle.std.specs.Prelude.{◌≡◌, ℕ, Bool, ◌&&◌, true, false, List, [], ◌∷◌, ◌++◌, Option, Some, None, nat_eq, nat_lt}
+use Rattle.std.specs.Prelude.{ℕ, Bool, ◌&&◌, true, false, List, [], ◌∷◌, ◌++◌, Option, Some, None, nat_eq, nat_lt}
 use Rattle.std.specs.Prelude.{slice_get, if◌then◌else◌}
 use Rattle.nfs_types.specs.declared.program.ProgramReply.TheVariants as program_replies
 use Rattle.rpc.specs.declared.refusal.Refusal.TheVariants.{SystemError}
@@ -11,9 +11,10 @@ use Rattle.store_promise.specs.declared.answers.Verdict.TheVariants as verdict
 use Rattle.store_promise.specs.declared.events.Step.{Step}
 use Rattle.store_promise.specs.declared.events.Step.TheVariants as step
 use Rattle.store_promise.specs.declared.transcript.Answer.{Answer}
-use Rattle.sim.specs.declared.segment.Handed.{Handed}
 use Rattle.sim.specs.Lines.{reply_line}
+use Rattle.sim.specs.declared.handed.Handed.{Handed}
 
+-- an event handed a call to a worker, who was idle
 abbrev pub is_called : Option (Option Step) → Bool
 is_called (Some (Some step.Called)) = true
 is_called _ = false
@@ -29,6 +30,7 @@ number_after xid [] steps answer = xid
 number_after xid (handed ∷ others) steps answer =
     number_after (if is_before steps answer handed then handed.xid else xid) others steps answer
 
+-- the number of the message that an answer is to: of those that its worker took before it, the last
 abbrev pub number_of : List Handed → List (Option Step) → Answer → ℕ
 number_of handed steps answer = number_after 0 handed steps answer
 
@@ -37,12 +39,12 @@ abbrev pub body_of : Verdict → ReplyBody
 body_of (verdict.Reply reply) = Done (program_replies.Nfs reply)
 body_of verdict.NoMemory = Refused SystemError
 
-abbrev pub answer_line : List Handed → List (Option Step) → Answer → List ℕ
-answer_line handed steps answer =
-    reply_line answer.worker (reply_bytes (number_of handed steps answer) (body_of answer.verdict))
+-- an answer to a message of a number
+abbrev pub answer_line : ℕ → Answer → List ℕ
+answer_line xid answer = reply_line answer.worker (reply_bytes xid (body_of answer.verdict))
 
 -- the lines of the answers, in their order
 unfoldable pub reply_lines : List Handed → List (Option Step) → List Answer → List ℕ
 reply_lines handed steps [] = []
 reply_lines handed steps (answer ∷ answers) =
-    answer_line handed steps answer ++ reply_lines handed steps answers
+    answer_line (number_of handed steps answer) answer ++ reply_lines handed steps answers

@@ -1,66 +1,58 @@
 -- What comes of a script: what is printed, command by command.
-use Rattle.std.specs.Prelude.{◌≡◌, ◌⊎◌, ◌<◌, ◌+◌, ℕ, List, [], ◌∷◌, ◌++◌, map, length, replicate, take, drop}
-use Rattle.std.specs.Prelude.{slice_set, Result, Ok, Err}
-use Rattle.disk.specs.Choice.{chosen}
-use Rattle.disk.specs.Memory.{blocks_of, image_of, memory_device, past_of, to_fail}
+use Rattle.std.specs.Prelude.{◌≡◌, ◌⊎◌, ◌+◌, ◌-◌, ◌^◌, ℕ, Bool, ◌&&◌, true, false, List, [], ◌∷◌, ◌++◌, map, min}
+use Rattle.std.specs.Prelude.{length, nat_lt, nat_le, if◌then◌else◌, Result, Ok, Err}
+use Rattle.disk.specs.Crash.{IsAtRest}
+use Rattle.disk.specs.Memory.{blocks_of, memory_device, past_of, to_fail}
 use Rattle.disk.specs.declared.mem_disk.MemDisk.{MemDisk}
-use Rattle.layout.specs.Fresh.{IsFresh}
-use Rattle.limits.specs.declared.TheConstants.{LEAST_BLOCKS, MOST_BLOCKS}
+use Rattle.layout.specs.declared.geometry.Geometry.{Geometry}
+use Rattle.layout.specs.Geometry.{IsLawful}
+use Rattle.limits.specs.declared.TheConstants.{BLOCK_BYTES, NANOSECONDS}
 use Rattle.model.specs.Tree.{Tree}
 use Rattle.nfs_types.specs.declared.ctx.Moment.{Moment}
-use Rattle.store_images.specs.declared.format.FormatFault.{FormatFault}
+use Rattle.store_images.specs.declared.formatting.FormatFault.{FormatFault}
 use Rattle.store_promise.specs.Headline.{IsPromised}
+use Rattle.store_promise.specs.Openings.{IsFormatted}
 use Rattle.store_promise.specs.Transcript.{Report}
-use Rattle.store_promise.specs.declared.events.Event.{Event}
 use Rattle.store_promise.specs.declared.fault.OpenFault.{OpenFault}
-use Rattle.sim.specs.Crashing.{digits_of}
-use Rattle.sim.specs.Events.{events_of}
+use Rattle.store_runs.specs.FormattedRun.{IsNewDevice, IsNotMade}
+use Rattle.sim.specs.Crashing.{IsLeft, IsPoked}
 use Rattle.sim.specs.Lines.{boot_line, format_refused_line, open_refused_line}
 use Rattle.sim.specs.Replies.{reply_lines}
-use Rattle.sim.specs.Segments.{calls_of, fails_of}
-use Rattle.sim.specs.declared.segment.Handed.{Handed}
+use Rattle.sim.specs.Segments.{Happened, nothing, with_action}
+use Rattle.sim.specs.declared.stage.Stage.{Stage}
+use Rattle.sim.specs.declared.stage.Stage.TheVariants.{First, Open, Stopped, Refused}
 use Rattle.sim_words.specs.declared.command.Action.{Action}
 use Rattle.sim_words.specs.declared.command.Choice.{Choice}
 use Rattle.sim_words.specs.declared.command.Command.{Command}
 use Rattle.sim_words.specs.declared.command.Command.TheVariants as command
 use Rattle.sim_words.specs.declared.command.TheConstants.{WORKERS}
 
--- what has happened since an opening: the events, the messages among them, and the device calls that fail
-pub record Happened : Type 0 where
-  pub events : List Event
-  pub handed : List Handed
-  pub fails : List ℕ
+-- an image was made on a new device at a moment
+pub record IsImage (moment : Moment) (blocks inodes : ℕ) (disk : MemDisk) : Type 0 where
+  pub empty : MemDisk
+  pub is_new : IsNewDevice blocks (memory_device empty)
+  pub geometry : Geometry
+  pub lawful : IsLawful blocks inodes
+  pub blocks_are : geometry.blocks ≡ blocks
+  pub inodes_are : geometry.inodes ≡ inodes
+  pub formatted : IsFormatted (memory_device empty) (memory_device disk) geometry moment
 
-abbrev pub nothing : Happened
-nothing = record { events = []; handed = []; fails = [] }
+-- the number of a device call among all of a device, up to the greatest number, where it is counted behind others
+abbrev pub number_behind : ℕ → ℕ → ℕ
+number_behind calls call = min (calls + call) (2 ^ 64 - 1)
 
--- and something more, at a moment
-abbrev pub with_action : Moment → Action → Happened → Happened
-with_action moment action happened = record {
-  events = happened.events ++ events_of moment action;
-  handed = happened.handed ++ calls_of happened.events action;
-  fails = happened.fails ++ fails_of action;
-}
-
--- how a script stands between two commands: without an image, with a device and what happens from its opening on, or
--- with what a crash left
-pub data Standing : Type 0 where
-  First : Standing
-  Open : MemDisk → Happened → Standing
-  Stopped : MemDisk → Standing
-
--- the device at an opening, which lets further calls fail, counted from those that it has made
+-- the device at an opening, which lets further calls fail, counted behind those that it has made
 pub record IsFailing (fails : List ℕ) (disk failing : MemDisk) : Type 0 where
   pub blocks : blocks_of failing ≡ blocks_of disk
   pub past : past_of failing ≡ past_of disk
-  pub fails : to_fail failing ≡ to_fail disk ++ map (λ call. (memory_device disk).clock + call) fails
+  pub fails : to_fail failing ≡ to_fail disk ++ map (number_behind (memory_device disk).clock) fails
 
--- what happened is a run of the store, which keeps its promise and took all events; what it tells is printed
-pub record IsRun (disk : MemDisk) (happened : Happened) (later : MemDisk) (printed : List ℕ) : Type 0 where
+-- what happened was a run of the store, which keeps its promise and took all events; what it tells is printed
+pub record IsRun (disk : MemDisk) (happened : Happened) (left : MemDisk) (printed : List ℕ) : Type 0 where
   pub before : MemDisk
   pub report : Report
   pub fails : IsFailing happened.fails disk before
-  pub promised : (tree : Tree) (first : ℕ) → IsPromised (Unit {0}) (memory_device before) (memory_device later) tree
+  pub promised : (tree : Tree) (first : ℕ) → IsPromised (Unit {0}) (memory_device before) (memory_device left) tree
       first WORKERS happened.events (Ok report)
   pub all : length report.told.steps ≡ length happened.events
   pub printed : printed ≡ boot_line report.told.boot
@@ -69,26 +61,81 @@ pub record IsRun (disk : MemDisk) (happened : Happened) (later : MemDisk) (print
 -- or the image was refused, and that is printed
 pub record IsRefusal (disk : MemDisk) (happened : Happened) (printed : List ℕ) : Type 0 where
   pub before : MemDisk
-  pub later : MemDisk
+  pub left : MemDisk
   pub fault : OpenFault
   pub fails : IsFailing happened.fails disk before
-  pub promised : (tree : Tree) (first : ℕ) → IsPromised (Unit {0}) (memory_device before) (memory_device later) tree
+  pub promised : (tree : Tree) (first : ℕ) → IsPromised (Unit {0}) (memory_device before) (memory_device left) tree
       first WORKERS happened.events (Err fault)
   pub printed : printed ≡ open_refused_line fault
 
--- what a crash leaves by a choice
-abbrev pub IsLeft : Choice → MemDisk → MemDisk → Type 0
-IsLeft choice disk left = blocks_of left
-    ≡ map (λ content. content ∷ []) (chosen (digits_of (length (blocks_of disk)) choice) (blocks_of disk))
+-- nothing came of a command
+abbrev pub IsIdle : Stage → Stage → List ℕ → Type 0
+IsIdle stage later printed = (later ≡ stage) × (printed ≡ [])
 
--- bytes of a block are changed
-abbrev pub IsPoked : ℕ → ℕ → List ℕ → MemDisk → MemDisk → Type 0
-IsPoked block offset bytes disk poked = blocks_of poked ≡ slice_set (blocks_of disk) block
-    ((take offset (image_of disk block) ++ bytes ++ drop (offset + length bytes) (image_of disk block)) ∷ [])
+-- an image was made, or refused, and that was printed
+abbrev pub IsMade : Moment → ℕ → ℕ → Stage → Stage → List ℕ → Type 0
+IsMade moment blocks inodes First later printed =
+    ((disk : MemDisk) × IsImage moment blocks inodes disk × (later ≡ Open disk nothing) × (printed ≡ []))
+    ⊎ ((fault : FormatFault) × IsNotMade fault blocks inodes × (later ≡ Refused)
+    × (printed ≡ format_refused_line fault))
+IsMade moment blocks inodes stage later printed = IsIdle stage later printed
 
--- what is still to be printed where a script ends
-abbrev pub ends : Standing → List ℕ → Type 0
-ends First printed = printed ≡ []
-ends (Stopped disk) printed = printed ≡ []
-ends (Open disk happened) printed =
-    ((later : MemDisk) × IsRun disk happened later printed) ⊎ IsRefusal disk happened printed
+-- what a crash left is to be opened
+abbrev pub opened : Stage → Stage
+opened (Stopped disk) = Open disk nothing
+opened stage = stage
+
+-- something more happens to an open store
+abbrev pub acted : Moment → Action → Stage → Stage
+acted moment action (Open disk happened) = Open disk (with_action moment action happened)
+acted moment action stage = stage
+
+-- all that has happened is run, and then the device stops; an image that is refused ends the script
+abbrev pub IsStopped : Choice → Stage → Stage → List ℕ → Type 0
+IsStopped choice (Open disk happened) later printed =
+    ((end : MemDisk) × (left : MemDisk) × IsRun disk happened end printed × IsLeft choice end left
+    × (later ≡ Stopped left))
+    ⊎ (IsRefusal disk happened printed × (later ≡ Refused))
+IsStopped choice stage later printed = IsIdle stage later printed
+
+-- bytes within a block of what a crash left are changed; others are none
+abbrev pub is_within : ℕ → ℕ → List ℕ → MemDisk → Bool
+is_within block offset bytes disk =
+    nat_lt block (length (blocks_of disk)) && nat_le (offset + length bytes) BLOCK_BYTES
+
+abbrev pub HasPoked : ℕ → ℕ → List ℕ → Stage → Stage → List ℕ → Type 0
+HasPoked block offset bytes (Stopped disk) later printed = (poked : MemDisk) × (later ≡ Stopped poked)
+    × (printed ≡ []) × (if is_within block offset bytes disk then IsPoked block offset bytes disk poked
+    else poked ≡ disk)
+HasPoked block offset bytes stage later printed = IsIdle stage later printed
+
+-- What a command prints at a moment, and how the script stands then. One that may not stand there does nothing.
+abbrev pub Does : Moment → Stage → Command → Stage → List ℕ → Type 0
+Does moment stage (command.Time next) later printed = IsIdle stage later printed
+Does moment stage (command.Image blocks inodes) later printed = IsMade moment blocks inodes stage later printed
+Does moment stage command.Open later printed = (later ≡ opened stage) × (printed ≡ [])
+Does moment stage (command.Act action) later printed = (later ≡ acted moment action stage) × (printed ≡ [])
+Does moment stage (command.Crash choice) later printed = IsStopped choice stage later printed
+Does moment stage (command.Poke block offset bytes) later printed = HasPoked block offset bytes stage later printed
+Does moment stage command.Show later printed = IsIdle stage later printed
+
+-- the moment of what follows: one that has a second of nanoseconds or more is none
+abbrev pub moment_after : Command → Moment → Moment
+moment_after (command.Time next) moment = if nat_lt next.nanoseconds NANOSECONDS then next else moment
+moment_after _ moment = moment
+
+-- what is still to be printed at the end of a script
+abbrev pub Ends : Stage → List ℕ → Type 0
+Ends (Open disk happened) printed =
+    ((left : MemDisk) × IsRun disk happened left printed) ⊎ IsRefusal disk happened printed
+Ends stage printed = printed ≡ []
+
+-- what commands print, one after another, up to the end
+unfoldable pub Comes : Moment → Stage → List Command → List ℕ → Type 0
+Comes moment stage [] printed = Ends stage printed
+Comes moment stage (it ∷ commands) printed = (later : Stage) × (now : List ℕ) × (more : List ℕ)
+    × Does moment stage it later now × Comes (moment_after it moment) later commands more × (printed ≡ now ++ more)
+
+-- what a script prints
+abbrev pub IsPlayed : List Command → List ℕ → Type 0
+IsPlayed commands printed = Comes (record { seconds = 0; nanoseconds = 0 }) First commands printed

@@ -4,10 +4,14 @@
 mod crashing;
 mod events;
 mod fault;
+mod handed;
+mod image;
 mod lines;
+mod playing;
 mod replies;
 mod segment;
 mod simulation;
+mod stage;
 
 pub use fault::SimFault;
 pub use simulation::simulate;

@@ -1,34 +1,35 @@
 //! What happens from an opening to a crash or to the end: one call of `run`.
-ghost use Rattle.std.specs.Prelude.{◌≡◌, ◌++◌, [], OnOk};
-ghost use Rattle.sim.specs.Events.{events_of};
-ghost use Rattle.sim.specs.Segments.{calls_of, fails_of};
+ghost use Rattle.std.specs.Prelude.{◌≡◌, OnOk};
+ghost use Rattle.sim.specs.Segments.{nothing, with_action};
 
 use crate::events::{drive, install, log, one_event};
+use crate::handed::Handed;
 use nfs_types::Moment;
 use sim_words::Action;
 use std::alloc::{AllocError, Global};
+use std::marker::Model;
 use store::Event;
-
-/// A message that was handed to a worker: the index of its event, and its number.
-#[derive(Clone, Copy, Debug, PartialEq, Eq)]
-pub struct Handed {
-    pub event: usize,
-    pub worker: usize,
-    pub xid: u32,
-}
 
 /// The events so far, the messages among them, and the device calls that fail, counted from the opening's first.
 #[derive(Drop)]
 pub struct Segment {
     pub events: Vec<Event>,
     pub handed: Vec<Handed>,
-    pub fails: Vec<u64>,
+    pub fails: Vec<u32>,
+}
+
+impl Model for Segment {
+    ghost use Rattle.sim.specs.Segments.{Happened};
+
+    ghost Value = { Happened };
+
+    ghost view = { λ s. record { events = s.events.items; handed = s.handed.items; fails = s.fails.items } };
 }
 
 impl Segment {
     /// Nothing has happened yet.
     pub fn new(alloc: Global) -> Segment
-        ensures { (result.events.items ≡ []) × (result.handed.items ≡ []) × (result.fails.items ≡ []) }
+        ensures { result ≡ nothing }
     {
         Segment {
             events: Vec::new(alloc),
@@ -39,10 +40,7 @@ impl Segment {
 
     /// Something more happens at this moment.
     pub fn add(&mut self, moment: Moment, action: Action) -> Result<(), AllocError>
-        ensures events { OnOk result (self.new.events.items ≡ self.old.events.items ++ events_of moment action) }
-        ensures handed { OnOk result (self.new.handed.items
-            ≡ self.old.handed.items ++ calls_of self.old.events.items action) }
-        ensures fails { OnOk result (self.new.fails.items ≡ self.old.fails.items ++ fails_of action) }
+        ensures { OnOk result (self.new ≡ with_action moment action self.old) }
     {
         match action {
             Action::Call {
@@ -51,12 +49,9 @@ impl Segment {
                 credential,
                 call,
             } => {
+                let event = self.events.len();
                 let worker = worker as usize;
-                self.handed.push(Handed {
-                    event: self.events.len(),
-                    worker,
-                    xid,
-                })?;
+                self.handed.push(Handed { event, worker, xid })?;
                 self.events.push(Event::Call {
                     worker,
                     credential,
@@ -73,7 +68,7 @@ impl Segment {
                 Ok(())
             }
             Action::Fail(call) => {
-                self.fails.push(call as u64)?;
+                self.fails.push(call)?;
                 Ok(())
             }
         }

@@ -1,107 +1,114 @@
 //! A script, command by command.
+ghost use Rattle.std.specs.Prelude.{◌≡◌, OnOk};
+ghost use Rattle.sim.specs.Simulated.{Does, IsMade, IsStopped, HasPoked, Prints, IsPlayed, acted, moment_after, opened};
+ghost use Rattle.model.specs.Sound.{SoundTime};
 
 use crate::crashing::{crashed, poke};
 use crate::fault::SimFault;
-use crate::lines::{print_boot, print_format_refused, print_open_refused};
-use crate::replies::print_replies;
+use crate::image::image;
+use crate::lines::print_format_refused;
+use crate::playing::play;
 use crate::segment::Segment;
-use disk::{BlockNo, MemDisk};
-use limits::{LEAST_BLOCKS, MOST_BLOCKS};
+use crate::stage::Stage;
+use disk::{BlockNo, CrashDisk};
+use limits::{BLOCK_BYTES, NANOSECONDS};
 use nfs_types::Moment;
-use sim_words::{Action, Choice, Command, WORKERS};
-use std::alloc::Global;
+use sim_words::{Action, Choice, Command};
+use std::alloc::{AllocError, Global};
 use std::io::Write;
-use store::{FormatFault, format, run};
 
-// How a script stands between two commands.
-#[derive(Drop)]
-enum Stage {
-    // No image was made yet.
-    First,
-    // The device, as the opening finds it, and what happens from then on.
-    Open(MemDisk, Segment),
-    // The device, as a crash left it.
-    Stopped(MemDisk),
-    // An image was refused: nothing more is done.
-    Refused,
-}
-
-/// Runs the commands of a script, and prints what comes of them. A store that can't be made or opened ends it.
+/// Runs the commands of a script, and prints what comes of them. A store that can't be made or opened ends it. Output
+/// is a line that isn't printed.
 pub fn simulate<W: Write>(
     alloc: Global,
     script: Vec<Command>,
     out: &mut W,
-) -> Result<(), SimFault> {
+) -> Result<(), SimFault>
+    ensures { OnOk result (Prints (W.contents out.old) (W.contents out.new) (IsPlayed script.items)) }
+{
     let mut moment = Moment {
         seconds: 0,
         nanoseconds: 0,
     };
     let mut stage = Stage::First;
     'commands: for command in script {
-        stage = match command {
-            Command::Time(time) => {
-                moment = time;
-                stage
-            }
-            Command::Image { blocks, inodes } => made(alloc, blocks, inodes, moment, out)?,
-            Command::Open => opened(alloc, stage),
-            Command::Act(action) => acted(stage, moment, action)?,
-            Command::Crash(choice) => stopped(alloc, stage, &choice, out)?,
-            Command::Poke {
-                block,
-                offset,
-                bytes,
-            } => poked(alloc, stage, block, offset, bytes.as_slice())?,
-            Command::Show => stage,
-        };
-        if matches!(stage, Stage::Refused) {
-            return Ok(());
-        }
+        let next = moment_after(&command, moment);
+        stage = done(alloc, moment, stage, command, out)?;
+        moment = next;
     }
-    match stage {
-        Stage::Open(disk, segment) => {
-            played(alloc, disk, segment, out)?;
-            Ok(())
-        }
-        Stage::First | Stage::Stopped(_) | Stage::Refused => Ok(()),
+    finish(alloc, stage, out)
+}
+
+// The moment of what follows a command.
+fn moment_after(command: &Command, moment: Moment) -> Moment
+    ensures is { result ≡ moment_after command.now moment }
+    ensures sound { SoundTime moment → SoundTime result }
+{
+    match command {
+        Command::Time(next) if next.nanoseconds < NANOSECONDS => *next,
+        _ => moment,
     }
 }
 
-// An image is made. Its size is looked at before there is a device of it.
+// Does a command.
+fn done<W: Write>(
+    alloc: Global,
+    moment: Moment,
+    stage: Stage,
+    command: Command,
+    out: &mut W,
+) -> Result<Stage, SimFault>
+    requires { SoundTime moment }
+    ensures { OnOkOf result (λ later. Prints (W.contents out.old) (W.contents out.new) (Does moment stage command later)) }
+{
+    match command {
+        Command::Time(_) => Ok(stage),
+        Command::Image { blocks, inodes } => made(alloc, moment, blocks, inodes, stage, out),
+        Command::Open => Ok(opened(alloc, stage)),
+        Command::Act(action) => Ok(acted(moment, action, stage)?),
+        Command::Crash(choice) => stopped(alloc, &choice, stage, out),
+        Command::Poke {
+            block,
+            offset,
+            bytes,
+        } => Ok(poked(alloc, block, offset, bytes.as_slice(), stage)?),
+        Command::Show => Ok(stage),
+    }
+}
+
+// An image is made.
 fn made<W: Write>(
     alloc: Global,
+    moment: Moment,
     blocks: u32,
     inodes: u32,
-    moment: Moment,
+    stage: Stage,
     out: &mut W,
 ) -> Result<Stage, SimFault> {
-    match image(alloc, blocks, inodes, moment) {
-        Ok(disk) => Ok(Stage::Open(disk, Segment::new(alloc))),
-        Err(fault) => {
-            print_format_refused(out, fault)?;
-            Ok(Stage::Refused)
-        }
+    match stage {
+        Stage::First => match image(alloc, blocks, inodes, moment) {
+            Ok(disk) => Ok(Stage::Open(disk, Segment::new(alloc))),
+            Err(fault) => {
+                print_format_refused(out, fault)?;
+                Ok(Stage::Refused)
+            }
+        },
+        other => Ok(other),
     }
-}
-
-fn image(alloc: Global, blocks: u32, inodes: u32, moment: Moment) -> Result<MemDisk, FormatFault> {
-    if blocks < LEAST_BLOCKS || blocks > MOST_BLOCKS {
-        return Err(FormatFault::Size);
-    }
-    let mut disk = MemDisk::new(alloc, blocks)?;
-    format(alloc, &mut disk, inodes, moment)?;
-    Ok(disk)
 }
 
 // What a crash left is to be opened.
-fn opened(alloc: Global, stage: Stage) -> Stage {
+fn opened(alloc: Global, stage: Stage) -> Stage
+    ensures { result ≡ opened stage }
+{
     match stage {
         Stage::Stopped(disk) => Stage::Open(disk, Segment::new(alloc)),
         other => other,
     }
 }
 
-fn acted(stage: Stage, moment: Moment, action: Action) -> Result<Stage, SimFault> {
+// Something more happens to an open store.
+fn acted(moment: Moment, action: Action, stage: Stage) -> Result<Stage, AllocError> {
     match stage {
         Stage::Open(disk, mut segment) => {
             segment.add(moment, action)?;
@@ -111,15 +118,15 @@ fn acted(stage: Stage, moment: Moment, action: Action) -> Result<Stage, SimFault
     }
 }
 
-// What has happened is run, and then the device stops.
+// All that has happened is run, and then the device stops.
 fn stopped<W: Write>(
     alloc: Global,
-    stage: Stage,
     choice: &Choice,
+    stage: Stage,
     out: &mut W,
 ) -> Result<Stage, SimFault> {
     match stage {
-        Stage::Open(disk, segment) => match played(alloc, disk, segment, out)? {
+        Stage::Open(disk, segment) => match play(alloc, disk, segment, out)? {
             Some(disk) => Ok(Stage::Stopped(crashed(alloc, disk, choice)?)),
             None => Ok(Stage::Refused),
         },
@@ -127,53 +134,33 @@ fn stopped<W: Write>(
     }
 }
 
+// Bytes within a block of what a crash left are changed.
 fn poked(
     alloc: Global,
-    stage: Stage,
     block: u32,
     offset: u32,
     bytes: &[u8],
-) -> Result<Stage, SimFault> {
+    stage: Stage,
+) -> Result<Stage, AllocError> {
     match stage {
         Stage::Stopped(mut disk) => {
-            poke(alloc, &mut disk, BlockNo(block), offset as usize, bytes)?;
+            let offset = offset as usize;
+            if block < disk.blocks() && offset + bytes.len() <= BLOCK_BYTES {
+                poke(alloc, &mut disk, BlockNo(block), offset, bytes)?;
+            }
             Ok(Stage::Stopped(disk))
         }
         other => Ok(other),
     }
 }
 
-// Opens the store and takes all that happens, and prints what came of it. Where it was opened the device is handed
-// back.
-fn played<W: Write>(
-    alloc: Global,
-    mut disk: MemDisk,
-    segment: Segment,
-    out: &mut W,
-) -> Result<Option<MemDisk>, SimFault> {
-    let Segment {
-        events,
-        handed,
-        fails,
-    } = segment;
-    let before = disk.calls();
-    'fails: for call in &fails {
-        disk.fail_at(&[before.saturating_add(*call)])?;
-    }
-    let all = events.len();
-    let (disk, ran) = run(alloc, disk, WORKERS as usize, events);
-    match ran {
-        Err(fault) => {
-            print_open_refused(out, fault)?;
-            Ok(None)
+// The script ends: what has happened since the last opening is run.
+fn finish<W: Write>(alloc: Global, stage: Stage, out: &mut W) -> Result<(), SimFault> {
+    match stage {
+        Stage::Open(disk, segment) => {
+            play(alloc, disk, segment, out)?;
+            Ok(())
         }
-        Ok(run) => {
-            print_boot(out, run.boot)?;
-            print_replies(alloc, out, &run, &handed)?;
-            if run.steps.len() < all {
-                return Err(SimFault::NoMemory);
-            }
-            Ok(Some(disk))
-        }
+        _ => Ok(()),
     }
 }
