@@ -1,6 +1,6 @@
 //! What the program does with the script of a schedule.
 ghost use Rattle.std.specs.Prelude.{◌≡◌};
-ghost use Rattle.nfsd.specs.Scripts.{PlaysScript, fault_of_script, fault_of_sim};
+ghost use Rattle.nfsd.specs.Scripts.{PlaysScript, PlaysText, fault_of_script, fault_of_sim};
 
 use crate::fault::Fault;
 use crate::trouble::Trouble;
@@ -26,7 +26,9 @@ where
 }
 
 // Runs a script of this text.
-fn play<O: Write>(alloc: Global, text: &[u8], writer: &mut O) -> Result<(), Fault> {
+fn play<O: Write>(alloc: Global, text: &[u8], writer: &mut O) -> Result<(), Fault>
+    ensures { PlaysText text.now (O.contents writer.old) result (O.contents writer.new) }
+{
     let script = commands(alloc, text).map_err(Fault::of_script)?;
     simulate(alloc, script, writer).map_err(Fault::of_sim)
 }

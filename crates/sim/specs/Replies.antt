@@ -1,6 +1,6 @@
 -- The replies of a run.
 use Rattle.std.specs.Prelude.{ℕ, Bool, ◌&&◌, true, false, List, [], ◌∷◌, ◌++◌, Option, Some, None, nat_eq, nat_lt}
-use Rattle.std.specs.Prelude.{slice_get, if◌then◌else◌}
+use Rattle.std.specs.Prelude.{flat_map, slice_get, if◌then◌else◌}
 use Rattle.nfs_types.specs.declared.program.ProgramReply.TheVariants as program_replies
 use Rattle.rpc.specs.declared.refusal.Refusal.TheVariants.{SystemError}
 use Rattle.session_wire.specs.declared.message.ReplyBody.{ReplyBody}
@@ -44,7 +44,5 @@ abbrev pub answer_line : ℕ → Answer → List ℕ
 answer_line xid answer = reply_line answer.worker (reply_bytes xid (body_of answer.verdict))
 
 -- the lines of the answers, in their order
-unfoldable pub reply_lines : List Handed → List (Option Step) → List Answer → List ℕ
-reply_lines handed steps [] = []
-reply_lines handed steps (answer ∷ answers) =
-    answer_line (number_of handed steps answer) answer ++ reply_lines handed steps answers
+abbrev pub reply_lines : List Handed → List (Option Step) → List Answer → List ℕ
+reply_lines handed steps answers = flat_map (λ answer. answer_line (number_of handed steps answer) answer) answers

@@ -1,7 +1,7 @@
 -- What comes of a script: what is printed, command by command.
 use Rattle.std.specs.Prelude.{◌≡◌, ◌⊎◌, ◌+◌, ◌-◌, ◌^◌, ℕ, Bool, ◌&&◌, true, false, List, [], ◌∷◌, ◌++◌, map, min}
-use Rattle.std.specs.Prelude.{length, nat_lt, nat_le, if◌then◌else◌, Result, Ok, Err}
-use Rattle.disk.specs.Crash.{IsAtRest}
+use Rattle.std.specs.Prelude.{length, nat_lt, nat_le, if◌then◌else◌, Result, Ok, Err, Option, Some, None}
+use Rattle.std.specs.Io.KnownBytes.{Appends}
 use Rattle.disk.specs.Memory.{blocks_of, memory_device, past_of, to_fail}
 use Rattle.disk.specs.declared.mem_disk.MemDisk.{MemDisk}
 use Rattle.layout.specs.declared.geometry.Geometry.{Geometry}
@@ -67,6 +67,15 @@ pub record IsRefusal (disk : MemDisk) (happened : Happened) (printed : List ℕ)
   pub promised : (tree : Tree) (first : ℕ) → IsPromised (Unit {0}) (memory_device before) (memory_device left) tree
       first WORKERS happened.events (Err fault)
   pub printed : printed ≡ open_refused_line fault
+
+-- what is known to be written grows by something of which this holds
+abbrev pub Prints : Option (List ℕ) → Option (List ℕ) → (List ℕ → Type 0) → Type 0
+Prints written written' holds = (printed : List ℕ) × Appends written written' printed × holds printed
+
+-- one of the two was printed: of a run, whose device is handed back, or of a refusal
+abbrev pub HasPlayed : MemDisk → Happened → Option MemDisk → List ℕ → Type 0
+HasPlayed disk happened (Some left) printed = IsRun disk happened left printed
+HasPlayed disk happened None printed = IsRefusal disk happened printed
 
 -- nothing came of a command
 abbrev pub IsIdle : Stage → Stage → List ℕ → Type 0

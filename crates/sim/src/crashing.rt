@@ -1,10 +1,8 @@
 //! What a crash leaves, and bytes that are changed behind it.
-ghost use Rattle.std.specs.Prelude.{◌≡◌, ◌<◌, ◌≤◌, ◌+◌, ◌++◌, ◌∷◌, [], take, drop, length, map, slice_set, IfOk};
-ghost use Rattle.std.specs.Prelude.{OnOk};
+ghost use Rattle.std.specs.Prelude.{◌≡◌, ◌<◌, ◌≤◌, ◌+◌, length, IfOk, OnOk};
 ghost use Rattle.limits.specs.declared.TheConstants.{BLOCK_BYTES};
-ghost use Rattle.disk.specs.Choice.{chosen};
-ghost use Rattle.disk.specs.Memory.{blocks_of, image_of, memory_device};
-ghost use Rattle.sim.specs.Crashing.{digits_of};
+ghost use Rattle.disk.specs.Memory.{memory_device};
+ghost use Rattle.sim.specs.Crashing.{IsLeft, IsPoked, digits_of};
 
 use disk::{Block, BlockNo, CrashDisk, MemDisk};
 use sim_words::Choice;
@@ -12,8 +10,7 @@ use std::alloc::{AllocError, Global};
 
 /// The device stops, and leaves of each block the content that is chosen.
 pub fn crashed(alloc: Global, disk: MemDisk, choice: &Choice) -> Result<MemDisk, AllocError>
-    ensures { IfOk result (λ left. blocks_of left
-        ≡ map (λ content. content ∷ []) (chosen (digits_of (length (blocks_of disk)) choice.now) (blocks_of disk))) }
+    ensures { IfOk result (λ left. IsLeft choice.now disk left) }
 {
     let digits = digits_of(alloc, disk.blocks(), choice)?;
     Ok(disk.crash(&digits))
@@ -40,9 +37,7 @@ pub fn poke(
 ) -> Result<(), AllocError>
     requires there { block.0 < (memory_device disk.old).size }
     requires within { offset + length bytes.now ≤ BLOCK_BYTES }
-    ensures { OnOk result (blocks_of disk.new ≡ slice_set (blocks_of disk.old) block.0
-        ((take offset (image_of disk.old block.0) ++ bytes.now
-        ++ drop (offset + length bytes.now) (image_of disk.old block.0)) ∷ [])) }
+    ensures { OnOk result (IsPoked block.0 offset bytes.now disk.old disk.new) }
 {
     let mut content = Block::zeros(alloc)?;
     content.copy_from(disk.newest(block));

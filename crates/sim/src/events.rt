@@ -28,7 +28,7 @@ pub fn drive(events: &mut Vec<Event>, worker: u32) -> Result<(), AllocError>
     ensures { OnOk result (events.new.items ≡ events.old.items ++ drive_events worker) }
 {
     let worker = worker as usize;
-    'drives: for _ in 0..DRIVES {
+    'drives: for _made in 0..DRIVES {
         events.push(Event::Work(worker))?;
         events.push(Event::Read(worker))?;
     }
@@ -39,7 +39,7 @@ pub fn drive(events: &mut Vec<Event>, worker: u32) -> Result<(), AllocError>
 pub fn log(events: &mut Vec<Event>, calls: u32) -> Result<(), AllocError>
     ensures { OnOk result (events.new.items ≡ events.old.items ++ log_events calls) }
 {
-    'calls: for _ in 0..calls {
+    'calls: for _made in 0..calls {
         events.push(Event::Log)?;
         events.push(Event::LogIo)?;
         events.push(Event::Log)?;
@@ -51,7 +51,7 @@ pub fn log(events: &mut Vec<Event>, calls: u32) -> Result<(), AllocError>
 pub fn install(events: &mut Vec<Event>, calls: u32) -> Result<(), AllocError>
     ensures { OnOk result (events.new.items ≡ events.old.items ++ install_events calls) }
 {
-    'calls: for _ in 0..calls {
+    'calls: for _made in 0..calls {
         events.push(Event::Install)?;
         events.push(Event::InstIo)?;
         events.push(Event::Install)?;

@@ -1,7 +1,7 @@
 //! A run of the store, and what it prints.
-ghost use Rattle.std.specs.Prelude.{◌≡◌, ◌++◌, map, OnOk};
+ghost use Rattle.std.specs.Prelude.{◌≡◌, ◌++◌, map, IfOk, OnOk};
 ghost use Rattle.disk.specs.Memory.{blocks_of, memory_device, past_of, to_fail};
-ghost use Rattle.sim.specs.Simulated.{HasPlayed, number_behind};
+ghost use Rattle.sim.specs.Simulated.{HasPlayed, Prints, number_behind};
 
 use crate::fault::SimFault;
 use crate::lines::{print_boot, print_open_refused};
@@ -21,7 +21,7 @@ pub fn play<W: Write>(
     segment: Segment,
     out: &mut W,
 ) -> Result<Option<MemDisk>, SimFault>
-    ensures { OnOk result (HasPlayed disk segment (W.contents out.old) result (W.contents out.new)) }
+    ensures { IfOk result (λ left. Prints (W.contents out.old) (W.contents out.new) (HasPlayed disk segment left)) }
 {
     let Segment {
         events,

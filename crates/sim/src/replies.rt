@@ -1,11 +1,11 @@
 //! The replies of a run, in their order.
-ghost use Rattle.std.specs.Prelude.{◌≡◌, OnOk};
+ghost use Rattle.std.specs.Prelude.{◌≡◌, OnOk, option_map};
 ghost use Rattle.std.specs.Io.KnownBytes.{Appends};
-ghost use Rattle.sim.specs.Replies.{IsReplied, number_of, reply_lines};
+ghost use Rattle.sim.specs.Replies.{answer_line, is_before, is_called, number_of, reply_lines};
 
 use crate::fault::SimFault;
+use crate::handed::Handed;
 use crate::lines::print_reply;
-use crate::segment::Handed;
 use rpc::Refusal;
 use session_wire::{RpcReply, reply_bytes};
 use std::alloc::Global;
@@ -39,28 +39,37 @@ fn number_of(run: &Run, handed: &[Handed], answer: &Answer) -> u32
 {
     let mut xid = 0;
     'handed: for message in handed {
-        if message.worker == answer.worker
-            && message.event < answer.event
-            && was_taken(run, message.event)
-        {
+        if is_before(run, answer, message) {
             xid = message.xid;
         }
     }
     xid
 }
 
-// Whether the event of an index handed a call to a worker, who was idle.
-fn was_taken(run: &Run, event: usize) -> bool {
-    matches!(run.steps.get(event), Some(Some(Step::Called)))
+// Whether a message was taken by the worker of an answer, before that.
+fn is_before(run: &Run, answer: &Answer, message: &Handed) -> bool
+    ensures { result ≡ is_before run.now.steps.items answer.now message.now }
+{
+    message.worker == answer.worker
+        && message.event < answer.event
+        && is_called(run.steps.get(message.event))
 }
 
+// Whether an event handed a call to a worker, who was idle.
+fn is_called(made: Option<&Option<Step>>) -> bool
+    ensures { result ≡ is_called (option_map (λ step. step.now) made) }
+{
+    matches!(made, Some(Some(Step::Called)))
+}
+
+// Prints an answer to a message of a number.
 fn print_answer<W: Write>(
     alloc: Global,
     out: &mut W,
     xid: u32,
     answer: &Answer,
 ) -> Result<(), SimFault>
-    ensures { OnOk result (IsReplied (W.contents out.old) (W.contents out.new) xid answer.now) }
+    ensures { OnOk result (Appends (W.contents out.old) (W.contents out.new) (answer_line xid answer.now)) }
 {
     let reply = match &answer.verdict {
         Verdict::Reply(reply) => RpcReply::Nfs(reply),

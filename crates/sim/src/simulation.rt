@@ -1,6 +1,7 @@
 //! A script, command by command.
-ghost use Rattle.std.specs.Prelude.{◌≡◌, OnOk};
-ghost use Rattle.sim.specs.Simulated.{Does, IsMade, IsStopped, HasPoked, Prints, IsPlayed, acted, moment_after, opened};
+ghost use Rattle.std.specs.Prelude.{◌≡◌, [], IfOk, OnOk};
+ghost use Rattle.sim.specs.Simulated.{Does, Ends, HasPoked, IsMade, IsPlayed, IsStopped, Prints};
+ghost use Rattle.sim.specs.Simulated.{acted, moment_after, opened};
 ghost use Rattle.model.specs.Sound.{SoundTime};
 
 use crate::crashing::{crashed, poke};
@@ -59,7 +60,8 @@ fn done<W: Write>(
     out: &mut W,
 ) -> Result<Stage, SimFault>
     requires { SoundTime moment }
-    ensures { OnOkOf result (λ later. Prints (W.contents out.old) (W.contents out.new) (Does moment stage command later)) }
+    ensures { IfOk result (λ later. Prints (W.contents out.old) (W.contents out.new)
+        (Does moment stage command later)) }
 {
     match command {
         Command::Time(_) => Ok(stage),
@@ -84,7 +86,11 @@ fn made<W: Write>(
     inodes: u32,
     stage: Stage,
     out: &mut W,
-) -> Result<Stage, SimFault> {
+) -> Result<Stage, SimFault>
+    requires { SoundTime moment }
+    ensures { IfOk result (λ later. Prints (W.contents out.old) (W.contents out.new)
+        (IsMade moment blocks inodes stage later)) }
+{
     match stage {
         Stage::First => match image(alloc, blocks, inodes, moment) {
             Ok(disk) => Ok(Stage::Open(disk, Segment::new(alloc))),
@@ -108,7 +114,9 @@ fn opened(alloc: Global, stage: Stage) -> Stage
 }
 
 // Something more happens to an open store.
-fn acted(moment: Moment, action: Action, stage: Stage) -> Result<Stage, AllocError> {
+fn acted(moment: Moment, action: Action, stage: Stage) -> Result<Stage, AllocError>
+    ensures { IfOk result (λ later. later ≡ acted moment action stage) }
+{
     match stage {
         Stage::Open(disk, mut segment) => {
             segment.add(moment, action)?;
@@ -124,7 +132,10 @@ fn stopped<W: Write>(
     choice: &Choice,
     stage: Stage,
     out: &mut W,
-) -> Result<Stage, SimFault> {
+) -> Result<Stage, SimFault>
+    ensures { IfOk result (λ later. Prints (W.contents out.old) (W.contents out.new)
+        (IsStopped choice.now stage later)) }
+{
     match stage {
         Stage::Open(disk, segment) => match play(alloc, disk, segment, out)? {
             Some(disk) => Ok(Stage::Stopped(crashed(alloc, disk, choice)?)),
@@ -141,7 +152,9 @@ fn poked(
     offset: u32,
     bytes: &[u8],
     stage: Stage,
-) -> Result<Stage, AllocError> {
+) -> Result<Stage, AllocError>
+    ensures { IfOk result (λ later. HasPoked block offset bytes.now stage later []) }
+{
     match stage {
         Stage::Stopped(mut disk) => {
             let offset = offset as usize;
@@ -155,7 +168,9 @@ fn poked(
 }
 
 // The script ends: what has happened since the last opening is run.
-fn finish<W: Write>(alloc: Global, stage: Stage, out: &mut W) -> Result<(), SimFault> {
+fn finish<W: Write>(alloc: Global, stage: Stage, out: &mut W) -> Result<(), SimFault>
+    ensures { OnOk result (Prints (W.contents out.old) (W.contents out.new) (Ends stage)) }
+{
     match stage {
         Stage::Open(disk, segment) => {
             play(alloc, disk, segment, out)?;
