@@ -6,8 +6,8 @@ use sim_words::OneEvent;
 use std::alloc::AllocError;
 use store::Event;
 
-// How often a worker goes on where it is driven: more often than any procedure needs.
-const DRIVES: u32 = 2000;
+/// How often a worker goes on where it is driven: more often than any procedure needs.
+pub const DRIVES: u32 = 2000;
 
 /// One event.
 pub fn one_event(event: OneEvent) -> Event
