@@ -7,12 +7,12 @@ use Rattle.clap.specs.Words.{Text}
 use Rattle.disk.specs.declared.file.FirstContents.{FirstContents}
 use Rattle.disk.specs.Device.{Device}
 use Rattle.nfsd_words.specs.declared.Args.{Args}
-use Rattle.nfsd_words.specs.declared.Args.TheVariants.{Format, Once, Serve}
+use Rattle.nfsd_words.specs.declared.Args.TheVariants.{Format, Once, Serve, Sim}
 use Rattle.nfsd_words.specs.Words.{HasMeaning, WordsAsk}
 use Rattle.layout.specs.Geometry.{data_at}
 use Rattle.store_images.specs.Formatting.{HasFormatted}
 use Rattle.nfs_types.specs.declared.ctx.Moment.{Moment}
-use Rattle.session.specs.Serving.{Client, HasServed}
+use Rattle.session.specs.Serving.{Client, HasServed, client_of}
 use Rattle.session.specs.declared.serving.SessionFault.{SessionFault}
 use Rattle.store_images.specs.Opening.{HasOpened, Opened}
 use Rattle.pool.specs.declared.ending.Ended.{Ended}
@@ -25,6 +25,7 @@ use Rattle.nfsd.specs.Done.{ServesClients, ServesDevice, TellsOutcome, Told, dev
 use Rattle.nfsd.specs.Done.{moment_at, outcome_of_server}
 use Rattle.nfsd.specs.Faults.{status_of_outcome}
 use Rattle.nfsd.specs.Lines.{IsAnnouncedBy}
+use Rattle.nfsd.specs.Scripts.{PlaysScript}
 
 -- the command that was asked for was done, so the arguments were obeyed
 pub obeys_command : (first : FirstContents) (words : List Text) (args : Args) (client : Client)
@@ -46,6 +47,9 @@ obeys_command first words (Serve image listen workers connections) client (Err f
     does = absurd does.2
 obeys_command first words (Serve image listen workers connections) client (Err (fault.Words e)) device later asks
     does = absurd does.2
+obeys_command first words (Sim script) client (Err fault.NotText) device later asks does = absurd does.3
+obeys_command first words (Sim script) client (Err fault.Memory) device later asks does = absurd does.3
+obeys_command first words (Sim script) client (Err (fault.Words e)) device later asks does = absurd does.3
 obeys_command first words args client outcome device later asks does = (args, asks, does)
 
 -- a device was made an image, and the line of its counts was printed or wasn't
@@ -138,6 +142,16 @@ listens_command first image listen workers connections size client (Err (fault.A
     serves = absurd serves
 listens_command first image listen workers connections size client outcome device later unread serves =
     (size, unread, serves)
+
+-- a script was played, so the command was done
+pub plays_command : (first : FirstContents) (script : _) (client : Client) (outcome : Outcome) (device : Option Device)
+    (later : Client) → device ≡ None → later.unread ≡ client.unread
+    → PlaysScript script.now client.written outcome later.written
+    → DoesCommand first (Sim script) client outcome device later
+plays_command first script client (Err (fault.File trouble)) device later none unread plays =
+    (ap (λ (bytes : Option (List ℕ)). client_of bytes later.written) unread
+    ∙ ap (λ (bytes : Option (List ℕ)). client_of client.unread bytes) plays.1, none, inl plays.0)
+plays_command first script client outcome device later none unread plays = (none, unread, plays)
 
 -- with status 2 the arguments have no meaning
 obeys_two : (first : FirstContents) (words : List Text) (client : Client) (outcome : Outcome)

@@ -12,7 +12,7 @@ use Rattle.wal_law.specs.Log.{settled_place}
 use Rattle.txn_law.specs.Core.{CoreState}
 use Rattle.nfs_types.specs.declared.ctx.Moment.{Moment}
 use Rattle.nfsd_words.specs.declared.Args.{Args}
-use Rattle.nfsd_words.specs.declared.Args.TheVariants.{Format, Once, Serve}
+use Rattle.nfsd_words.specs.declared.Args.TheVariants.{Format, Once, Serve, Sim}
 use Rattle.nfsd_words.specs.Words.{HasMeaning, WordsAsk}
 use Rattle.layout.specs.Geometry.{data_at}
 use Rattle.store_images.specs.Formatting.{HasFormatted}
@@ -27,6 +27,7 @@ use Rattle.nfsd.specs.declared.image_disk.ImageDisk.{ImageDisk}
 use Rattle.nfsd.specs.declared.image_disk.ImageDisk.TheVariants.{Plain, Watched}
 use Rattle.nfsd.specs.Faults.{IsAbout, as_line, fault_line, status_of_outcome}
 use Rattle.nfsd.specs.Lines.{listening_line}
+use Rattle.nfsd.specs.Scripts.{PlaysScript}
 
 -- what came of the program: it is done, or there is a fault
 abbrev pub Outcome : Type 0
@@ -116,15 +117,16 @@ abbrev pub AreAsked : Option ℕ → ℕ → Type 0
 AreAsked None size = size ≤ MOST_BLOCKS
 AreAsked (Some asked) size = size ≡ asked
 
--- the image of a command
+-- the image of a command, or its script
 abbrev pub image_of : Args → Text
 image_of (Format image blocks inodes time) = image.now
 image_of (Once image time) = image.now
 image_of (Serve image listen workers connections) = image.now
+image_of (Sim script) = script.now
 
 -- The command that is asked for was done to the device of a file that held this, this came of it, and the device
--- is handed back as that left it, but for a device that was served from; or there is no device, and the fault is
--- that of the image's file, of what closed streams are filled from, or of the address.
+-- is handed back as that left it, but for a device that was served from; or a script was played; or there is no
+-- device, and the fault is that of the image's file, of what closed streams are filled from, or of the address.
 abbrev pub DoesCommand : FirstContents → Args → Client → Outcome → Option Device → Client → Type 0
 DoesCommand first args client (Err (fault.File trouble)) device later = (later ≡ client) × (device ≡ None)
     × (IsAbout trouble (image_of args) ⊎ IsAbout trouble (codes "/dev/null"))
@@ -138,6 +140,8 @@ DoesCommand first (Serve image listen workers connections) client (Err (fault.Ad
 DoesCommand first (Serve image listen workers connections) client outcome device later = (size : ℕ)
     × (later.unread ≡ client.unread)
     × ServesClients (device_of first size) client.written outcome device later.written
+DoesCommand first (Sim script) client outcome device later = (device ≡ None) × (later.unread ≡ client.unread)
+    × PlaysScript script.now client.written outcome later.written
 
 -- The arguments were obeyed: the command that they ask for was done to a file that held this, or they have no
 -- meaning, or there was no memory to read them.

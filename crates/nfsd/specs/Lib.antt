@@ -1,3 +1,4 @@
 pub mod Done
 pub mod Faults
 pub mod Lines
+pub mod Scripts

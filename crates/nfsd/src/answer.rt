@@ -11,6 +11,7 @@ use crate::fault::Fault;
 use crate::fault_stream::FaultStream;
 use crate::image_disk::ImageDisk;
 use crate::image_files::{make_image, open_image};
+use crate::scripts::play_script;
 use crate::streams::{Streams, fill};
 use crate::tcp::{listen_at, serve_clients};
 use crate::trouble::Trouble;
@@ -204,5 +205,6 @@ where
             let alloc = rt.alloc();
             serve_clients(rt, alloc, disk, &listening, workers, connections, writer)
         }
+        Args::Sim { script } => (None, play_script(rt, script, writer)),
     }
 }

@@ -10,6 +10,7 @@ mod fault_stream;
 mod image_disk;
 mod image_files;
 mod lines;
+mod scripts;
 mod streams;
 mod tcp;
 mod trouble;

@@ -10,7 +10,7 @@ use Rattle.clap.proofs.WalkLemmas.{first_value-rows, one_text-rows}
 use Rattle.clap.specs.declared.ArgMatches.{ArgMatches}
 use Rattle.clap.specs.declared.error.kind.ErrorKind.{ErrorKind}
 use Rattle.nfsd_words.specs.declared.Args.{Args}
-use Rattle.nfsd_words.specs.declared.Args.TheVariants.{Format, Once, Serve}
+use Rattle.nfsd_words.specs.declared.Args.TheVariants.{Format, Once, Serve, Sim}
 use Rattle.nfsd_words.specs.Words.{Asks, IsNumber, IsNumberOrNone}
 
 -- a text that `get_str` gave stands first in its row
@@ -76,12 +76,23 @@ pub number_or_none_found : (m : ArgMatches) (id : Text) (r : Option ℕ)
 number_or_none_found m id None none value = λ n. no_number_found m id None n value refl
 number_or_none_found m id (Some n) none value = number_found m id (Some n) n none value refl
 
--- without a text of its image a command asks for nothing
-pub no_image : (name : Text) (found : List Row) → ((x : Text) → first_of (codes "IMAGE") found ≡ Some x → ⊥)
+-- the commands have names of their own
+pub format_is_no_sim : ¬ (codes "format" ≡ codes "sim")
+format_is_no_sim same = let other : codes "format" ≡ codes "sim" = same in cc
+
+pub once_is_no_sim : ¬ (codes "once" ≡ codes "sim")
+once_is_no_sim same = let other : codes "once" ≡ codes "sim" = same in cc
+
+pub serve_is_no_sim : ¬ (codes "serve" ≡ codes "sim")
+serve_is_no_sim same = let other : codes "serve" ≡ codes "sim" = same in cc
+
+-- without a text of its image a command asks for nothing, but for one that takes a script
+pub no_image : (name : Text) (found : List Row) → ¬ (name ≡ codes "sim") → ((x : Text) → first_of (codes "IMAGE") found ≡ Some x → ⊥)
     → (args : Args) → ¬ Asks name found args
-no_image name found none (Format image blocks inodes time) asks = none image.now asks.1
-no_image name found none (Once image time) asks = none image.now asks.1
-no_image name found none (Serve image listen workers connections) asks = none image.now asks.1
+no_image name found no_sim none (Format image blocks inodes time) asks = none image.now asks.1
+no_image name found no_sim none (Once image time) asks = none image.now asks.1
+no_image name found no_sim none (Serve image listen workers connections) asks = none image.now asks.1
+no_image name found no_sim none (Sim script) asks = no_sim asks.0
 
 -- `format` asks for nothing without a number of its time
 pub no_time_made : (found : List Row) → ((n : ℕ) → IsNumber found (codes "time") n → ⊥)
@@ -90,6 +101,7 @@ no_time_made found none (Format image blocks inodes time) asks = none time asks.
 no_time_made found none (Once image time) asks = let other : codes "format" ≡ codes "once" = asks.0 in cc
 no_time_made found none (Serve image listen workers connections) asks =
     let other : codes "format" ≡ codes "serve" = asks.0 in cc
+no_time_made found none (Sim script) asks = absurd (format_is_no_sim asks.0)
 
 -- `once` asks for nothing without a number of its time
 pub no_time_of_calls : (found : List Row) → ((n : ℕ) → IsNumber found (codes "time") n → ⊥)
@@ -99,6 +111,7 @@ no_time_of_calls found none (Format image blocks inodes time) asks =
 no_time_of_calls found none (Once image time) asks = none time asks.2
 no_time_of_calls found none (Serve image listen workers connections) asks =
     let other : codes "once" ≡ codes "serve" = asks.0 in cc
+no_time_of_calls found none (Sim script) asks = absurd (once_is_no_sim asks.0)
 
 -- `format` asks for nothing without a number of its inodes
 pub no_inodes : (found : List Row) → ((n : ℕ) → IsNumber found (codes "inodes") n → ⊥)
@@ -107,6 +120,7 @@ no_inodes found none (Format image blocks inodes time) asks = none inodes asks.3
 no_inodes found none (Once image time) asks = let other : codes "format" ≡ codes "once" = asks.0 in cc
 no_inodes found none (Serve image listen workers connections) asks =
     let other : codes "format" ≡ codes "serve" = asks.0 in cc
+no_inodes found none (Sim script) asks = absurd (format_is_no_sim asks.0)
 
 -- `serve` asks for nothing without a text of its address
 pub no_listen : (found : List Row) → ((x : Text) → first_of (codes "listen") found ≡ Some x → ⊥)
@@ -115,6 +129,7 @@ no_listen found none (Format image blocks inodes time) asks =
     let other : codes "serve" ≡ codes "format" = asks.0 in cc
 no_listen found none (Once image time) asks = let other : codes "serve" ≡ codes "once" = asks.0 in cc
 no_listen found none (Serve image listen workers connections) asks = none listen.now asks.2
+no_listen found none (Sim script) asks = absurd (serve_is_no_sim asks.0)
 
 -- `serve` asks for nothing without a number of its workers
 pub no_workers : (found : List Row) → ((n : ℕ) → IsNumber found (codes "workers") n → ⊥)
@@ -123,6 +138,7 @@ no_workers found none (Format image blocks inodes time) asks =
     let other : codes "serve" ≡ codes "format" = asks.0 in cc
 no_workers found none (Once image time) asks = let other : codes "serve" ≡ codes "once" = asks.0 in cc
 no_workers found none (Serve image listen workers connections) asks = none workers asks.3
+no_workers found none (Sim script) asks = absurd (serve_is_no_sim asks.0)
 
 -- `serve` asks for nothing without a number of its connections
 pub no_connections : (found : List Row) → ((n : ℕ) → IsNumber found (codes "connections") n → ⊥)
@@ -131,6 +147,15 @@ no_connections found none (Format image blocks inodes time) asks =
     let other : codes "serve" ≡ codes "format" = asks.0 in cc
 no_connections found none (Once image time) asks = let other : codes "serve" ≡ codes "once" = asks.0 in cc
 no_connections found none (Serve image listen workers connections) asks = none connections asks.4
+no_connections found none (Sim script) asks = absurd (serve_is_no_sim asks.0)
+
+-- `sim` asks for nothing without a text of its script
+pub no_script : (found : List Row) → ((x : Text) → first_of (codes "SCRIPT") found ≡ Some x → ⊥)
+    → (args : Args) → ¬ Asks (codes "sim") found args
+no_script found none (Format image blocks inodes time) asks = absurd (format_is_no_sim (sym asks.0))
+no_script found none (Once image time) asks = absurd (once_is_no_sim (sym asks.0))
+no_script found none (Serve image listen workers connections) asks = absurd (serve_is_no_sim (sym asks.0))
+no_script found none (Sim script) asks = none script.now asks.1
 
 -- a fact stands where there is no value
 pub if_none : {A : Type 0} {P : Type 0} (r : Option A) → P → IfNone r P

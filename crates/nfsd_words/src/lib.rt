@@ -9,8 +9,11 @@ ghost use Rattle.nfsd_words.specs.declared.Args.{Args as Asked};
 ghost use Rattle.nfsd_words.specs.Words.{Asks, HasMeaning, IsAsked, WordsAsk, default_rule, first_of_format};
 ghost use Rattle.nfsd_words.specs.Words.{first_of_program, first_of_serve, format_command, image_rule};
 ghost use Rattle.nfsd_words.specs.Words.{number_rule, once_command, required_rule, second_of_program};
-ghost use Rattle.nfsd_words.specs.Words.{serve_command, text_rule, whole_program};
+ghost use Rattle.nfsd_words.specs.Words.{serve_command, text_rule, third_of_program, whole_program};
 
+mod scripts;
+
+use crate::scripts::{asked_sim, sim_words};
 use clap::error::ErrorKind;
 use clap::{Arg, ArgMatches, Command, Error, value_parser};
 use std::alloc::{AllocError, Global};
@@ -62,6 +65,10 @@ pub enum Args<'a> {
         workers: u32,
         connections: u32,
     },
+    /// Runs the schedule of a script.
+    Sim {
+        script: &'a str,
+    },
 }
 
 /// Reads the arguments of a command line, of which the first is the program's name. A value that should have
@@ -91,7 +98,10 @@ fn asked<'a>(matches: &ArgMatches<'a>) -> Option<Args<'a>>
     if let Some(given) = matches.subcommand_matches("once") {
         return asked_once(given);
     }
-    asked_serve(matches.subcommand_matches("serve")?)
+    if let Some(given) = matches.subcommand_matches("serve") {
+        return asked_serve(given);
+    }
+    asked_sim(matches.subcommand_matches("sim")?)
 }
 
 fn asked_format<'a>(given: &ArgMatches<'a>) -> Option<Args<'a>>
@@ -133,6 +143,12 @@ fn asked_serve<'a>(given: &ArgMatches<'a>) -> Option<Args<'a>>
 
 fn program<'a>(alloc: Global) -> Result<Command<'a>, AllocError>
     ensures { IfOk result (λ command. app_of command ≡ whole_program) }
+{
+    program_up_to_serve(alloc)?.subcommand(sim_words(alloc)?)
+}
+
+fn program_up_to_serve<'a>(alloc: Global) -> Result<Command<'a>, AllocError>
+    ensures { IfOk result (λ command. app_of command ≡ third_of_program) }
 {
     program_up_to_once(alloc)?.subcommand(serve_words(alloc)?)
 }

@@ -1,0 +1,3 @@
+mod Printed
+mod Repeated
+mod Replied

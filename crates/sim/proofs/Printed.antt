@@ -1,0 +1,51 @@
+-- What is printed, one thing behind another.
+use Rattle.std.proofs.Common.{◌≡◌, ◌∙◌, List, ℕ, [], ◌∷◌, ◌++◌, Option, Some, None, ap, sym, append_assoc, append-nil, refl, subst}
+use Rattle.std.specs.Io.KnownBytes.{Appends}
+use Rattle.http_server.proofs.KnownLemmas.{Appends-then}
+use Rattle.nfs_types.specs.declared.ctx.Moment.{Moment}
+use Rattle.sim.specs.Simulated.{Comes, Does, Ends, IsPlayed, Prints, moment_after}
+use Rattle.sim.specs.declared.stage.Stage.{Stage}
+use Rattle.sim_words.specs.declared.command.Command.{Command}
+
+-- nothing was printed
+pub prints_nothing : (written : Option (List ℕ)) → Appends written written []
+prints_nothing None = tt
+prints_nothing (Some bytes) = sym (append-nil bytes)
+
+-- something was printed that this is the beginning of: more of it is printed by the commands that are left
+pub record IsBegun (start moment : Moment) (first stage : Stage) (all left : List Command)
+    (written now : Option (List ℕ)) : Type 0 where
+  pub printed : List ℕ
+  pub appends : Appends written now printed
+  pub goes_on : (more : List ℕ) → Comes moment stage left more → Comes start first all (printed ++ more)
+
+pub it_begins : (moment : Moment) (stage : Stage) (all : List Command) (written : Option (List ℕ))
+    → IsBegun moment moment stage stage all all written written
+it_begins moment stage all written = record {
+  printed = [];
+  appends = prints_nothing written;
+  goes_on = λ more comes. comes;
+}
+
+-- a command more
+pub it_goes_on : (start moment : Moment) (first stage later : Stage) (all left : List Command) (command : Command)
+    (written now then : Option (List ℕ)) → IsBegun start moment first stage all (command ∷ left) written now
+    → Prints now then (Does moment stage command later)
+    → IsBegun start (moment_after command moment) first later all left written then
+unfolding Comes
+it_goes_on start moment first stage later all left command written now then begun (printed, appends, does) = record {
+  printed = begun.printed ++ printed;
+  appends = Appends-then written now then begun.printed printed begun.appends appends;
+  goes_on = λ more comes. subst (λ (bytes : List ℕ). Comes start first all bytes)
+      (sym (append_assoc begun.printed printed more))
+      (begun.goes_on (printed ++ more) (later, printed, more, does, comes, refl));
+}
+
+-- the end
+pub it_ends : (start moment : Moment) (first stage : Stage) (all : List Command) (written now then : Option (List ℕ))
+    → IsBegun start moment first stage all [] written now → Prints now then (Ends stage)
+    → Prints written then (Comes start first all)
+unfolding Comes
+it_ends start moment first stage all written now then begun (printed, appends, ends) =
+    (begun.printed ++ printed, Appends-then written now then begun.printed printed begun.appends appends,
+    begun.goes_on printed ends)
