@@ -1,0 +1,4 @@
+mod Entries
+mod Lawful
+mod Once
+mod Directory
