@@ -180,10 +180,11 @@ module _ (g : Geometry) (boot : ℕ) (image : Image) where
               files.is_tidy g content inode (sound inode refl) (names inode refl) is
           by_entry None sound names is = tt
 
-      is_tidy_found : (b : Bool) → found.tidy ≡ b
-          → ((number : ℕ) → number < g.inodes → IsTidy g content (get_or table number None)) → b ≡ true
-      is_tidy_found true is each = refl
-      is_tidy_found false is each = absurd (is_found.untidy is each)
+      is_tidy_found : (o : Option ℕ) → found.untidy ≡ o
+          → ((number : ℕ) → number < g.inodes → IsTidy g content (get_or table number None)) → found.untidy ≡ None
+      is_tidy_found None is each = is
+      is_tidy_found (Some number) is each =
+          let first = is_found.untidy number is in absurd (first.is (each number first.within))
 
       made_at : (tree : Tree) → Stands g home tree → IsMadeBy boot tree → AreMadeBy boot table
       made_at tree stands made number less =
@@ -200,7 +201,7 @@ module _ (g : Geometry) (boot : ℕ) (image : Image) where
       no_tree not tree stands made =
           let whole = whole_of g home tree stands in
           not (record {
-            tidy = is_tidy_found found.tidy refl (λ number less. tidy_at whole number less
+            tidy = is_tidy_found found.untidy refl (λ number less. tidy_at whole number less
                 (file_at_same number less (stands.parts.has.inodes number less)));
             made = made_at tree stands made;
             linked = are_linked g home table found.links blocks counted whole;
