@@ -1,4 +1,4 @@
-mod Entries
+pub mod Directory
+pub mod Entries
 mod Lawful
 mod Once
-mod Directory

@@ -1,5 +1,5 @@
 -- Keys of which none stands twice.
-use Rattle.std.proofs.Common.{◌≡◌, ℕ, ◌+◌, sym, ap, ◌∙◌, refl, Bool, true, false, cond, List, [], ◌∷◌, length, map}
+use Rattle.std.proofs.Common.{◌≡◌, ℕ, suc, ◌+◌, sym, ap, ◌∙◌, refl, Bool, true, false, cond, List, [], ◌∷◌, length, map}
 use Rattle.std.proofs.Common.{Option, Some, None, is_some, arith}
 use Rattle.std.specs.Cmp.{IsTotalOrder}
 use Rattle.std.specs.FinMap.{FinMap, IsAntisymmetric, contains_key, find, from_entries, get, get-from_entries, len, len-empty}
@@ -48,5 +48,5 @@ module _ {K X : Type 0} {R : K → K → Ordering} (o : IsTotalOrder R) (exact :
       ∙ ap (λ b. cond b (len (from_entries {R = R} es)) (len (from_entries {R = R} es) + 1)) new
       ∙ more (len (from_entries {R = R} es)) (length es) rest
     where
-      more : (n m : ℕ) → n ≡ m → n + 1 ≡ m + 1
+      more : (n m : ℕ) → n ≡ m → n + 1 ≡ suc m
       more n m e = omega (arith, e)

@@ -1,2 +1,2 @@
 mod Sums
-mod Counting
+pub mod Counting
