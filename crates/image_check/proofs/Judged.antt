@@ -69,15 +69,15 @@ module _ (g : Geometry) (boot : ℕ) (image : Image) where
       (λ is. refused.2 (subst IsOk (inode_same g image refused.0 refused.1) is))
     where
       by_result : (r : Result (Option Inode) LayoutFault) → IsFile g (content_in g home) r → (IsOk r → ⊥) → ⊥
-      by_result (Ok o) is not = not tt
+      by_result (Ok o) is not = not refl
       by_result (Err fault) is not = is
 
   module _ (table : List (Option Inode)) (read : IsRead g image table) where
     long : length table ≡ g.inodes
-    long = read.table.long
+    long = read.inodes.long
 
     are : (number : ℕ) → number < g.inodes → table_of g home number ≡ Ok (get_or table number None)
-    are number less = inode_same g image number less ∙ read.table.each number less
+    are number less = inode_same g image number less ∙ read.inodes.each number less
 
     blocks : AreBlocksOf g.blocks home
     blocks = blocks_are g image read.blocks
@@ -109,7 +109,7 @@ module _ (g : Geometry) (boot : ℕ) (image : Image) where
         (taken INODE_BYTES (drop (inode_offset number) (image (inode_block g number)))
         (dropped (inode_offset number) (image (inode_block g number)) block.1))
         (part-length INODE_BYTES (inode_offset number) (image (inode_block g number)) (omega (arith, long)))
-        inode (read.table.each number less ∙ ap Ok is)
+        inode (read.inodes.each number less ∙ ap Ok is)
 
     sound_if_any : (number : ℕ) → number < g.inodes → IsSoundIfAny g (get_or table number None)
     sound_if_any number less = by_entry (get_or table number None) (sound_at number less)
@@ -277,5 +277,5 @@ module _ (g : Geometry) (boot : ℕ) (image : Image) where
       pub judged : found.owners.shared ≡ false → AreMarked g image found.owners table
           → (result : Result Counts CheckFault) → IfOk result (IsJudged boot table found)
           → IfErr result (IsRefusal (IsTreeBy boot table found → ⊥)) → IsSearched g boot image result
-      judged once marks (Ok counts) yes no = is_tree once marks yes.tree counts yes.files yes.blocks
-      judged once marks (Err cause) yes no = as_searched g boot image cause (said_then cause no_tree no)
+      judged once marks (Ok counts) is not = is_tree once marks is.tree counts is.files is.blocks
+      judged once marks (Err cause) is not = as_searched g boot image cause (said_then cause no_tree not)

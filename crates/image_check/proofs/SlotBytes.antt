@@ -11,7 +11,7 @@ use Rattle.layout.specs.declared.fault.LayoutFault.{LayoutFault}
 use Rattle.layout.specs.declared.fault.LayoutFault.TheVariants.{Range}
 use Rattle.layout.specs.declared.inode.Inode.{Inode}
 use Rattle.layout.specs.declared.slot.Slot.{Slot}
-use Rattle.layout.specs.declared.slot.TheConstants.{COUNT_AT, NAME_AT, NUMBER_AT, SLOT_BYTES}
+use Rattle.layout.specs.declared.slot.TheConstants.{SLOT_BYTES}
 use Rattle.layout.specs.Decode.{bytes_of, content_of, numbers_of, slot_bytes, span_of}
 use Rattle.layout.specs.Fields.{four_at, is_zeros}
 use Rattle.layout.specs.SlotForm.{is_sound_slot, read_slot, slot_of}
@@ -36,7 +36,7 @@ named : (bytes : List ℕ) (r : Result (Option Slot) LayoutFault) (slot : Slot) 
     → ((one : Slot) → r ≡ Ok (Some one) → one ≡ slot_of bytes) → AreBytes bytes → AreBytes slot.name
 named bytes r slot is from are =
     subst (λ (one : Slot). AreBytes one.name) (sym (from slot is))
-    (taken (four_at COUNT_AT bytes) (drop NAME_AT bytes) (dropped NAME_AT bytes are))
+    (taken (four_at 4 bytes) (drop 8 bytes) (dropped 8 bytes are))
 
 module _ (inodes : ℕ) (bytes : List ℕ) where
   from_used : (sound : Bool) (slot : Slot)
@@ -59,7 +59,7 @@ module _ (inodes : ℕ) (bytes : List ℕ) where
 
   slot_is : (slot : Slot) → read_slot inodes bytes ≡ Ok (Some slot) → slot ≡ slot_of bytes
   unfolding read_slot
-  slot_is slot e = by_number (nat_eq (four_at NUMBER_AT bytes) 0) slot e
+  slot_is slot e = by_number (nat_eq (four_at 0 bytes) 0) slot e
 
 module _ (content : Image) (are : (number : ℕ) → AreBytes (content number)) where
   one_is : (none : Bool) (number : ℕ) → IsBytes (cond none (replicate BLOCK_BYTES 0) (content number))

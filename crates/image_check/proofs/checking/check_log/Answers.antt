@@ -22,7 +22,7 @@ search-requires g c = let size = c.in-Ok.ensures.reads.size in omega (arith, siz
 
 pub returns-in-Err-clause-failure : goal.returns-in-Err-clause-failure
 returns-in-Err-clause-failure g c =
-    counts_as {T = Counts} {U = List (BlockNo × Content)} (g.D.CrashDisk.device c.args.disk.now)
+    counts_as Counts (List (BlockNo × Content)) (g.D.CrashDisk.device c.args.disk.now)
     (g.D.CrashDisk.device c.read_overlay.new.disk) c.in-Err.cause c.in-Err.ensures.failure
 
 pub returns-in-Err-clause-checked : goal.returns-in-Err-clause-checked
