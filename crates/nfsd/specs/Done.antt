@@ -11,7 +11,7 @@ use Rattle.disk.specs.Device.{Device}
 use Rattle.disk.specs.File.{file_device, first_in}
 use Rattle.nfs_types.specs.declared.ctx.Moment.{Moment}
 use Rattle.nfsd_words.specs.declared.Args.{Args}
-use Rattle.nfsd_words.specs.declared.Args.TheVariants.{Format, Once, Serve}
+use Rattle.nfsd_words.specs.declared.Args.TheVariants.{Check, Format, Once, Serve, Show}
 use Rattle.nfsd_words.specs.Words.{HasMeaning, WordsAsk}
 use Rattle.layout.specs.Geometry.{data_at}
 use Rattle.store_images.specs.Formatting.{HasFormatted}
@@ -23,6 +23,7 @@ use Rattle.session.specs.declared.serving.SessionFault.TheVariants as session
 use Rattle.nfsd.specs.declared.fault.Fault.{Fault}
 use Rattle.nfsd.specs.declared.fault.Fault.TheVariants as fault
 use Rattle.nfsd.specs.Faults.{IsAbout, as_line, fault_line, status_of_outcome}
+use Rattle.nfsd.specs.Looked.{ChecksImage, ShowsImage}
 
 -- what came of the program: it is done, or there is a fault
 abbrev pub Outcome : Type 0
@@ -107,6 +108,8 @@ abbrev pub image_of : Args → Text
 image_of (Format image blocks inodes time) = image.now
 image_of (Once image time) = image.now
 image_of (Serve image listen workers connections) = image.now
+image_of (Check image) = image.now
+image_of (Show image) = image.now
 
 -- The command that is asked for was done to the device of a file that held this, this came of it, and the device
 -- is handed back as that left it, but for a device that was served from; or there is no device, and the fault is
@@ -124,6 +127,10 @@ DoesCommand first (Serve image listen workers connections) client (Err (fault.Ad
 DoesCommand first (Serve image listen workers connections) client outcome device later = (size : ℕ)
     × (later.unread ≡ client.unread)
     × ServesClients (device_of first size) client.written outcome device later.written
+DoesCommand first (Check image) client outcome device later = (later.unread ≡ client.unread)
+    × ChecksImage first image.now client.written outcome device later.written
+DoesCommand first (Show image) client outcome device later = (later.unread ≡ client.unread)
+    × ShowsImage first image.now client.written outcome device later.written
 
 -- The arguments were obeyed: the command that they ask for was done to a file that held this, or they have no
 -- meaning, or there was no memory to read them.

@@ -10,6 +10,8 @@ use crate::device::{format_device, serve_device};
 use crate::fault::Fault;
 use crate::fault_stream::FaultStream;
 use crate::image_files::{make_image, open_for_threads, open_image};
+use crate::looking::{check_image, show_image};
+use crate::read_files::SharedFile;
 use crate::streams::{Streams, fill};
 use crate::tcp::{listen_at, serve_clients};
 use crate::trouble::Trouble;
@@ -57,7 +59,7 @@ where
         + Wait
         + Clock
         + Sync,
-    R::File: BlockFile + Send + Sync,
+    R::File: BlockFile + SharedFile + Send + Sync,
     I: Read,
     O: Write,
     E: Write,
@@ -93,7 +95,7 @@ where
         + Wait
         + Clock
         + Sync,
-    R::File: BlockFile + Send + Sync,
+    R::File: BlockFile + SharedFile + Send + Sync,
     I: Read,
     O: Write,
     ensures { Obeys first (map (λ word. word.now) line.now)
@@ -131,7 +133,7 @@ where
         + Wait
         + Clock
         + Sync,
-    R::File: BlockFile + Send + Sync,
+    R::File: BlockFile + SharedFile + Send + Sync,
     I: Read,
     O: Write,
     ensures { DoesCommand first args.entry
@@ -189,5 +191,7 @@ where
             let alloc = rt.alloc();
             serve_clients(rt, alloc, disk, &listening, workers, connections, writer)
         }
+        Args::Check { image } => check_image(rt, image, first, writer),
+        Args::Show { image } => show_image(rt, image, first, writer),
     }
 }

@@ -1,4 +1,5 @@
-//! The program: makes images, and serves one client over the standard input and output, or many over TCP.
+//! The program: makes images, serves one client over the standard input and output, or many over TCP, and tells whether an
+//! image is good and which files it has.
 #![tactic(auto)]
 
 mod answer;
@@ -8,6 +9,8 @@ mod fault;
 mod fault_stream;
 mod image_files;
 mod lines;
+mod looking;
+mod read_files;
 mod streams;
 mod tcp;
 mod trouble;
@@ -16,6 +19,7 @@ use crate::answer::{answer, conclude};
 use crate::arguments::arguments;
 use crate::fault::Fault;
 use crate::fault_stream::FaultStream;
+use crate::read_files::SharedFile;
 use crate::streams::Streams;
 use disk::{BlockFile, FirstContents};
 use session::Input;
@@ -46,7 +50,7 @@ where
         + Wait
         + Clock
         + Sync,
-    R::File: BlockFile + Send + Sync,
+    R::File: BlockFile + SharedFile + Send + Sync,
     I: Read + Drop,
     O: Write + Drop,
     E: Write + Drop,

@@ -162,9 +162,9 @@ fn find_log<D: CrashDisk>(alloc: Global, disk: &mut D, blocks: u32) -> Result<Wa
     }
 }
 
-// The super block of an image that may be opened, as far as it shows. It only reads.
+/// The super block of an image that may be opened, as far as it shows. It only reads.
 #[tactic(auto, using(wal_law::proofs::OnlyRead::read_alone, wal_law::proofs::OnlyRead::no_read, store_promise::proofs::Later::read_later))]
-fn read_super<D: CrashDisk>(disk: &mut D, block: &mut Block) -> Result<Super, OpenFault>
+pub fn read_super<D: CrashDisk>(disk: &mut D, block: &mut Block) -> Result<Super, OpenFault>
     ensures reads { HasOnlyRead (D.device disk.old) (D.device disk.new) }
     ensures failure { MatchResult result (λ found. (D.device disk.new).failures ≡ (D.device disk.old).failures)
         (λ cause. CountsCause cause (D.device disk.old) (D.device disk.new)) }

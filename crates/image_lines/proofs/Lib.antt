@@ -1,0 +1,3 @@
+mod AtHome
+mod Files
+mod Rising
