@@ -3,8 +3,8 @@
 
 mod line;
 mod lines;
-mod show;
+mod showing;
 
 pub use line::Line;
 pub use lines::read_lines;
-pub use show::show;
+pub use showing::show;

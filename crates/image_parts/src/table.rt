@@ -24,6 +24,7 @@ pub fn read_table<D: CrashDisk>(
     ensures reads { HasOnlyRead (D.device disk.old) (D.device disk.new) }
     ensures failure { CountsPart (D.device disk.old) (D.device disk.new) result }
     ensures model { D.keeps_model disk.new → D.keeps_model disk.old }
+    ensures len { IfOk result (λ table. length table.items ≡ geometry.now.inodes) }
     ensures table { D.keeps_model disk.new → IsUnspoiled (D.device disk.old)
         → IfOk result (λ table. IsTable geometry.now (laid_over overlay.now (image_of (D.device disk.old)))
         geometry.now.inodes table.items) }

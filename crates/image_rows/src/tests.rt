@@ -1,16 +1,18 @@
 //! What a look at a fresh image finds through logs that were made by hand, and what is counted of numbers.
-ghost use Rattle.std.specs.Prelude.{◌≤◌, IfOk};
+ghost use Rattle.std.specs.Prelude.{◌≡◌, ◌≤◌, length, IfOk};
+ghost use Rattle.limits.specs.declared.TheConstants.{LEAST_INODES};
 ghost use Rattle.disk.specs.Memory.{memory_device};
 
 use disk::{Block, BlockNo, CrashDisk, MemDisk};
+use image_links::{Links, are_linked};
 use image_parts::{PartFault, are_marked, read_table};
 use layout::{FormatVersion, FreshImage, Geometry};
-use limits::{BLOCK_BYTES, FIRST_HOME_BLOCK, LEAST_BLOCKS, LEAST_INODES};
+use limits::{BLOCK_BYTES, FIRST_HOME_BLOCK, LEAST_BLOCKS, LEAST_INODES, MOST_INODES};
 use nfs_types::Moment;
 use overlays::Overlay;
 use std::alloc::Global;
 use std::test::Fail;
-use tallies::{Named, Owners};
+use tallies::{Named, Owners, led_far};
 
 // The bitmap of blocks, that of inodes, and the table of a fresh image.
 const BLOCK_BITMAP: u32 = FIRST_HOME_BLOCK;
@@ -208,5 +210,77 @@ fn numbers_are_counted(rt: HostRuntime) -> Result<(), Fail> {
     named.name(1);
     named.name(3);
     assert!(rt; named.of(3) == 2 && named.of(1) == 1 && named.of(0) == 0);
+    Ok(())
+}
+
+// How often each number of a fresh image is among these.
+fn counts(alloc: Global, numbers: &[u32]) -> Result<Named, Fail>
+    ensures { IfOk result (λ named. length named ≡ LEAST_INODES) }
+{
+    let mut named = Named::new(alloc, LEAST_INODES)?;
+    for number in numbers {
+        if *number < LEAST_INODES {
+            named.name(*number);
+        }
+    }
+    Ok(named)
+}
+
+// Whether the files of a fresh image make a tree, where these numbers were named, and the directories of the others
+// named a directory.
+fn is_linked(alloc: Global, named: &[u32], naming: &[u32]) -> Result<bool, Fail> {
+    let geometry = Geometry::new(FormatVersion::First, LEAST_BLOCKS, LEAST_INODES)?;
+    let mut disk = fresh(alloc, geometry)?;
+    let overlay = Overlay::new(Vec::new(alloc));
+    if disk.blocks() < geometry.blocks {
+        Err("a device of fewer blocks")?;
+    }
+    let table = read_table(alloc, &mut disk, &overlay, &geometry)?;
+    if table.len() != LEAST_INODES as usize {
+        Err("a table of another length")?;
+    }
+    let links = Links {
+        names: counts(alloc, named)?,
+        by_parent: counts(alloc, named)?,
+        children: counts(alloc, naming)?,
+    };
+    Ok(are_linked(alloc, &table, &links)?)
+}
+
+#[test]
+fn a_fresh_image_is_linked(rt: HostRuntime) -> Result<(), Fail> {
+    let alloc = rt.alloc();
+    assert!(rt; is_linked(alloc, &[], &[])?, "nothing names the root");
+    assert!(rt; !is_linked(alloc, &[1], &[])?, "a name for the root");
+    assert!(rt; !is_linked(alloc, &[5], &[])?, "a name for a free number");
+    assert!(rt;
+        !is_linked(alloc, &[], &[1])?,
+        "a directory in the root, which has no link for it"
+    );
+    Ok(())
+}
+
+// Where many steps lead.
+fn far(alloc: Global, next: &[u32]) -> Result<Vec<u32>, Fail> {
+    if next.len() > MOST_INODES as usize {
+        Err("too many numbers")?;
+    }
+    'places: for place in 0..next.len() {
+        if next[place] as usize >= next.len() {
+            Err("a step past the end")?;
+        }
+    }
+    Ok(led_far(alloc, next)?)
+}
+
+#[test]
+fn many_steps_lead_to_the_root(rt: HostRuntime) -> Result<(), Fail> {
+    let led = far(rt.alloc(), &[0, 1, 1, 2, 3])?;
+    assert!(rt; led.as_slice() == &[0, 1, 1, 1, 1], "one behind another");
+    let led = far(rt.alloc(), &[0, 1, 3, 2])?;
+    assert!(rt;
+        led.len() == 4 && led[1] == 1 && led[2] != 1 && led[3] != 1,
+        "two that lead to each other"
+    );
     Ok(())
 }

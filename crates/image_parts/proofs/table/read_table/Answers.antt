@@ -1,4 +1,4 @@
-use Rattle.std.proofs.Common.{rules, ◌≡◌, ◌+◌, ◌∙◌, ap, sym, inl, inr}
+use Rattle.std.proofs.Common.{rules, ◌≡◌, ◌+◌, ◌∙◌, ap, sym, inl, inr, arith}
 use Rattle.disk.specs.Crash.{Image}
 use Rattle.disk.specs.Device.{Device}
 use Rattle.layout.specs.Geometry.{table_at}
@@ -41,6 +41,7 @@ indexes-preserved g c =
       reads = reads_then first before after inv.reads c.read.ensures.reads;
       failures = c.in_ok-read.ensures.failure ∙ inv.failures;
       model = λ keeps. inv.model (c.read.ensures.model keeps);
+      long = omega (arith, inv.long, c.in_ok-push_inodes.ensures.pushed.long);
       table = λ keeps unspoiled.
           let is : c.as_slice.result.now ≡ image (table_at geometry.blocks geometry.inodes + c.indexes.index) =
           c.as_slice.ensures.bytes
@@ -51,3 +52,8 @@ indexes-preserved g c =
           c.push_inodes.new.table.items (inv.table (c.read.ensures.model keeps) unspoiled)
           c.in_ok-push_inodes.ensures.pushed;
     }
+
+pub returns-clause-len : goal.returns-clause-len
+returns-clause-len g c =
+    let whole = c.args.geometry.now.lawful.1.2 in
+    omega (arith, c.indexes.invariant.long, c.indexes-test.false, c.indexes.auto.index-end, whole)

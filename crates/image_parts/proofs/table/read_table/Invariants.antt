@@ -1,4 +1,4 @@
-use Rattle.std.proofs.Common.{◌≡◌, ◌*◌}
+use Rattle.std.proofs.Common.{◌≡◌, ◌*◌, length}
 use Rattle.limits.specs.declared.TheConstants.{INODES_PER_BLOCK}
 use Rattle.wal_law.specs.Recovery.{HasOnlyRead, IsUnspoiled, image_of}
 use Rattle.overlays.specs.LaidOver.{laid_over}
@@ -10,6 +10,7 @@ invariant-indexes g l = record {
   reads : HasOnlyRead (g.D.CrashDisk.device l.fn.disk) (g.D.CrashDisk.device l.disk);
   failures : (g.D.CrashDisk.device l.disk).failures ≡ (g.D.CrashDisk.device l.fn.disk).failures;
   model : g.D.CrashDisk.keeps_model l.disk → g.D.CrashDisk.keeps_model l.fn.disk;
+  long : length l.table.items ≡ INODES_PER_BLOCK * l.index;
   table : g.D.CrashDisk.keeps_model l.disk → IsUnspoiled (g.D.CrashDisk.device l.fn.disk)
       → IsTable l.geometry (laid_over l.overlay (image_of (g.D.CrashDisk.device l.fn.disk)))
       (INODES_PER_BLOCK * l.index) l.table.items;

@@ -1,0 +1,4 @@
+pub mod Directory
+pub mod Entries
+mod Lawful
+mod Once

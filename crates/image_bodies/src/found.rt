@@ -1,0 +1,39 @@
+//! What is found in the files of an image.
+ghost use Rattle.std.specs.Prelude.{◌≡◌, [], true, IfOk};
+ghost use Rattle.tallies.specs.Tally.{IsOwned};
+ghost use Rattle.file_counts.specs.Adds.{AreNamed};
+ghost use Rattle.image_bodies.specs.Bodies.{FitsFound};
+
+use image_links::Links;
+use layout::Geometry;
+use std::alloc::{AllocError, Global};
+use tallies::{Named, Owners};
+
+/// What was found in files: who owns their blocks, the names in their slots, and whether each is tidy: nothing lies past
+/// its size, and its names are names, none of them twice.
+#[derive(Drop)]
+pub struct Found {
+    pub owners: Owners,
+    pub links: Links,
+    pub tidy: bool,
+}
+
+impl Found {
+    /// Nothing was found in no files.
+    pub fn new(alloc: Global, geometry: &Geometry) -> Result<Found, AllocError>
+        ensures fits { IfOk result (FitsFound geometry.now) }
+        ensures owned { IfOk result (λ found. IsOwned [] found.owners) }
+        ensures named { IfOk result (λ found. AreNamed [] [] [] found.links) }
+        ensures tidy { IfOk result (λ found. found.tidy ≡ true) }
+    {
+        Ok(Found {
+            owners: Owners::new(alloc, geometry.blocks)?,
+            links: Links {
+                names: Named::new(alloc, geometry.inodes)?,
+                by_parent: Named::new(alloc, geometry.inodes)?,
+                children: Named::new(alloc, geometry.inodes)?,
+            },
+            tidy: true,
+        })
+    }
+}

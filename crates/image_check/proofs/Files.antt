@@ -1,0 +1,146 @@
+-- A file is one by what was seen of its blocks, and back.
+use Rattle.std.proofs.Common.{◌≡◌, ℕ, zero, suc, ◌+◌, ◌*◌, ◌/◌, ◌%◌, ◌<◌, ◌≤◌, sym, ap, ◌∙◌, refl, subst, Bool, true, false, cond, not}
+use Rattle.std.proofs.Common.{◌&&◌, ◌||◌, All, IsOk, List, [], ◌∷◌, length, drop, take, get_or, min, is_none, nat_eq, nat_le, nat_lt, Option, Some, None, Ok, arith}
+use Rattle.std.specs.List.{list_any, range_with_len}
+use Rattle.std.proofs.lemmas.Bool.Decides.{nat_tests}
+use Rattle.std.proofs.lemmas.List.FromFn.{get_or-range_with_len, length-range_with_len}
+use Rattle.limits.specs.declared.TheConstants.{BLOCK_BYTES, DIRECT_INDEXES, FILE_INDEXES, LARGEST_DIRECTORY, SLOTS_PER_BLOCK, TARGET_BYTES}
+use Rattle.disk.specs.Crash.{Image}
+use Rattle.nfs_types.specs.Fits.{AreBytes}
+use Rattle.layout.specs.declared.geometry.Geometry.{Geometry}
+use Rattle.layout.specs.declared.inode.Inode.{Inode}
+use Rattle.layout.specs.declared.inode.InodeKind.{InodeKind}
+use Rattle.layout.specs.declared.inode.InodeKind.TheVariants.{Directory, Link, Regular}
+use Rattle.layout.specs.Decode.{IsDirectory, IsFile, IsMapped, IsOfKind, numbers_of, slot_bytes, slots_of, span_of}
+use Rattle.layout.specs.InodeForm.{SoundInode, is_sound_directory, is_sound_file, is_sound_inode, is_sound_kind, is_sound_link, is_sound_map}
+use Rattle.layout.specs.InodeForm.{names_first}
+use Rattle.layout.specs.SlotForm.{read_slot}
+use Rattle.layout.proofs.AllNumbers.{all-length, all_placed}
+use Rattle.layout.proofs.Respelled.{all_three, all_two}
+use Rattle.image_files.specs.Slots.{IsSpanned}
+use Rattle.image_law.specs.TreeOf.{HasNames}
+use Rattle.slot_names.specs.Names.{AreNames}
+use Rattle.directory_law.specs.SlotsOf.{slots_of_directory}
+use Rattle.directory_law.proofs.Directory.{are_names, has_names, once}
+use Rattle.image_bodies.specs.Bodies.{HasBlocks, HasBlocksOf, IsTidy, IsTidyOf}
+use Rattle.image_check.proofs.SlotBytes.{slots_are_bytes}
+
+at_most : (a b : ℕ) → nat_le a b ≡ true → a ≤ b
+at_most a b is = grind (arith, nat_tests)
+
+none_is : (n : ℕ) → nat_eq n 0 ≡ true → nat_eq n 0 ≡ false → ⊥
+none_is n is not = let clash : true ≡ false = sym is ∙ not in cc
+
+all_five : (a b c d e : Bool) → (a && b && c && d && e) ≡ true → e ≡ true
+all_five true true true true true is = refl
+all_five _ _ _ _ _ is = cc
+
+second : (a b c d e f g : Bool) → (a && b && c && d && e && f && g) ≡ true → b ≡ true
+second true true true true true true true is = refl
+second _ _ _ _ _ _ _ is = cc
+
+module _ (g : Geometry) (content : Image) (inode : Inode) (sound : SoundInode g inode) where
+  -- ---- what a sound inode tells
+
+  few_blocks : is_sound_kind g Directory inode ≡ true → span_of inode ≤ FILE_INDEXES
+  few_blocks good =
+      let three = all_three (is_sound_file inode) (is_sound_map g inode) (is_sound_directory g inode) good in
+      let last = all_two (nat_le 2 inode.nlink && nat_le inode.size LARGEST_DIRECTORY
+      && nat_eq (inode.size % BLOCK_BYTES) 0 && nat_lt 0 inode.parent && nat_lt inode.parent g.inodes
+      && names_first (min (inode.size / BLOCK_BYTES) DIRECT_INDEXES) inode.direct
+      && (cond (nat_lt DIRECT_INDEXES (inode.size / BLOCK_BYTES)) (not (nat_eq inode.indirect 0))
+      (nat_eq inode.indirect 0))) (is_none inode.verifier) three.2 in
+      let is = second (nat_le 2 inode.nlink) (nat_le inode.size LARGEST_DIRECTORY)
+      (nat_eq (inode.size % BLOCK_BYTES) 0) (nat_lt 0 inode.parent) (nat_lt inode.parent g.inodes)
+      (names_first (min (inode.size / BLOCK_BYTES) DIRECT_INDEXES) inode.direct)
+      (cond (nat_lt DIRECT_INDEXES (inode.size / BLOCK_BYTES)) (not (nat_eq inode.indirect 0)) (nat_eq inode.indirect 0))
+      last.0 in
+      let few = at_most inode.size LARGEST_DIRECTORY is in
+      omega (arith, few)
+
+  no_far : is_sound_kind g Link inode ≡ true → nat_eq inode.indirect 0 ≡ true
+  no_far good =
+      let three = all_three (is_sound_file inode) (is_sound_map g inode) (is_sound_link inode) good in
+      let last = all_two (nat_le 1 inode.size && nat_le inode.size TARGET_BYTES && nat_eq inode.parent 0
+      && names_first 1 inode.direct && nat_eq inode.indirect 0) (is_none inode.verifier) three.2 in
+      all_five (nat_le 1 inode.size) (nat_le inode.size TARGET_BYTES) (nat_eq inode.parent 0)
+      (names_first 1 inode.direct) (nat_eq inode.indirect 0) last.0
+
+  link_mapped : is_sound_kind g Link inode ≡ true → IsMapped g content inode
+  link_mapped good = record {
+    numbers = all_placed g content inode sound (λ far. absurd (none_is inode.indirect (no_far good) far));
+    used = ap (λ b. b || list_any (λ number. not (nat_eq number 0)) (drop (length inode.direct) (numbers_of content inode)))
+        (no_far good);
+  }
+
+  -- ---- a directory
+
+  slots_all : IsSpanned g.inodes content inode (numbers_of content inode)
+      → All (λ index. IsOk (read_slot g.inodes (slot_bytes content inode index))) (slots_of inode)
+  unfolding slot_bytes
+  slots_all spanned k d inside =
+      let count = length-range_with_len 0 (SLOTS_PER_BLOCK * span_of inode) in
+      let at = get_or-range_with_len 0 (SLOTS_PER_BLOCK * span_of inode) k d (omega (arith, inside, count)) in
+      let same : k ≡ get_or (slots_of inode) k d = omega (arith, at) in
+      subst (λ index. IsOk (read_slot g.inodes (slot_bytes content inode index))) same
+      (spanned.slots k (omega (arith, inside, count)))
+
+  spanned_by : is_sound_kind g Directory inode ≡ true → IsDirectory g content inode
+      → IsSpanned g.inodes content inode (numbers_of content inode)
+  unfolding slot_bytes
+  spanned_by good is = record {
+    few = let few = few_blocks good in let all = all-length content inode sound.fits.count in omega (arith, few, all);
+    first = is.spans;
+    slots = λ index less.
+        let count = length-range_with_len 0 (SLOTS_PER_BLOCK * span_of inode) in
+        let at = get_or-range_with_len 0 (SLOTS_PER_BLOCK * span_of inode) index 0 less in
+        let same : get_or (slots_of inode) index 0 ≡ index = omega (arith, at) in
+        subst (λ k. IsOk (read_slot g.inodes (slot_bytes content inode k))) same
+        (is.slots index 0 (omega (arith, less, count)));
+  }
+
+  -- ---- each kind
+
+  is_of_kind : (kind : InodeKind) → HasBlocksOf g content kind inode → IsTidyOf g content kind inode
+      → IsOfKind g content kind inode
+  is_of_kind Regular blocks tidy = record { mapped = blocks; zeros = tidy }
+  is_of_kind Directory blocks tidy = record {
+    mapped = blocks.0;
+    spans = blocks.1.first;
+    slots = slots_all blocks.1;
+    once = once g.inodes content inode tidy;
+  }
+  is_of_kind Link blocks tidy = record { zeros = tidy }
+
+  has_blocks_of : (kind : InodeKind) → is_sound_kind g kind inode ≡ true → IsOfKind g content kind inode
+      → HasBlocksOf g content kind inode
+  has_blocks_of Regular good is = is.mapped
+  has_blocks_of Directory good is = (is.mapped, spanned_by good is)
+  has_blocks_of Link good is = link_mapped good
+
+  is_tidy_of : (kind : InodeKind) → (kind ≡ Directory → HasNames g content inode) → IsOfKind g content kind inode
+      → IsTidyOf g content kind inode
+  is_tidy_of Regular names is = is.zeros
+  is_tidy_of Directory names is = are_names g content inode (names refl) is.once
+  is_tidy_of Link names is = is.zeros
+
+  good_kind : is_sound_kind g inode.kind inode ≡ true
+  unfolding is_sound_inode
+  good_kind = sound.good
+
+  pub file_is : HasBlocksOf g content inode.kind inode → IsTidyOf g content inode.kind inode
+      → IsFile g content (Ok (Some inode))
+  file_is blocks tidy = is_of_kind inode.kind blocks tidy
+
+  pub has_blocks : IsFile g content (Ok (Some inode)) → HasBlocksOf g content inode.kind inode
+  has_blocks is = has_blocks_of inode.kind good_kind is
+
+  pub is_tidy : (inode.kind ≡ Directory → HasNames g content inode) → IsFile g content (Ok (Some inode))
+      → IsTidyOf g content inode.kind inode
+  is_tidy names is = is_tidy_of inode.kind names is
+
+  pub names_of_tidy : ((number : ℕ) → AreBytes (content number)) → inode.kind ≡ Directory
+      → IsTidyOf g content inode.kind inode → HasNames g content inode
+  names_of_tidy bytes kind tidy =
+      has_names g content inode (slots_are_bytes content bytes g.inodes inode)
+      (subst (λ k. IsTidyOf g content k inode) kind tidy)

@@ -1,0 +1,74 @@
+-- The homes of an image have what the image has, wherever inodes, data blocks and bitmaps lie.
+use Rattle.std.proofs.Common.{◌≡◌, ℕ, ◌+◌, ◌*◌, ◌/◌, ◌%◌, ◌^◌, ◌<◌, ◌≤◌, ap, ◌∙◌, refl, Bool, true, false, cond, ◌&&◌, List, length}
+use Rattle.std.proofs.Common.{take, drop, replicate, get_or, nat_eq, nat_le, nat_lt, Err, arith}
+use Rattle.std.proofs.lemmas.Bool.{lt-ltb}
+use Rattle.std.proofs.lemmas.Bool.Decides.{nat_tests}
+use Rattle.limits.specs.declared.TheConstants.{BITS_PER_BLOCK, BLOCK_BYTES, FIRST_HOME_BLOCK, INODES_PER_BLOCK, INODE_BYTES}
+use Rattle.disk.specs.Crash.{Image}
+use Rattle.nfs_types.specs.Fits.{AreBytes}
+use Rattle.layout.specs.declared.fault.LayoutFault.TheVariants.{Range}
+use Rattle.layout.specs.declared.geometry.Geometry.{Geometry}
+use Rattle.layout.specs.Decode.{inode_at}
+use Rattle.layout.specs.Geometry.{data_at}
+use Rattle.layout.specs.Homes.{homes_of, is_home}
+use Rattle.layout.specs.InodeForm.{read_inode}
+use Rattle.layout.specs.Parts.{bit_at, bits_of, content_in, table_of}
+use Rattle.layout.specs.Places.{inode_block, inode_offset, is_data}
+use Rattle.layout.proofs.FreshBytes.{zero_block}
+use Rattle.layout.proofs.FreshHomes.{home_is}
+use Rattle.layout.proofs.Respelled.{all_two}
+use Rattle.image_check.specs.Searched.{AreBlocksOf}
+
+from_test : (a b : ℕ) → nat_le a b ≡ true → a ≤ b
+from_test a b is = grind (arith, nat_tests)
+
+below_test : (a b : ℕ) → nat_lt a b ≡ true → a < b
+below_test a b is = grind (arith, nat_tests)
+
+-- a data block is one of the image's
+pub in_blocks : (g : Geometry) (number : ℕ) → is_data g number ≡ true → number < g.blocks
+in_blocks g number is =
+    below_test number g.blocks (all_two (nat_le (data_at g.blocks g.inodes) number) (nat_lt number g.blocks) is).1
+
+module _ (g : Geometry) (image : Image) where
+  abbrev home : Image
+  home = homes_of g.blocks image
+
+  content_at : (number : ℕ) → content_in g home number ≡ content_in g image number
+  content_at number = by_test (is_data g number) refl
+    where
+      by_test : (b : Bool) → is_data g number ≡ b
+          → cond b (home number) (replicate BLOCK_BYTES 0) ≡ cond b (image number) (replicate BLOCK_BYTES 0)
+      by_test true is =
+          let both = all_two (nat_le (data_at g.blocks g.inodes) number) (nat_lt number g.blocks) is in
+          let from = from_test (data_at g.blocks g.inodes) number both.0 in
+          home_is g.blocks number image (omega (arith, from)) (below_test number g.blocks both.1)
+      by_test false is = refl
+
+  pub content_same : content_in g home ≡ content_in g image
+  content_same = λ i number. content_at number i
+
+  pub inode_same : (number : ℕ) → number < g.inodes → table_of g home number ≡ inode_at g image number
+  unfolding inode_at
+  inode_same number less =
+      let room = g.lawful.1.3 in
+      let whole = g.lawful.1.2 in
+      ap (λ b. cond b (inode_at g home number) (Err Range)) (lt-ltb number g.inodes less)
+      ∙ ap (λ bytes. read_inode g (take INODE_BYTES (drop (inode_offset number) bytes)))
+      (home_is g.blocks (inode_block g number) image (omega arith) (omega (arith, less, room, whole)))
+
+  pub bit_same : (first count number : ℕ) → number < BITS_PER_BLOCK * count → FIRST_HOME_BLOCK ≤ first
+      → first + count ≤ g.blocks → bits_of home first count number ≡ bit_at image first number
+  unfolding bit_at
+  bit_same first count number less from to =
+      ap (λ b. b && bit_at home first number) (lt-ltb number (BITS_PER_BLOCK * count) less)
+      ∙ ap (λ bytes. nat_eq (get_or bytes (number % BITS_PER_BLOCK / 8) 0 / 2 ^ (number % 8) % 2) 1)
+      (home_is g.blocks (first + number / BITS_PER_BLOCK) image (omega (arith, from)) (omega (arith, less, to)))
+
+  pub blocks_are : AreBlocksOf g.blocks image → AreBlocksOf g.blocks home
+  blocks_are are number less = by_test (is_home g.blocks number)
+    where
+      by_test : (b : Bool) → (length (cond b (image number) (replicate BLOCK_BYTES 0)) ≡ BLOCK_BYTES)
+          × AreBytes (cond b (image number) (replicate BLOCK_BYTES 0))
+      by_test true = are number less
+      by_test false = (zero_block.long, zero_block.each.are)

@@ -1,0 +1,3 @@
+pub mod Checked
+pub mod Refused
+pub mod Searched

@@ -1,0 +1,45 @@
+//! Why an image isn't good.
+use thiserror::Error;
+
+/// A file whose links aren't the names that it has.
+#[derive(Clone, Copy, Debug, PartialEq, Eq)]
+pub struct Unlinked {
+    pub inode: u32,
+    pub links: u32,
+    /// How often it is named, as far as a file may have links, and once more.
+    pub named: u32,
+}
+
+/// What is wrong with an image, or why it couldn't be checked.
+#[derive(Clone, Copy, Debug, PartialEq, Eq, Error)]
+pub enum CheckFault {
+    /// The image has no blocks, or its first one doesn't begin as that of an image does.
+    #[error("Magic")]
+    Magic,
+    /// The format's version isn't one that is read here.
+    #[error("Version")]
+    Version,
+    /// The sizes of the super block aren't lawful or aren't the device's, no boot number is left; or an inode, a
+    /// slot or the blocks of a file aren't as one file alone may have them.
+    #[error("Range")]
+    Range,
+    /// The headers of the log aren't those of a log.
+    #[error("Log")]
+    Log,
+    /// A call of the device failed.
+    #[error("Device")]
+    Device,
+    /// An allocation failed.
+    #[error("NoMemory")]
+    NoMemory,
+    /// A block has two owners.
+    #[error("Shared")]
+    Shared,
+    /// A bitmap doesn't mark what is in use.
+    #[error("Bitmap")]
+    Bitmap,
+    /// The files make no tree, one was made in a later boot, names that are none or stand twice are in a directory, or
+    /// something lies past a file's size. Where a file isn't named as often as it has links, it is the first of these.
+    #[error("Tree")]
+    Tree(Option<Unlinked>),
+}

@@ -1,0 +1,11 @@
+//! Whether an image is good, and how much of it is in use.
+#![tactic(auto)]
+
+mod checking;
+mod fault;
+mod first;
+mod judging;
+
+pub use checking::check;
+pub use fault::{CheckFault, Unlinked};
+pub use judging::Counts;

@@ -1,0 +1,3 @@
+pub mod Content
+pub mod Far
+pub mod Slots

@@ -1,0 +1,118 @@
+//! The numbers of a file's blocks.
+ghost use Rattle.std.specs.Prelude.{◌≡◌, ◌≤◌, ℕ, List, length, nat_eq, true, IfOk, IsErrOf};
+ghost use Rattle.std.specs.List.{list_all};
+ghost use Rattle.limits.specs.declared.TheConstants.{FILE_INDEXES};
+ghost use Rattle.layout.specs.Decode.{IsMapped, numbers_of};
+ghost use Rattle.layout.specs.InodeForm.{SoundInode, is_data_block_or_none};
+ghost use Rattle.layout.specs.Places.{is_data};
+ghost use Rattle.wal_law.specs.Recovery.{HasOnlyRead, IsUnspoiled, image_of};
+ghost use Rattle.overlays.specs.LaidOver.{laid_over};
+ghost use Rattle.image_parts.specs.Table.{CountsPart};
+ghost use Rattle.image_files.specs.Content.{content_on};
+ghost use Rattle.image_files.specs.Far.{AreFar};
+
+use disk::{Block, BlockNo, CrashDisk};
+use image_parts::PartFault;
+use layout::{Geometry, Inode, Numbers};
+use limits::INDIRECT_INDEXES;
+use overlays::Overlay;
+use std::alloc::Global;
+
+/// The numbers of the blocks of all indexes of a file, 0 where no block is mapped. They are refused where one is that
+/// of no data block, or an indirect block has none.
+#[tactic(auto, using(wal_law::proofs::OnlyRead::reads_then, wal_law::proofs::OnlyRead::no_read))]
+pub fn read_numbers<D: CrashDisk>(
+    alloc: Global,
+    disk: &mut D,
+    overlay: &Overlay,
+    geometry: &Geometry,
+    inode: &Inode,
+) -> Result<Vec<u32>, PartFault>
+    requires { geometry.now.blocks ≤ (D.device disk.old).size }
+    ensures reads { HasOnlyRead (D.device disk.old) (D.device disk.new) }
+    ensures failure { CountsPart (D.device disk.old) (D.device disk.new) result }
+    ensures model { D.keeps_model disk.new → D.keeps_model disk.old }
+    ensures len { IfOk result (λ numbers. length numbers.items ≡ FILE_INDEXES) }
+    ensures placed { IfOk result (λ numbers. list_all (is_data_block_or_none geometry.now) numbers.items ≡ true) }
+    ensures indirect { IfOk result (λ _. is_data_block_or_none geometry.now inode.now.indirect ≡ true) }
+    ensures numbers { D.keeps_model disk.new → IsUnspoiled (D.device disk.old) → IfOk result (λ numbers.
+        (numbers.items
+        ≡ numbers_of (content_on geometry.now overlay.now (D.device disk.old)) inode.now)
+        × IsMapped geometry.now (content_on geometry.now overlay.now (D.device disk.old))
+        inode.now) }
+    ensures refused { D.keeps_model disk.new → IsUnspoiled (D.device disk.old) → SoundInode geometry.now inode.now
+        → IsErrOf result PartFault.Range
+        → IsMapped geometry.now (content_on geometry.now overlay.now (D.device disk.old))
+        inode.now → ⊥ }
+{
+    if !are_placed(geometry, &inode.direct) {
+        return Err(PartFault::Range);
+    }
+    let mut numbers = Vec::from_slice(alloc, &inode.direct)?;
+    if inode.indirect == 0 {
+        numbers.extend_from_slice(&[0; INDIRECT_INDEXES])?;
+        return Ok(numbers);
+    }
+    let far = read_far(alloc, disk, overlay, geometry, inode.indirect)?;
+    numbers.extend_from_slice(far.as_slice())?;
+    Ok(numbers)
+}
+
+// Whether each number is 0 or that of a data block.
+fn are_placed(geometry: &Geometry, numbers: &[u32]) -> bool
+    ensures { result ≡ list_all (is_data_block_or_none geometry.now) numbers.now }
+{
+    for number in numbers {
+        if !is_placed(geometry, *number) {
+            return false;
+        }
+    }
+    true
+}
+
+// Whether a number is 0 or that of a data block.
+fn is_placed(geometry: &Geometry, number: u32) -> bool
+    ensures { result ≡ is_data_block_or_none geometry.now number }
+{
+    number == 0 || geometry.is_data(number)
+}
+
+// The numbers in an indirect block. They are refused where it isn't a data block, one is that of none, or all are 0.
+#[tactic(auto, using(wal_law::proofs::OnlyRead::reads_then, wal_law::proofs::OnlyRead::no_read))]
+fn read_far<D: CrashDisk>(
+    alloc: Global,
+    disk: &mut D,
+    overlay: &Overlay,
+    geometry: &Geometry,
+    indirect: u32,
+) -> Result<Numbers, PartFault>
+    requires { geometry.now.blocks ≤ (D.device disk.old).size }
+    ensures reads { HasOnlyRead (D.device disk.old) (D.device disk.new) }
+    ensures failure { CountsPart (D.device disk.old) (D.device disk.new) result }
+    ensures model { D.keeps_model disk.new → D.keeps_model disk.old }
+    ensures lies { IfOk result (λ _. is_data geometry.now indirect ≡ true) }
+    ensures placed { IfOk result (λ numbers. list_all (is_data_block_or_none geometry.now) numbers ≡ true) }
+    ensures numbers { D.keeps_model disk.new → IsUnspoiled (D.device disk.old) → IfOk result
+        (AreFar geometry.now (laid_over overlay.now (image_of (D.device disk.old))) indirect) }
+    ensures refused { D.keeps_model disk.new → IsUnspoiled (D.device disk.old) → IsErrOf result PartFault.Range
+        → (numbers : List ℕ)
+        → AreFar geometry.now (laid_over overlay.now (image_of (D.device disk.old))) indirect numbers → ⊥ }
+{
+    if !geometry.is_data(indirect) {
+        return Err(PartFault::Range);
+    }
+    let mut block = Block::zeros(alloc)?;
+    overlay.read(disk, BlockNo(indirect), &mut block)?;
+    let numbers = Numbers::read(alloc, geometry, block.as_slice())??;
+    if are_none(numbers.as_slice()) {
+        return Err(PartFault::Range);
+    }
+    Ok(numbers)
+}
+
+// Whether each number is 0.
+fn are_none(numbers: &[u32]) -> bool
+    ensures { result ≡ list_all (λ number. nat_eq number 0) numbers.now }
+{
+    numbers.iter().all(|number| *number == 0)
+}
