@@ -4,7 +4,7 @@ import fcntl
 import os
 import random
 
-from cases import checking, images, wire
+from cases import allocations, checking, images, wire
 from cases.checking import LOG, MAGIC, MARKS, RANGE, SHARED, TREE, VERSION
 from cases.images import BITMAP, BLOCK_BYTES, DIRECTORY, INODE_BYTES, LINK, REGULAR
 from cases.running import AS_NOBODY, MADE, contents, expect, is_so, same, told
@@ -247,3 +247,21 @@ def test_lines_that_can_not_be_printed_are_the_fault_output(place):
         with open("/dev/full", "wb") as full:
             ran = place.run([command.__name__, image], stdout=full)
         same(f"{command.__name__}: status and standard error", (ran.status, ran.errors), (1, b"nfsd: output\n"))
+
+
+def test_each_allocation_of_a_look_that_fails_is_told(place):
+    shared, image = allocations.library(place), place.path("image")
+    images.Image(images.several(), boot=2**40).write(image)
+    before = contents(image)
+    for command in "check", "show":
+        count, whole = allocations.run_failing(place, shared, 0, [command, image])
+        same(f"{command} with all of them: status and standard error", (whole.status, whole.errors), (0, b""))
+        refusals = 0
+        for failed in range(1, count + 1):
+            _, ran = allocations.run_failing(place, shared, failed, [command, image])
+            refusals += ran.status != 0
+            line_of = ran.errors.partition(b"\n")[0]
+            is_refused = (ran.status, ran.output) == (1, b"") and line_of in (b"nfsd: memory", b"nfsd: file", b"nfsd: 6 NoMemory")
+            is_so(f"{command} without {failed}: {ran}", is_refused or ran == whole)
+        allocations.assert_most_refused(count, refusals)
+    is_so("the image was changed", contents(image) == before)

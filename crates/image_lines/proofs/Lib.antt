@@ -1,3 +1,4 @@
 mod AtHome
 mod Files
+mod OfGood
 mod Rising
