@@ -24,8 +24,8 @@ module _ (g : Geometry) (image : Image) where
       is : is_home g.blocks number ≡ true
       is = λ i. le-leb FIRST_HOME_BLOCK number from i && lt-ltb number g.blocks below i
 
-  each : (number : ℕ) (data : Bool) → is_data g number ≡ data
-      → cond data (homes number) (replicate BLOCK_BYTES 0) ≡ cond data (image number) (replicate BLOCK_BYTES 0)
+  each : (number : ℕ) (lies : Bool) → is_data g number ≡ lies
+      → cond lies (homes number) (replicate BLOCK_BYTES 0) ≡ cond lies (image number) (replicate BLOCK_BYTES 0)
   each number true is =
       let both = all_two (nat_le (data_at g.blocks g.inodes) number) (nat_lt number g.blocks) is in
       let from = no_more (data_at g.blocks g.inodes) number both.0 in

@@ -41,15 +41,14 @@ module _ (file : ℕ → Option Node) where
   are_below : (bound : ℕ) → AreBelow bound (entries (files_below file bound))
   unfolding files_below
   are_below zero = subst (AreBelow zero) (sym (entries-empty nat_cmp)) tt
-  are_below (suc number) = by_file (file number)
+  are_below (suc number) = by_file (file number) (are_below number)
     where
-      by_file : (found : Option Node)
+      by_file : (found : Option Node) → AreBelow number (entries (files_below file number))
           → AreBelow (suc number) (entries (with_file number found (files_below file number)))
-      by_file None = wider number (entries (files_below file number)) (are_below number)
-      by_file (Some node) =
-          subst (AreBelow (suc number))
-          (sym (pushed number node (files_below file number) (are_below number)))
-          (one_more number node (entries (files_below file number)) (are_below number))
+      by_file None below = wider number (entries (files_below file number)) below
+      by_file (Some node) below =
+          subst (AreBelow (suc number)) (sym (pushed number node (files_below file number) below))
+          (one_more number node (entries (files_below file number)) below)
 
   -- none, and one more, in the order of their numbers
   pub no_files : entries (files_below file zero) ≡ []

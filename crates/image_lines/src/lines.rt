@@ -26,13 +26,14 @@ pub fn read_lines<D: CrashDisk>(
     geometry: &Geometry,
     table: &[Option<Inode>],
 ) -> Result<Vec<Line>, PartFault>
-    requires { geometry.now.blocks ≤ (D.device disk.old).size }
+    requires size { geometry.now.blocks ≤ (D.device disk.old).size }
+    requires few { length table.now ≤ MOST_INODES }
     ensures reads { HasOnlyRead (D.device disk.old) (D.device disk.new) }
     ensures failure { CountsPart (D.device disk.old) (D.device disk.new) result }
     ensures model { D.keeps_model disk.new → D.keeps_model disk.old }
-    ensures lines { D.keeps_model disk.new → IsUnspoiled (D.device disk.old) → length table.now ≤ MOST_INODES
-        → IfOk result (λ lines. lines.items ≡ lines_below
-        (content_on geometry.now overlay.now (D.device disk.old)) table.now (length table.now)) }
+    ensures lines { D.keeps_model disk.new → IsUnspoiled (D.device disk.old) → IfOk result (λ lines.
+        lines.items ≡ lines_below (content_on geometry.now overlay.now (D.device disk.old)) table.now
+        (length table.now)) }
     ensures refused { D.keeps_model disk.new → IsUnspoiled (D.device disk.old)
         → IsErrOf result PartFault.Range
         → ((number : ℕ) → number < length table.now → IsCountedIfAny geometry.now

@@ -1,5 +1,4 @@
-use Rattle.std.proofs.Common.{◌≡◌, ◌≤◌, length}
-use Rattle.limits.specs.declared.TheConstants.{MOST_INODES}
+use Rattle.std.proofs.Common.{◌≡◌}
 use Rattle.wal_law.specs.Recovery.{HasOnlyRead, IsUnspoiled}
 use Rattle.image_files.specs.Content.{content_on}
 use Rattle.image_lines.specs.Lines.{lines_below}
@@ -11,6 +10,6 @@ invariant-numbers g l = record {
   failures : (g.D.CrashDisk.device l.disk).failures ≡ (g.D.CrashDisk.device l.fn.disk).failures;
   model : g.D.CrashDisk.keeps_model l.disk → g.D.CrashDisk.keeps_model l.fn.disk;
   lines : g.D.CrashDisk.keeps_model l.disk → IsUnspoiled (g.D.CrashDisk.device l.fn.disk)
-      → length l.table ≤ MOST_INODES → l.lines.items
+      → l.lines.items
       ≡ lines_below (content_on l.geometry l.overlay (g.D.CrashDisk.device l.fn.disk)) l.table l.number;
 }
