@@ -55,7 +55,7 @@ pub passing : (p : ℕ → Bool) (xs : List ℕ) (number : ℕ)
     → times (flat_map (λ x. cond (p x) (x ∷ []) []) xs) number ≡ cond (p number) (times xs number) 0
 passing p [] number = by_test (p number)
   where
-    by_test : (b : Bool) → 0 ≡ cond b 0 0
+    by_test : (b : Bool) → ◌≡◌ {A = ℕ} 0 (cond b 0 0)
     by_test true = refl
     by_test false = refl
 passing p (x ∷ xs) number =
@@ -76,7 +76,7 @@ passing p (x ∷ xs) number =
     chosen true x = let all = sum_by-cons (λ n. one_if (nat_eq n number)) x [] in omega (arith, all)
     chosen false x = refl
 
-    neither : (b : Bool) → cond b 0 0 ≡ 0
+    neither : (b : Bool) → ◌≡◌ {A = ℕ} (cond b 0 0) 0
     neither true = refl
     neither false = refl
 
@@ -96,7 +96,7 @@ pub standing_for : (p : ℕ → Bool) (one : ℕ) (xs : List ℕ) (number : ℕ)
     → times (flat_map (λ x. cond (p x) (one ∷ []) []) xs) number ≡ cond (nat_eq one number) (count_by p xs) 0
 standing_for p one [] number = by_test (nat_eq one number)
   where
-    by_test : (b : Bool) → 0 ≡ cond b 0 0
+    by_test : (b : Bool) → ◌≡◌ {A = ℕ} 0 (cond b 0 0)
     by_test true = refl
     by_test false = refl
 standing_for p one (x ∷ xs) number =
@@ -117,7 +117,7 @@ standing_for p one (x ∷ xs) number =
     either true = refl
     either false = refl
 
-    neither : (b : Bool) → 0 ≡ cond b 0 0
+    neither : (b : Bool) → ◌≡◌ {A = ℕ} 0 (cond b 0 0)
     neither true = refl
     neither false = refl
 

@@ -16,7 +16,8 @@ use Rattle.image_files.proofs.SlotBlocks.{range_more}
 use Rattle.image_law.specs.TreeOf.{named_of}
 use Rattle.file_counts.specs.Adds.{AreNamed, for_directories, is_some, named_children}
 use Rattle.image_bodies.specs.declared.found.Found.{Found}
-use Rattle.image_bodies.specs.Bodies.{HasBlocks, IsAdded, IsFound, IsLookedAt, IsNamed, IsTidy, IsTidyOf, all_owned, names_at}
+use Rattle.image_bodies.specs.Bodies.{HasBlocks, IsAdded, IsFirstUntidy, IsFound, IsLookedAt, IsNamed, IsTidy, IsTidyOf, all_owned}
+use Rattle.image_bodies.specs.Bodies.{first_untidy, names_at}
 
 flat_more : (f : ℕ → List ℕ) (n : ℕ)
     → flat_map f (range_with_len 0 (n + 1)) ≡ flat_map f (range_with_len 0 n) ++ f n
@@ -50,39 +51,46 @@ module _ (g : Geometry) (content : Image) (table : List (Option Inode)) where
     owned = λ met owned. subst (λ l. IsOwned l found.owners) (sym (append-nil met)) owned;
     named = λ all met naming named. none_named number all met naming found.links named;
     tidy = λ is. (is, tt);
-    untidy = λ not. inl not;
+    untidy = λ first some. inl some;
   }
 
   -- a file adds what was met and counted
   pub file_added : (number : ℕ) (inode : Inode) (numbers : List ℕ) (old : Found) (owners : Owned) (links : Links)
-      (tidy : Bool) → numbers ≡ numbers_of content inode
+      (tidy : Bool) (untidy : Option ℕ) → numbers ≡ numbers_of content inode
       → ((met : List ℕ) → IsOwned met old.owners → IsOwned (met ++ filter is_some (inode.indirect ∷ numbers)) owners)
       → IsLookedAt g content table number inode.kind inode old.links links tidy
+      → untidy ≡ first_untidy old.untidy number tidy
       → IsAdded g content table number (Some inode) old
-      (record { owners = owners; links = links; tidy = old.tidy && tidy })
-  file_added number inode numbers old owners links tidy are owned looked = record {
+      (record { owners = owners; links = links; untidy = untidy })
+  file_added number inode numbers old owners links tidy untidy are owned looked is = record {
     owned = λ met before. subst (λ l. IsOwned (met ++ filter is_some (inode.indirect ∷ l)) owners) are (owned met before);
     named = looked.named;
-    tidy = λ is. let both = yes_both old.tidy tidy is in (both.0, looked.yes both.1);
-    untidy = λ not. elim (one_not old.tidy tidy not) [ inl first ↦ inl first | inr last ↦ inr (looked.no last) ];
+    tidy = λ none. let both = still_tidy old.untidy tidy (sym is ∙ none) in (both.0, looked.yes both.1);
+    untidy = λ first some. elim (then_untidy old.untidy tidy first (sym is ∙ some)) [
+      | inl earlier ↦ inl earlier
+      | inr here ↦ inr (here.0, here.1, looked.no here.2)
+    ];
   }
     where
-      yes_both : (a b : Bool) → (a && b) ≡ true → (a ≡ true) × (b ≡ true)
-      yes_both true b e = (refl, e)
-      yes_both false b e = cc
+      still_tidy : (old : Option ℕ) (b : Bool) → first_untidy old number b ≡ None → (old ≡ None) × (b ≡ true)
+      still_tidy None true e = (refl, refl)
+      still_tidy None false e = cc
+      still_tidy (Some n) b e = cc
 
-      one_not : (a b : Bool) → (a && b) ≡ false → (a ≡ false) ⊎ (b ≡ false)
-      one_not true b e = inr e
-      one_not false b e = inl refl
+      then_untidy : (old : Option ℕ) (b : Bool) (first : ℕ) → first_untidy old number b ≡ Some first
+          → (old ≡ Some first) ⊎ ((number ≡ first) × (old ≡ None) × (b ≡ false))
+      then_untidy None true first e = cc
+      then_untidy None false first e = inr (cc, refl, refl)
+      then_untidy (Some n) b first e = inl e
 
-  pub none_found : (found : Found) → IsOwned [] found.owners → AreNamed [] [] [] found.links → found.tidy ≡ true
+  pub none_found : (found : Found) → IsOwned [] found.owners → AreNamed [] [] [] found.links → found.untidy ≡ None
       → IsFound g content table 0 found
   none_found found owned named tidy = record {
     blocks = λ number less. absurd (omega (arith, less));
     owned = owned;
     named = named;
     tidy = λ is number less. absurd (omega (arith, less));
-    untidy = λ not each. let clash : true ≡ false = sym tidy ∙ not in cc;
+    untidy = λ number some. absurd (let clash : ◌≡◌ {A = Option ℕ} None (Some number) = sym tidy ∙ some in cc);
   }
 
   pub one_found : (count : ℕ) (old new : Found) → IsFound g content table count old
@@ -111,8 +119,14 @@ module _ (g : Geometry) (content : Image) (table : List (Option Inode)) where
               let at : count ≡ number = omega (arith, less, past) in
               subst (λ n. IsTidy g content (get_or table n None)) at (added.tidy is).1
         ];
-        untidy = λ not each. elim (added.untidy not) [
-          | inl earlier ↦ before.untidy earlier (λ number less. each number (omega (arith, less)))
-          | inr here ↦ here (each count (omega arith))
+        untidy = λ number some. elim (added.untidy number some) [
+          | inl earlier ↦
+              let is = before.untidy number earlier in
+              record { within = omega (arith, is.within); is = is.is; first = is.first }
+          | inr here ↦ record {
+              within = omega (arith, here.0);
+              is = subst (λ n. IsTidy g content (get_or table n None) → ⊥) here.0 here.2;
+              first = λ lower less. before.tidy here.1 lower (omega (arith, less, here.0));
+            }
         ];
       }

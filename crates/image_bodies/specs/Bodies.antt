@@ -48,6 +48,12 @@ abbrev pub IsTidy : Geometry → Image → Option Inode → Type 0
 IsTidy g content (Some inode) = IsTidyOf g content inode.kind inode
 IsTidy g content None = Unit {0}
 
+-- the number of the first untidy file, once one file more was looked at
+abbrev pub first_untidy : Option ℕ → ℕ → Bool → Option ℕ
+first_untidy (Some first) number tidy = Some first
+first_untidy None number true = None
+first_untidy None number false = Some number
+
 -- the inode of a number is sound, if it is a file's
 abbrev pub IsSoundIfAny : Geometry → Option Inode → Type 0
 IsSoundIfAny g (Some inode) = SoundInode g inode
@@ -87,8 +93,9 @@ pub record IsAdded (g : Geometry) (content : Image) (table : List (Option Inode)
     (old new : Found) : Type 0 where
   pub owned : (met : List ℕ) → IsOwned met old.owners → IsOwned (met ++ owned_by content (Ok inode)) new.owners
   pub named : IsNamed g content table number inode old.links new.links
-  pub tidy : new.tidy ≡ true → (old.tidy ≡ true) × IsTidy g content inode
-  pub untidy : new.tidy ≡ false → (old.tidy ≡ false) ⊎ (IsTidy g content inode → ⊥)
+  pub tidy : new.untidy ≡ None → (old.untidy ≡ None) × IsTidy g content inode
+  pub untidy : (first : ℕ) → new.untidy ≡ Some first → (old.untidy ≡ Some first)
+      ⊎ ((number ≡ first) × (old.untidy ≡ None) × (IsTidy g content inode → ⊥))
 
 -- the numbers that the first inodes own, and those that their slots name
 abbrev pub all_owned : Image → List (Option Inode) → ℕ → List ℕ
@@ -97,6 +104,12 @@ all_owned content table count = flat_map (λ n. owned_by content (Ok (get_or tab
 abbrev pub names_at : ℕ → Image → List (Option Inode) → ℕ → List ℕ
 names_at inodes content table n = named_of inodes content (Ok (get_or table n None))
 
+-- of the first files of a table that of this number isn't tidy, and those of lower numbers are
+pub record IsFirstUntidy (g : Geometry) (content : Image) (table : List (Option Inode)) (count number : ℕ) : Type 0 where
+  pub within : number < count
+  pub is : IsTidy g content (get_or table number None) → ⊥
+  pub first : (lower : ℕ) → lower < number → IsTidy g content (get_or table lower None)
+
 -- this was found in the first files of a table
 pub record IsFound (g : Geometry) (content : Image) (table : List (Option Inode)) (count : ℕ) (found : Found) : Type 0 where
   pub blocks : (number : ℕ) → number < count → HasBlocks g content (get_or table number None)
@@ -104,6 +117,5 @@ pub record IsFound (g : Geometry) (content : Image) (table : List (Option Inode)
   pub named : AreNamed (flat_map (names_at g.inodes content table) (range_with_len 0 count))
       (flat_map (λ n. named_children table n (names_at g.inodes content table n)) (range_with_len 0 count))
       (flat_map (λ n. for_directories table n (names_at g.inodes content table n)) (range_with_len 0 count)) found.links
-  pub tidy : found.tidy ≡ true → (number : ℕ) → number < count → IsTidy g content (get_or table number None)
-  pub untidy : found.tidy ≡ false
-      → ((number : ℕ) → number < count → IsTidy g content (get_or table number None)) → ⊥
+  pub tidy : found.untidy ≡ None → (number : ℕ) → number < count → IsTidy g content (get_or table number None)
+  pub untidy : (number : ℕ) → found.untidy ≡ Some number → IsFirstUntidy g content table count number

@@ -11,7 +11,7 @@ ghost use Rattle.image_files.specs.Content.{content_on};
 ghost use Rattle.image_files.specs.Slots.{IsSpanned};
 ghost use Rattle.image_links.specs.Linked.{HasCounts};
 ghost use Rattle.image_bodies.specs.Bodies.{AreAsRead, FitsFound, HasBlocks, HasBlocksOf, IsAdded, IsFound};
-ghost use Rattle.image_bodies.specs.Bodies.{IsLookedAt};
+ghost use Rattle.image_bodies.specs.Bodies.{IsLookedAt, first_untidy};
 
 use crate::Found;
 use disk::CrashDisk;
@@ -41,11 +41,13 @@ pub fn look_at_files<D: CrashDisk>(
     ensures fits { IfOk result (FitsFound geometry.now) }
     ensures found { D.keeps_model disk.new → IsUnspoiled (D.device disk.old)
         → AreAsRead geometry.now (content_on geometry.now overlay.now (D.device disk.old)) table.now
-        → IfOk result (IsFound geometry.now (content_on geometry.now overlay.now (D.device disk.old)) table.now geometry.now.inodes) }
+        → IfOk result (IsFound geometry.now
+        (content_on geometry.now overlay.now (D.device disk.old)) table.now geometry.now.inodes) }
     ensures refused { D.keeps_model disk.new → IsUnspoiled (D.device disk.old)
         → AreAsRead geometry.now (content_on geometry.now overlay.now (D.device disk.old)) table.now
         → IsErrOf result PartFault.Range
-        → ((number : ℕ) → number < geometry.now.inodes → HasBlocks geometry.now (content_on geometry.now overlay.now (D.device disk.old)) (get_or table.now number None))
+        → ((number : ℕ) → number < geometry.now.inodes → HasBlocks geometry.now
+        (content_on geometry.now overlay.now (D.device disk.old)) (get_or table.now number None))
         → ⊥ }
 {
     let mut found = Found::new(alloc, geometry)?;
@@ -84,14 +86,18 @@ fn look_at<D: CrashDisk>(
     ensures fits { OnOk result (FitsFound geometry.now found.new) }
     ensures blocks { D.keeps_model disk.new → IsUnspoiled (D.device disk.old)
         → AreAsRead geometry.now (content_on geometry.now overlay.now (D.device disk.old)) table.now
-        → OnOk result (HasBlocks geometry.now (content_on geometry.now overlay.now (D.device disk.old)) (get_or table.now number None)) }
+        → OnOk result (HasBlocks geometry.now (content_on geometry.now overlay.now (D.device disk.old))
+        (get_or table.now number None)) }
     ensures added { D.keeps_model disk.new → IsUnspoiled (D.device disk.old)
         → AreAsRead geometry.now (content_on geometry.now overlay.now (D.device disk.old)) table.now
-        → OnOk result (IsAdded geometry.now (content_on geometry.now overlay.now (D.device disk.old)) table.now number (get_or table.now number None) found.old found.new) }
+        → OnOk result (IsAdded geometry.now
+        (content_on geometry.now overlay.now (D.device disk.old)) table.now number
+        (get_or table.now number None) found.old found.new) }
     ensures refused { D.keeps_model disk.new → IsUnspoiled (D.device disk.old)
         → AreAsRead geometry.now (content_on geometry.now overlay.now (D.device disk.old)) table.now
         → IsErrOf result PartFault.Range
-        → HasBlocks geometry.now (content_on geometry.now overlay.now (D.device disk.old)) (get_or table.now number None) → ⊥ }
+        → HasBlocks geometry.now (content_on geometry.now overlay.now (D.device disk.old))
+        (get_or table.now number None) → ⊥ }
 {
     match &table[number as usize] {
         None => Ok(()),
@@ -121,15 +127,18 @@ fn look_at_file<D: CrashDisk>(
     ensures fits { OnOk result (FitsFound geometry.now found.new) }
     ensures blocks { D.keeps_model disk.new → IsUnspoiled (D.device disk.old)
         → AreAsRead geometry.now (content_on geometry.now overlay.now (D.device disk.old)) table.now
-        → SoundInode geometry.now inode.now → OnOk result (HasBlocksOf geometry.now (content_on geometry.now overlay.now (D.device disk.old)) inode.now.kind inode.now) }
+        → SoundInode geometry.now inode.now → OnOk result (HasBlocksOf geometry.now
+        (content_on geometry.now overlay.now (D.device disk.old)) inode.now.kind inode.now) }
     ensures added { D.keeps_model disk.new → IsUnspoiled (D.device disk.old)
         → AreAsRead geometry.now (content_on geometry.now overlay.now (D.device disk.old)) table.now
         → SoundInode geometry.now inode.now
-        → OnOk result (IsAdded geometry.now (content_on geometry.now overlay.now (D.device disk.old)) table.now number (Some inode.now) found.old found.new) }
+        → OnOk result (IsAdded geometry.now
+        (content_on geometry.now overlay.now (D.device disk.old)) table.now number (Some inode.now) found.old found.new) }
     ensures refused { D.keeps_model disk.new → IsUnspoiled (D.device disk.old)
         → AreAsRead geometry.now (content_on geometry.now overlay.now (D.device disk.old)) table.now
         → SoundInode geometry.now inode.now → IsErrOf result PartFault.Range
-        → HasBlocksOf geometry.now (content_on geometry.now overlay.now (D.device disk.old)) inode.now.kind inode.now → ⊥ }
+        → HasBlocksOf geometry.now
+        (content_on geometry.now overlay.now (D.device disk.old)) inode.now.kind inode.now → ⊥ }
 {
     let numbers = read_numbers(alloc, disk, overlay, geometry, inode)?;
     meet_blocks(&mut found.owners, inode.indirect, &numbers);
@@ -137,8 +146,24 @@ fn look_at_file<D: CrashDisk>(
     let tidy = look_inside(
         alloc, disk, overlay, geometry, table, number, inode, &numbers, links,
     )?;
-    found.tidy = found.tidy && tidy;
+    found.untidy = first_untidy(found.untidy, number, tidy);
     Ok(())
+}
+
+// The number of the first untidy file, once one file more was looked at.
+fn first_untidy(first: Option<u32>, number: u32, tidy: bool) -> Option<u32>
+    ensures { result ≡ first_untidy first number tidy }
+{
+    match first {
+        Some(first) => Some(first),
+        None => {
+            if tidy {
+                None
+            } else {
+                Some(number)
+            }
+        }
+    }
 }
 
 // Looks at what lies in a file's blocks, which have these numbers, and tells whether it is tidy.
@@ -166,13 +191,17 @@ fn look_inside<D: CrashDisk>(
     ensures counts { IfOk result (λ _. HasCounts geometry.now.inodes links.new) }
     ensures looked { D.keeps_model disk.new → IsUnspoiled (D.device disk.old)
         → AreAsRead geometry.now (content_on geometry.now overlay.now (D.device disk.old)) table.now
-        → SoundInode geometry.now inode.now → numbers.now ≡ numbers_of (content_on geometry.now overlay.now (D.device disk.old)) inode.now
-        → IfOk result (λ tidy. IsLookedAt geometry.now (content_on geometry.now overlay.now (D.device disk.old)) table.now number inode.now.kind inode.now links.old links.new
+        → SoundInode geometry.now inode.now → numbers.now ≡ numbers_of
+        (content_on geometry.now overlay.now (D.device disk.old)) inode.now
+        → IfOk result (λ tidy. IsLookedAt geometry.now
+        (content_on geometry.now overlay.now (D.device disk.old)) table.now number inode.now.kind inode.now links.old links.new
         tidy) }
     ensures refused { D.keeps_model disk.new → IsUnspoiled (D.device disk.old)
         → AreAsRead geometry.now (content_on geometry.now overlay.now (D.device disk.old)) table.now
-        → SoundInode geometry.now inode.now → numbers.now ≡ numbers_of (content_on geometry.now overlay.now (D.device disk.old)) inode.now
-        → IsErrOf result PartFault.Range → HasBlocksOf geometry.now (content_on geometry.now overlay.now (D.device disk.old)) inode.now.kind inode.now → ⊥ }
+        → SoundInode geometry.now inode.now → numbers.now ≡ numbers_of
+        (content_on geometry.now overlay.now (D.device disk.old)) inode.now
+        → IsErrOf result PartFault.Range → HasBlocksOf geometry.now
+        (content_on geometry.now overlay.now (D.device disk.old)) inode.now.kind inode.now → ⊥ }
 {
     match inode.kind {
         InodeKind::Directory => {
@@ -214,11 +243,14 @@ fn look_at_slots<D: CrashDisk>(
     ensures looked { D.keeps_model disk.new → IsUnspoiled (D.device disk.old)
         → AreAsRead geometry.now (content_on geometry.now overlay.now (D.device disk.old)) table.now
         → numbers.now ≡ numbers_of (content_on geometry.now overlay.now (D.device disk.old)) inode.now
-        → IfOk result (λ tidy. IsLookedAt geometry.now (content_on geometry.now overlay.now (D.device disk.old)) table.now number Directory inode.now links.old links.new tidy) }
+        → IfOk result (λ tidy. IsLookedAt geometry.now
+        (content_on geometry.now overlay.now (D.device disk.old)) table.now number Directory inode.now links.old links.new tidy) }
     ensures refused { D.keeps_model disk.new → IsUnspoiled (D.device disk.old)
         → AreAsRead geometry.now (content_on geometry.now overlay.now (D.device disk.old)) table.now
-        → numbers.now ≡ numbers_of (content_on geometry.now overlay.now (D.device disk.old)) inode.now → IsErrOf result PartFault.Range
-        → IsSpanned geometry.now.inodes (content_on geometry.now overlay.now (D.device disk.old)) inode.now numbers.now → ⊥ }
+        → numbers.now ≡ numbers_of (content_on geometry.now overlay.now (D.device disk.old)) inode.now
+        → IsErrOf result PartFault.Range
+        → IsSpanned geometry.now.inodes
+        (content_on geometry.now overlay.now (D.device disk.old)) inode.now numbers.now → ⊥ }
 {
     let slots = read_directory(alloc, disk, overlay, geometry, inode, numbers)?;
     count_names(links, table, number, &slots);

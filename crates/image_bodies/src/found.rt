@@ -1,5 +1,5 @@
 //! What is found in the files of an image.
-ghost use Rattle.std.specs.Prelude.{◌≡◌, [], true, IfOk};
+ghost use Rattle.std.specs.Prelude.{◌≡◌, [], None, IfOk};
 ghost use Rattle.tallies.specs.Tally.{IsOwned};
 ghost use Rattle.file_counts.specs.Adds.{AreNamed};
 ghost use Rattle.image_bodies.specs.Bodies.{FitsFound};
@@ -9,13 +9,13 @@ use layout::Geometry;
 use std::alloc::{AllocError, Global};
 use tallies::{Named, Owners};
 
-/// What was found in files: who owns their blocks, the names in their slots, and whether each is tidy: nothing lies past
-/// its size, and its names are names, none of them twice.
+/// What was found in files: who owns their blocks, the names in their slots, and the lowest number of a file that isn't
+/// tidy: something lies past its size, or of the names in its slots one is no name or stands twice.
 #[derive(Drop)]
 pub struct Found {
     pub owners: Owners,
     pub links: Links,
-    pub tidy: bool,
+    pub untidy: Option<u32>,
 }
 
 impl Found {
@@ -24,7 +24,7 @@ impl Found {
         ensures fits { IfOk result (FitsFound geometry.now) }
         ensures owned { IfOk result (λ found. IsOwned [] found.owners) }
         ensures named { IfOk result (λ found. AreNamed [] [] [] found.links) }
-        ensures tidy { IfOk result (λ found. found.tidy ≡ true) }
+        ensures tidy { IfOk result (λ found. found.untidy ≡ None) }
     {
         Ok(Found {
             owners: Owners::new(alloc, geometry.blocks)?,
@@ -33,7 +33,7 @@ impl Found {
                 by_parent: Named::new(alloc, geometry.inodes)?,
                 children: Named::new(alloc, geometry.inodes)?,
             },
-            tidy: true,
+            untidy: None,
         })
     }
 }

@@ -1,6 +1,7 @@
 -- What the passes over an image tell of the trees that it stands for.
 use Rattle.std.proofs.Common.{◌≡◌, ℕ, ◌+◌, ◌<◌, ◌≤◌, inl, inr, sym, ap, ◌∙◌, refl, subst, true, false, Bool, cond, List, count_by, length}
 use Rattle.std.proofs.Common.{take, drop, get_or, is_some, replicate, nat_lt, IfSome, IsOk, Option, Some, None, Result, Ok, Err, arith}
+use Rattle.std.specs.Prelude.{IfErr, IfOk}
 use Rattle.std.proofs.lemmas.Bool.{cases_lt, le-ltb}
 use Rattle.limits.specs.declared.TheConstants.{BLOCK_BYTES, INODES_PER_BLOCK, INODE_BYTES}
 use Rattle.disk.specs.Crash.{Image}
@@ -43,12 +44,15 @@ use Rattle.image_bodies.specs.declared.found.Found.{Found}
 use Rattle.image_bodies.specs.Bodies.{AreAsRead, FitsFound, HasBlocks, HasBlocksOf, IsFound, IsTidy, IsTidyOf, IsSoundIfAny}
 use Rattle.found_law.proofs.Counting.{is_counted, is_owned}
 use Rattle.image_check.specs.Checked.{AreCounts}
-use Rattle.image_check.specs.Searched.{AreBlocksOf, AreMadeBy, IsNoTree, IsRead, IsTreeBy, IsTreeWith}
+use Rattle.image_check.specs.Refused.{IsRefusal}
+use Rattle.image_check.specs.Searched.{AreBlocksOf, AreMadeBy, IsJudged, IsNoTree, IsRead, IsSearched, IsTreeBy, IsTreeWith}
+use Rattle.image_check.specs.declared.fault.CheckFault.{CheckFault}
 use Rattle.image_check.specs.declared.judging.Counts.{Counts}
 use Rattle.image_check.proofs.Counted.{files_are_counted}
 use Rattle.image_check.proofs.Files as files
 use Rattle.image_check.proofs.Homes.{blocks_are, content_same, in_blocks, inode_same}
 use Rattle.image_check.proofs.Marked.{are_marked, is_marked}
+use Rattle.image_check.proofs.Refusing.{as_searched, said_then}
 use Rattle.image_check.proofs.SlotBytes.{dropped, taken}
 
 module _ (g : Geometry) (boot : ℕ) (image : Image) where
@@ -176,10 +180,11 @@ module _ (g : Geometry) (boot : ℕ) (image : Image) where
               files.is_tidy g content inode (sound inode refl) (names inode refl) is
           by_entry None sound names is = tt
 
-      is_tidy_found : (b : Bool) → found.tidy ≡ b
-          → ((number : ℕ) → number < g.inodes → IsTidy g content (get_or table number None)) → b ≡ true
-      is_tidy_found true is each = refl
-      is_tidy_found false is each = absurd (is_found.untidy is each)
+      is_tidy_found : (o : Option ℕ) → found.untidy ≡ o
+          → ((number : ℕ) → number < g.inodes → IsTidy g content (get_or table number None)) → found.untidy ≡ None
+      is_tidy_found None is each = is
+      is_tidy_found (Some number) is each =
+          let first = is_found.untidy number is in absurd (first.is (each number first.within))
 
       made_at : (tree : Tree) → Stands g home tree → IsMadeBy boot tree → AreMadeBy boot table
       made_at tree stands made number less =
@@ -196,7 +201,7 @@ module _ (g : Geometry) (boot : ℕ) (image : Image) where
       no_tree not tree stands made =
           let whole = whole_of g home tree stands in
           not (record {
-            tidy = is_tidy_found found.tidy refl (λ number less. tidy_at whole number less
+            tidy = is_tidy_found found.untidy refl (λ number less. tidy_at whole number less
                 (file_at_same number less (stands.parts.has.inodes number less)));
             made = made_at tree stands made;
             linked = are_linked g home table found.links blocks counted whole;
@@ -267,3 +272,10 @@ module _ (g : Geometry) (boot : ℕ) (image : Image) where
             blocks = blocks_is ∙ kept.count once ∙ sym (used_are g home (tree_of g home) (holds_of g home (tree_of g home) stands));
           };
         }
+
+      -- what is said by the links
+      pub judged : found.owners.shared ≡ false → AreMarked g image found.owners table
+          → (result : Result Counts CheckFault) → IfOk result (IsJudged boot table found)
+          → IfErr result (IsRefusal (IsTreeBy boot table found → ⊥)) → IsSearched g boot image result
+      judged once marks (Ok counts) yes no = is_tree once marks yes.tree counts yes.files yes.blocks
+      judged once marks (Err cause) yes no = as_searched g boot image cause (said_then cause no_tree no)

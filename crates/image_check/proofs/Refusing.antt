@@ -1,5 +1,6 @@
 -- What refuses an image, and what is said of it then.
 use Rattle.std.proofs.Common.{◌≡◌, ℕ, ◌+◌, ◌^◌, ◌<◌, ◌≤◌, inl, inr, sym, ap, ◌∙◌, refl, subst, List, Result, Ok, Err, arith}
+use Rattle.std.specs.Prelude.{IsErrOf}
 use Rattle.limits.specs.declared.TheConstants.{SUPER_BLOCK}
 use Rattle.disk.specs.Crash.{Image}
 use Rattle.disk.specs.Device.{Content, Device}
@@ -87,7 +88,7 @@ counts_as old new (fault.Tree why) counts = counts
 
 -- where no call failed, none is counted
 pub counts_none : {T : Type 0} (old new : Device) (result : Result T CheckFault) → new.failures ≡ old.failures
-    → ((result ≡ Err fault.Device) → ⊥) → CountsCheck old new result
+    → (IsErrOf result fault.Device → ⊥) → CountsCheck old new result
 counts_none old new (Ok x) same not = same
 counts_none old new (Err fault.Magic) same not = same
 counts_none old new (Err fault.Version) same not = same
@@ -200,6 +201,18 @@ refused_first kept opening.NoMemory before later refused keeps clean = tt
 
 -- ---- the search
 
+-- another fact is said in its place
+pub said_then : {said told : Type 0} (cause : CheckFault) → (said → told) → IsRefusal said cause → IsRefusal told cause
+said_then fault.Magic so is = so is
+said_then fault.Version so is = so is
+said_then fault.Range so is = so is
+said_then fault.Log so is = so is
+said_then fault.Device so is = tt
+said_then fault.NoMemory so is = tt
+said_then fault.Shared so is = so is
+said_then fault.Bitmap so is = so is
+said_then (fault.Tree why) so is = so is
+
 module _ (g : Geometry) (boot : ℕ) (image : Image) where
   pub as_searched : (cause : CheckFault) → IsRefusal (IsNoTree g boot image) cause → IsSearched g boot image (Err cause)
   as_searched fault.Magic said = said
@@ -211,18 +224,6 @@ module _ (g : Geometry) (boot : ℕ) (image : Image) where
   as_searched fault.Shared said = said
   as_searched fault.Bitmap said = said
   as_searched (fault.Tree why) said = said
-
-  -- another fact is said in its place
-  pub said_then : {said told : Type 0} (cause : CheckFault) → (said → told) → IsRefusal said cause → IsRefusal told cause
-  said_then fault.Magic so is = so is
-  said_then fault.Version so is = so is
-  said_then fault.Range so is = so is
-  said_then fault.Log so is = so is
-  said_then fault.Device so is = tt
-  said_then fault.NoMemory so is = tt
-  said_then fault.Shared so is = so is
-  said_then fault.Bitmap so is = so is
-  said_then (fault.Tree why) so is = so is
 
   pub of_range : (cause : PartFault) → (cause ≡ part.Range → IsNoTree g boot image)
       → IsSearched g boot image (Err (of_part cause))

@@ -1,5 +1,5 @@
 -- What is said of the files of an image.
-use Rattle.std.specs.Prelude.{◌≡◌, ◌≢◌, ℕ, ◌<◌, ◌≤◌, true, List, count_by, length, get_or, is_some, IfSome, Option, Some, None}
+use Rattle.std.specs.Prelude.{◌≡◌, ◌≢◌, ℕ, ◌<◌, ◌≤◌, List, count_by, length, get_or, is_some, IfSome, Option, Some, None}
 use Rattle.std.specs.Prelude.{Result, Ok, Err}
 use Rattle.limits.specs.declared.TheConstants.{BLOCK_BYTES}
 use Rattle.disk.specs.Crash.{Image}
@@ -54,7 +54,7 @@ pub record IsRead (g : Geometry) (image : Image) (table : List (Option Inode)) :
 
 -- the files of a table make a tree, by what was found in them
 pub record IsTreeBy (boot : ℕ) (table : List (Option Inode)) (found : Found) : Type 0 where
-  pub tidy : found.tidy ≡ true
+  pub tidy : found.untidy ≡ None
   pub made : AreMadeBy boot table
   pub linked : AreLinked table found.links
 

@@ -25,6 +25,7 @@ use std::alloc::Global;
 /// an inode is none (Range), the blocks of a file or the slots of a directory aren't as one file may have them (Range);
 /// a block has two owners (Shared), a bitmap doesn't mark what is in use (Bitmap), the files make no tree (Tree). A call
 /// of the device that fails and an allocation that fails end it at once (Device, NoMemory).
+#[tactic(auto, using(wal_law::proofs::OnlyRead::reads_then))]
 pub fn check<D: CrashDisk>(alloc: Global, disk: &mut D) -> Result<Counts, CheckFault>
     ensures reads { HasOnlyRead (D.device disk.old) (D.device disk.new) }
     ensures failure { CountsCheck (D.device disk.old) (D.device disk.new) result }
@@ -39,6 +40,7 @@ pub fn check<D: CrashDisk>(alloc: Global, disk: &mut D) -> Result<Counts, CheckF
 }
 
 // The same, by the super block of the image.
+#[tactic(auto, using(wal_law::proofs::OnlyRead::reads_then))]
 fn check_log<D: CrashDisk>(
     alloc: Global,
     disk: &mut D,
@@ -59,6 +61,7 @@ fn check_log<D: CrashDisk>(
 }
 
 // Whether the files of an image, with these blocks laid over it, make a tree by the numbers of this super block.
+#[tactic(auto, using(wal_law::proofs::OnlyRead::reads_then))]
 fn search<D: CrashDisk>(
     alloc: Global,
     disk: &mut D,
@@ -80,6 +83,7 @@ fn search<D: CrashDisk>(
 }
 
 // The same, by the table of the image.
+#[tactic(auto, using(wal_law::proofs::OnlyRead::reads_then))]
 fn search_files<D: CrashDisk>(
     alloc: Global,
     disk: &mut D,
@@ -103,6 +107,7 @@ fn search_files<D: CrashDisk>(
 }
 
 // The same, by what was found in all files.
+#[tactic(auto, using(wal_law::proofs::OnlyRead::no_read))]
 fn search_marks<D: CrashDisk>(
     alloc: Global,
     disk: &mut D,

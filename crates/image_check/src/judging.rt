@@ -33,7 +33,10 @@ pub(crate) fn judge(
     ensures no { IfErr result (IsRefusal (IsTreeBy boot table.now found.now → ⊥)) }
     ensures device { IsErrOf result CheckFault.Device → ⊥ }
 {
-    if !found.tidy || !are_made_by(boot, table) {
+    if found.untidy.is_some() {
+        return Err(CheckFault::Tree(None));
+    }
+    if !are_made_by(boot, table) {
         return Err(CheckFault::Tree(None));
     }
     match are_linked(alloc, table, &found.links) {

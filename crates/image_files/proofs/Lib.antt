@@ -1,5 +1,6 @@
 pub mod Data
 pub mod Mapped
 pub mod SlotBlocks
+pub mod Spanned
 pub mod TailBytes
 pub mod Then

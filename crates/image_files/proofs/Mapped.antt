@@ -1,9 +1,9 @@
 -- The numbers of a file: those that its inode has, and those in its indirect block.
-use Rattle.std.proofs.Common.{◌≡◌, ℕ, ◌≤◌, ◌<◌, sym, ap, ◌∙◌, Bool, true, false, cond, not, ◌||◌, ◌&&◌, List, ◌++◌, length}
-use Rattle.std.proofs.Common.{[], ◌∷◌, refl, drop, replicate, nat_eq, nat_le, nat_lt, arith}
+use Rattle.std.proofs.Common.{◌≡◌, ℕ, sym, ap, ◌∙◌, Bool, true, false, cond, not, ◌||◌, ◌&&◌, List, ◌++◌, length}
+use Rattle.std.proofs.Common.{[], ◌∷◌, refl, drop, replicate, nat_eq}
 use Rattle.std.specs.List.{list_all, list_any}
 use Rattle.std.proofs.lemmas.List.Folds.{list_all-append}
-use Rattle.limits.specs.declared.TheConstants.{BLOCK_BYTES, INDIRECT_INDEXES}
+use Rattle.limits.specs.declared.TheConstants.{INDIRECT_INDEXES}
 use Rattle.disk.specs.Crash.{Image}
 use Rattle.layout.specs.declared.geometry.Geometry.{Geometry}
 use Rattle.layout.specs.declared.inode.Inode.{Inode}

@@ -1,24 +1,20 @@
 -- The slots of directories, one after another and block by block.
-use Rattle.std.proofs.Common.{◌≡◌, ℕ, zero, suc, ◌+◌, ◌-◌, ◌*◌, ◌<◌, inl, inr, sym, ap, ◌∙◌, refl, subst, Bool, true, false, cond, not}
-use Rattle.std.proofs.Common.{◌&&◌, ◌||◌, List, [], ◌∷◌, ◌++◌, length, take, drop, get_or, nat_eq, nat_le, nat_lt, replicate, Option, Some, None, Result, Ok, IsOk, arith}
+use Rattle.std.proofs.Common.{◌≡◌, ℕ, zero, suc, ◌+◌, ◌-◌, ◌*◌, ◌<◌, inl, inr, sym, ap, ◌∙◌, refl, subst, true}
+use Rattle.std.proofs.Common.{◌&&◌, List, [], ◌∷◌, ◌++◌, length, take, drop, get_or, nat_lt, Option, Some, None, Result, Ok, IsOk, arith}
 use Rattle.std.specs.List.{cons_option, filter_map, list_all, range_with_len}
 use Rattle.std.proofs.lemmas.Bool.{cases_lt, lt-ltb}
-use Rattle.std.proofs.lemmas.List.{append-nil, append_assoc, length-take-le}
+use Rattle.std.proofs.lemmas.List.{append-nil, append_assoc}
 use Rattle.std.proofs.lemmas.List.Folds.{list_all-append}
 use Rattle.std.proofs.lemmas.List.Elements.{filter_map-append}
 use Rattle.limits.specs.declared.TheConstants.{BLOCK_BYTES, SLOTS_PER_BLOCK}
 use Rattle.disk.specs.Crash.{Image}
 use Rattle.layout.specs.declared.fault.LayoutFault.{LayoutFault}
-use Rattle.layout.specs.declared.geometry.Geometry.{Geometry}
 use Rattle.layout.specs.declared.slot.Slot.{Slot}
 use Rattle.layout.specs.declared.slot.TheConstants.{SLOT_BYTES}
 use Rattle.layout.specs.Decode.{bytes_of, content_of}
-use Rattle.layout.specs.Parts.{content_in}
-use Rattle.layout.specs.Places.{is_data}
 use Rattle.layout.specs.SlotForm.{read_slot}
 use Rattle.inode.proofs.Pieces.{in_block}
 use Rattle.image_files.specs.Slots.{ArePushed, AreSlots, HasSlots, IsPushed, in_use, slot_at, used_slots}
-use Rattle.image_files.proofs.Data.{data_content}
 
 -- ---- numbers in a row
 

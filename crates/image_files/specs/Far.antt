@@ -1,5 +1,5 @@
 -- The numbers in an indirect block.
-use Rattle.std.specs.Prelude.{◌≡◌, ℕ, Bool, true, not, List, nat_eq}
+use Rattle.std.specs.Prelude.{◌≡◌, ℕ, true, not, List, nat_eq}
 use Rattle.std.specs.List.{list_all, list_any}
 use Rattle.limits.specs.declared.TheConstants.{INDIRECT_INDEXES}
 use Rattle.disk.specs.Crash.{Image}

@@ -1,6 +1,6 @@
 -- Names, one after another.
-use Rattle.std.proofs.Common.{◌≡◌, ℕ, zero, suc, ◌+◌, ◌<◌, ◌≤◌, sym, ap, ◌∙◌, refl, subst, Bool, true, false, cond, ◌&&◌, ◌||◌}
-use Rattle.std.proofs.Common.{List, [], ◌∷◌, ◌++◌, length, map, take, drop, get_or, arith}
+use Rattle.std.proofs.Common.{◌≡◌, ℕ, ◌+◌, ◌<◌, sym, ap, ◌∙◌, refl, subst, Bool, true, false, cond, not, ◌&&◌, ◌||◌}
+use Rattle.std.proofs.Common.{List, [], ◌∷◌, ◌++◌, length, take, drop, get_or}
 use Rattle.std.specs.Cmp.{IsEquivalence}
 use Rattle.std.specs.Cmp.Lexicographic.{nat_list_cmp_total}
 use Rattle.std.specs.List.{AllByRecursion, IsDistinct, list_all, list_any}
@@ -15,6 +15,10 @@ use Rattle.slot_names.specs.Names.{AreNames, is_name, names_in, same_name}
 pub laws : IsEquivalence same_name
 laws = eq_by_cmp_equiv nat_list_cmp_total
 
+pub none_apart : IsDistinct same_name []
+unfolding IsDistinct
+none_apart = tt
+
 map_both : (xs ys : List Slot) → names_in (xs ++ ys) ≡ names_in xs ++ names_in ys
 map_both [] ys = refl
 map_both (x ∷ xs) ys = ap (λ l. x.name ∷ l) (map_both xs ys)
@@ -26,6 +30,14 @@ names_more slots place d less =
 
 both : (a b : Bool) → a ≡ true → b ≡ true → (a && b) ≡ true
 both a b one other = λ i. one i && other i
+
+pub not_false : (b : Bool) → not b ≡ false → b ≡ true
+not_false true e = refl
+not_false false e = cc
+
+pub not_true : (b : Bool) → not b ≡ true → b ≡ false
+not_true true e = cc
+not_true false e = refl
 
 -- a name that ties with another isn't apart from it
 never : (x y : List ℕ) (zs ys : List (List ℕ)) → same_name y x ≡ true

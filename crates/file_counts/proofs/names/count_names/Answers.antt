@@ -1,4 +1,4 @@
-use Rattle.std.proofs.Common.{◌≡◌, ◌+◌, ◌++◌, ◌∷◌, ◌∙◌, [], ap, get_or, length, map, nat_lt, subst, sym, take, true, arith}
+use Rattle.std.proofs.Common.{◌≡◌, ◌+◌, ◌++◌, ◌∷◌, [], get_or, length, map, nat_lt, subst, sym, take, arith}
 use Rattle.std.proofs.lemmas.Bool.{ltb-true}
 use Rattle.layout.specs.declared.slot.Slot.{Slot}
 use Rattle.file_counts.proofs.More.{AreNamedToo, all_named, each_passes, more_named, none_named, number_of, numbers_more}
@@ -16,9 +16,8 @@ count_name-requires-clause-number c =
     let size = length c.args.table.now in
     let slots = c.args.slots.now in
     let slot = c.index-slots-place.result in
-    ltb-true slot.number size
-    (ap (λ (s : Slot). nat_lt s.number size) c.index-slots-place.is
-    ∙ each_passes (λ (s : Slot). nat_lt s.number size) slots c.places.place slot c.requires.numbers c.places-test.true)
+    ltb-true (get_or slots c.places.place slot).number size
+    (each_passes (λ (s : Slot). nat_lt s.number size) slots c.places.place slot c.requires.numbers c.places-test.true)
 
 pub places-preserved : goal.places-preserved
 places-preserved c = record {
@@ -27,11 +26,10 @@ places-preserved c = record {
       let table = c.args.table.now in
       let slots = c.args.slots.now in
       let place = c.places.place in
-      let slot = c.index-slots-place.result in
+      let slot : Slot = get_or slots place c.index-slots-place.result in
       let links = c.count_name.new.links in
       let more : map number_of (take place slots) ++ slot.number ∷ [] ≡ map number_of (take (place + 1) slots) =
-      ap (λ (s : Slot). map number_of (take place slots) ++ s.number ∷ []) c.index-slots-place.is
-      ∙ sym (numbers_more slots place slot c.places-test.true) in
+      sym (numbers_more slots place c.index-slots-place.result c.places-test.true) in
       subst (λ numbers. AreNamedToo names by_parent children table c.args.directory numbers links) more
       (more_named names by_parent children table c.args.directory (map number_of (take place slots)) slot.number links
       (c.count_name.ensures.named _ _ _ (c.places.invariant.named names by_parent children named)));

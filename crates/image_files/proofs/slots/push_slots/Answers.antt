@@ -1,5 +1,7 @@
-use Rattle.std.proofs.Common.{inl, inr}
+use Rattle.std.proofs.Common.{rules, ◌≡◌, ◌⊎◌, sym, subst, inl, inr, IfErr, Err}
 use Rattle.limits.specs.declared.TheConstants.{SLOTS_PER_BLOCK}
+use Rattle.image_parts.specs.declared.fault.PartFault.TheVariants.{NoMemory, Range}
+use Rattle.image_files.specs.Slots.{AreSlots}
 use Rattle.image_files.proofs.SlotBlocks.{none_pushed, one_pushed, refused_there}
 use Rattle.image_files.proofs.slots.push_slots.Goals as goal
 
@@ -7,14 +9,21 @@ pub places-init : goal.places-init
 places-init c = none_pushed c.args.inodes c.args.block.now c.args.slots.now.items
 
 pub returns-in_err-push_slot-clause-refused : goal.returns-in_err-push_slot-clause-refused
-returns-in_err-push_slot-clause-refused c = elim c.in_err-push_slot.ensures.refused [
-  | inl memory ↦ inl memory
-  | inr refused ↦ inr (
-    refused.0,
-    refused_there c.args.inodes c.args.block.now SLOTS_PER_BLOCK c.places.place
-        c.bytes_in.result.now c.places-test.true c.bytes_in.ensures.bytes refused.1,
-  )
-]
+returns-in_err-push_slot-clause-refused c =
+    let fault = c.in_err-push_slot.field-0.0 in
+    let is : c.from_residual.result ≡ Err fault = search rules in
+    let refused : (fault ≡ NoMemory)
+    ⊎ ((fault ≡ Range) × (AreSlots c.args.inodes c.args.block.now SLOTS_PER_BLOCK → ⊥)) =
+    elim c.in_err-push_slot.ensures.refused [
+      | inl memory ↦ inl memory
+      | inr refused ↦ inr (
+        refused.0,
+        refused_there c.args.inodes c.args.block.now SLOTS_PER_BLOCK c.places.place
+            c.bytes_in.result.now c.places-test.true c.bytes_in.ensures.bytes refused.1,
+      )
+    ] in
+    subst (λ r. IfErr r (λ one. (one ≡ NoMemory)
+    ⊎ ((one ≡ Range) × (AreSlots c.args.inodes c.args.block.now SLOTS_PER_BLOCK → ⊥)))) (sym is) refused
 
 pub places-preserved : goal.places-preserved
 places-preserved c =

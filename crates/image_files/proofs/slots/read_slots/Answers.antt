@@ -1,7 +1,9 @@
-use Rattle.std.proofs.Common.{rules, ◌≡◌, ◌<◌, ◌∙◌, ap, refl, sym, true, inl, inr, get_or, length, ◌*◌, subst, arith}
+use Rattle.std.proofs.Common.{rules, ◌≡◌, ◌∙◌, ap, refl, sym, true, inl, inr, get_or, length, nat_lt, ◌*◌, subst, arith}
+use Rattle.std.specs.List.{list_all}
 use Rattle.limits.specs.declared.TheConstants.{SLOTS_PER_BLOCK}
 use Rattle.disk.specs.Crash.{Image}
 use Rattle.disk.specs.Device.{Device}
+use Rattle.layout.specs.declared.slot.Slot.{Slot}
 use Rattle.layout.specs.Decode.{bytes_of, content_of}
 use Rattle.layout.specs.Parts.{content_in}
 use Rattle.layout.specs.Places.{is_data}
@@ -20,10 +22,12 @@ places-init g c = record {
   reads = no_read (g.D.CrashDisk.device c.args.disk.now);
   failures = refl;
   model = λ keeps. keeps;
-  within = refl;
+  within = ap (list_all (λ (slot : Slot). nat_lt slot.number c.args.geometry.now.inodes)) c.new-slots.ensures.items;
   slots = λ keeps unspoiled long.
       let image : Image = laid_over c.args.overlay.now (image_of (g.D.CrashDisk.device c.args.disk.now)) in
-      no_slots c.args.geometry.now.inodes (content_in c.args.geometry.now image) long c.args.numbers.now;
+      let content : Image = content_in c.args.geometry.now image in
+      subst (HasSlots c.args.geometry.now.inodes (bytes_of content c.args.numbers.now) 0) (sym c.new-slots.ensures.items)
+      (no_slots c.args.geometry.now.inodes content long c.args.numbers.now);
 }
 
 pub read-requires : goal.read-requires

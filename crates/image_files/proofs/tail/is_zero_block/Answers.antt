@@ -5,7 +5,6 @@ use Rattle.layout.specs.Fields.{is_zeros}
 use Rattle.layout.specs.Parts.{content_in}
 use Rattle.layout.specs.Places.{is_data}
 use Rattle.wal_law.specs.Recovery.{image_of}
-use Rattle.wal_law.proofs.OnlyRead.{no_read}
 use Rattle.overlays.specs.LaidOver.{laid_over}
 use Rattle.image_files.proofs.Data.{data_content, is_there, within}
 use Rattle.image_files.proofs.TailBytes.{no_block, nothing_left}

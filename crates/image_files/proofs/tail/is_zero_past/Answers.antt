@@ -1,4 +1,4 @@
-use Rattle.std.proofs.Common.{rules, ◌≡◌, ◌+◌, ◌-◌, ◌*◌, ◌∙◌, ◌&&◌, ap, refl, sym, Bool, true, false, drop, get_or, take, arith}
+use Rattle.std.proofs.Common.{◌≡◌, ◌+◌, ◌-◌, ◌*◌, ◌∙◌, ◌&&◌, ap, refl, sym, Bool, true, false, drop, get_or, take, arith}
 use Rattle.std.proofs.lemmas.List.{take_all}
 use Rattle.limits.specs.declared.TheConstants.{BLOCK_BYTES}
 use Rattle.disk.specs.Crash.{Image}
@@ -11,7 +11,7 @@ use Rattle.wal_law.specs.Recovery.{image_of}
 use Rattle.wal_law.proofs.OnlyRead.{no_read, reads_then, unspoiled_then}
 use Rattle.overlays.specs.LaidOver.{laid_over}
 use Rattle.image_files.proofs.Data.{each_passes}
-use Rattle.image_files.proofs.TailBytes.{none_yet, one_more, not_both, some_there}
+use Rattle.image_files.proofs.TailBytes.{none_yet, one_more, some_there}
 use Rattle.image_files.proofs.Then.{content_then, long_then}
 use Rattle.image_files.proofs.tail.is_zero_past.Goals as goal
 
@@ -45,8 +45,8 @@ returns-then-not-branch-clause-zeros g c = λ keeps unspoiled long.
     let place = c.places.place in
     let number = get_or numbers place 0 in
     let here : is_zeros (drop (c.args.size - BLOCK_BYTES * place) (content_of content number)) ≡ false =
-    ap (λ k. is_zeros (drop k (content_of content number))) (sym c.saturating_sub.ensures)
-    ∙ ap (λ l. is_zeros (drop c.saturating_sub.result l)) (sym (content_then geometry logged first before inv.reads number))
+    ap (λ k. is_zeros (drop k (content_of content number))) (sym c.saturating_sub-from.ensures)
+    ∙ ap (λ l. is_zeros (drop c.saturating_sub-from.result l)) (sym (content_then geometry logged first before inv.reads number))
     ∙ sym (c.in_ok-is_zero_block.ensures.zeros keeps (unspoiled_then first before inv.reads unspoiled)
     (long_then geometry logged first before inv.reads long)) ∙ c.if-not-branch.true in
     sym (some_there content long c.args.size numbers (place + 1)
@@ -76,8 +76,8 @@ places-preserved g c =
       model = λ keeps. inv.model (c.is_zero_block.ensures.model keeps);
       zeros = λ keeps unspoiled long.
           let here : is_zeros (drop (c.args.size - BLOCK_BYTES * place) (content_of content number)) ≡ true =
-          ap (λ k. is_zeros (drop k (content_of content number))) (sym c.saturating_sub.ensures)
-          ∙ ap (λ l. is_zeros (drop c.saturating_sub.result l))
+          ap (λ k. is_zeros (drop k (content_of content number))) (sym c.saturating_sub-from.ensures)
+          ∙ ap (λ l. is_zeros (drop c.saturating_sub-from.result l))
           (sym (content_then geometry logged first before inv.reads number))
           ∙ sym (c.in_ok-is_zero_block.ensures.zeros keeps (unspoiled_then first before inv.reads unspoiled)
           (long_then geometry logged first before inv.reads long)) ∙ c.if-not-branch.false in

@@ -1,4 +1,4 @@
-use Rattle.std.proofs.Common.{◌≡◌, ℕ, List, true, take}
+use Rattle.std.proofs.Common.{◌≡◌, ℕ, true, take}
 use Rattle.std.specs.BTreeSet as set
 use Rattle.std.specs.Cmp.Lexicographic.{slice_cmp}
 use Rattle.std.specs.List.{IsDistinct, list_all, list_any}
