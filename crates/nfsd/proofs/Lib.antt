@@ -1,1 +1,3 @@
 pub mod Obeyed
+pub mod OfImage
+pub mod Printed

@@ -7,7 +7,7 @@ use Rattle.clap.specs.Words.{Text}
 use Rattle.disk.specs.declared.file.FirstContents.{FirstContents}
 use Rattle.disk.specs.Device.{Device}
 use Rattle.nfsd_words.specs.declared.Args.{Args}
-use Rattle.nfsd_words.specs.declared.Args.TheVariants.{Format, Once, Serve, Sim}
+use Rattle.nfsd_words.specs.declared.Args.TheVariants.{Check, Format, Once, Serve, Show, Sim}
 use Rattle.nfsd_words.specs.Words.{HasMeaning, WordsAsk}
 use Rattle.layout.specs.Geometry.{data_at}
 use Rattle.store_images.specs.Formatting.{HasFormatted}
@@ -25,6 +25,7 @@ use Rattle.nfsd.specs.Done.{ServesClients, ServesDevice, TellsOutcome, Told, dev
 use Rattle.nfsd.specs.Done.{moment_at, outcome_of_server}
 use Rattle.nfsd.specs.Faults.{status_of_outcome}
 use Rattle.nfsd.specs.Lines.{IsAnnouncedBy}
+use Rattle.nfsd.specs.Looked.{ChecksImage, ShowsImage}
 use Rattle.nfsd.specs.Scripts.{PlaysScript}
 
 -- the command that was asked for was done, so the arguments were obeyed
@@ -47,10 +48,19 @@ obeys_command first words (Serve image listen workers connections) client (Err f
     does = absurd does.2
 obeys_command first words (Serve image listen workers connections) client (Err (fault.Words e)) device later asks
     does = absurd does.2
+obeys_command first words (Check image) client (Err fault.NotText) device later asks does = absurd does.1.5
+obeys_command first words (Check image) client (Err fault.Memory) device later asks does = absurd does.1.5
+obeys_command first words (Check image) client (Err (fault.Words e)) device later asks does = absurd does.1.5
+obeys_command first words (Show image) client (Err fault.NotText) device later asks does = absurd does.1.5
+obeys_command first words (Show image) client (Err fault.Memory) device later asks does = absurd does.1.5
+obeys_command first words (Show image) client (Err (fault.Words e)) device later asks does = absurd does.1.5
 obeys_command first words (Sim script) client (Err fault.NotText) device later asks does = absurd does.3
 obeys_command first words (Sim script) client (Err fault.Memory) device later asks does = absurd does.3
 obeys_command first words (Sim script) client (Err (fault.Words e)) device later asks does = absurd does.3
 obeys_command first words args client outcome device later asks does = (args, asks, does)
+
+same_client : (client later : Client) → later.unread ≡ client.unread → later.written ≡ client.written → later ≡ client
+same_client client later unread written = λ i. record { unread = unread i; written = written i }
 
 -- a device was made an image, and the line of its counts was printed or wasn't
 pub prints : (old new : Device) (inodes time count : ℕ) (written written' : Option (List ℕ)) (outcome : Outcome)
@@ -142,6 +152,23 @@ listens_command first image listen workers connections size client (Err (fault.A
     serves = absurd serves
 listens_command first image listen workers connections size client outcome device later unread serves =
     (size, unread, serves)
+
+-- an image's file was looked at, so the command was done
+pub checks_command : (first : FirstContents) (image : _) (client : Client) (outcome : Outcome) (device : Option Device)
+    (later : Client) → later.unread ≡ client.unread
+    → ChecksImage first image.now client.written outcome device later.written
+    → DoesCommand first (Check image) client outcome device later
+checks_command first image client (Err (fault.File trouble)) device later unread checks =
+    (same_client client later unread checks.0, checks.1, inl checks.2)
+checks_command first image client outcome device later unread checks = (unread, checks)
+
+pub shows_command : (first : FirstContents) (image : _) (client : Client) (outcome : Outcome) (device : Option Device)
+    (later : Client) → later.unread ≡ client.unread
+    → ShowsImage first image.now client.written outcome device later.written
+    → DoesCommand first (Show image) client outcome device later
+shows_command first image client (Err (fault.File trouble)) device later unread shows =
+    (same_client client later unread shows.0, shows.1, inl shows.2)
+shows_command first image client outcome device later unread shows = (unread, shows)
 
 -- a script was played, so the command was done
 pub plays_command : (first : FirstContents) (script : _) (client : Client) (outcome : Outcome) (device : Option Device)

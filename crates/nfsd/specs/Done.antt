@@ -12,7 +12,7 @@ use Rattle.wal_law.specs.Log.{settled_place}
 use Rattle.txn_law.specs.Core.{CoreState}
 use Rattle.nfs_types.specs.declared.ctx.Moment.{Moment}
 use Rattle.nfsd_words.specs.declared.Args.{Args}
-use Rattle.nfsd_words.specs.declared.Args.TheVariants.{Format, Once, Serve, Sim}
+use Rattle.nfsd_words.specs.declared.Args.TheVariants.{Check, Format, Once, Serve, Show, Sim}
 use Rattle.nfsd_words.specs.Words.{HasMeaning, WordsAsk}
 use Rattle.layout.specs.Geometry.{data_at}
 use Rattle.store_images.specs.Formatting.{HasFormatted}
@@ -27,6 +27,7 @@ use Rattle.nfsd.specs.declared.image_disk.ImageDisk.{ImageDisk}
 use Rattle.nfsd.specs.declared.image_disk.ImageDisk.TheVariants.{Plain, Watched}
 use Rattle.nfsd.specs.Faults.{IsAbout, as_line, fault_line, status_of_outcome}
 use Rattle.nfsd.specs.Lines.{listening_line}
+use Rattle.nfsd.specs.Looked.{ChecksImage, ShowsImage}
 use Rattle.nfsd.specs.Scripts.{PlaysScript}
 
 -- what came of the program: it is done, or there is a fault
@@ -122,6 +123,8 @@ abbrev pub image_of : Args → Text
 image_of (Format image blocks inodes time) = image.now
 image_of (Once image time) = image.now
 image_of (Serve image listen workers connections) = image.now
+image_of (Check image) = image.now
+image_of (Show image) = image.now
 image_of (Sim script) = script.now
 
 -- The command that is asked for was done to the device of a file that held this, this came of it, and the device
@@ -140,6 +143,10 @@ DoesCommand first (Serve image listen workers connections) client (Err (fault.Ad
 DoesCommand first (Serve image listen workers connections) client outcome device later = (size : ℕ)
     × (later.unread ≡ client.unread)
     × ServesClients (device_of first size) client.written outcome device later.written
+DoesCommand first (Check image) client outcome device later = (later.unread ≡ client.unread)
+    × ChecksImage first image.now client.written outcome device later.written
+DoesCommand first (Show image) client outcome device later = (later.unread ≡ client.unread)
+    × ShowsImage first image.now client.written outcome device later.written
 DoesCommand first (Sim script) client outcome device later = (device ≡ None) × (later.unread ≡ client.unread)
     × PlaysScript script.now client.written outcome later.written
 

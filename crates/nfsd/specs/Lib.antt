@@ -1,4 +1,5 @@
 pub mod Done
 pub mod Faults
 pub mod Lines
+pub mod Looked
 pub mod Scripts

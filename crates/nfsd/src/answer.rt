@@ -11,6 +11,8 @@ use crate::fault::Fault;
 use crate::fault_stream::FaultStream;
 use crate::image_disk::ImageDisk;
 use crate::image_files::{make_image, open_image};
+use crate::looking::{check_image, show_image};
+use crate::read_files::SharedFile;
 use crate::scripts::play_script;
 use crate::streams::{Streams, fill};
 use crate::tcp::{listen_at, serve_clients};
@@ -63,7 +65,7 @@ where
         + Clock
         + Eprint
         + Sync,
-    R::File: BlockFile + Send + Sync,
+    R::File: BlockFile + SharedFile + Send + Sync,
     I: Read,
     O: Write,
     E: Write,
@@ -104,7 +106,7 @@ where
         + Clock
         + Eprint
         + Sync,
-    R::File: BlockFile + Send + Sync,
+    R::File: BlockFile + SharedFile + Send + Sync,
     I: Read,
     O: Write,
     ensures { Obeys first (map (λ word. word.now) line.now)
@@ -147,7 +149,7 @@ where
         + Clock
         + Eprint
         + Sync,
-    R::File: BlockFile + Send + Sync,
+    R::File: BlockFile + SharedFile + Send + Sync,
     I: Read,
     O: Write,
     ensures { DoesCommand first args.entry
@@ -206,5 +208,7 @@ where
             serve_clients(rt, alloc, disk, &listening, workers, connections, writer)
         }
         Args::Sim { script } => (None, play_script(rt, script, writer)),
+        Args::Check { image } => check_image(rt, image, first, writer),
+        Args::Show { image } => show_image(rt, image, first, writer),
     }
 }

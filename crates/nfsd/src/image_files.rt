@@ -98,9 +98,9 @@ where
     Ok((file, blocks.min(u64::from(u32::MAX)) as u32))
 }
 
-// How many blocks an image has that lies on a device of this size: all of it, where its first block can't be read or
-// tells nothing lawful.
-fn blocks_of_image<F: Read + Seek>(file: &mut F, size: u32) -> io::Result<u32> {
+/// How many blocks an image has that lies on a device of this size: all of it, where its first block can't be read or
+/// tells nothing lawful.
+pub fn blocks_of_image<F: Read + Seek>(file: &mut F, size: u32) -> io::Result<u32> {
     let mut block = [0u8; BLOCK_BYTES];
     file.seek(SeekFrom::Start(0))?;
     if file.read_exact(&mut block).is_err() {

@@ -1,4 +1,5 @@
-//! The program: makes images, and serves one client over the standard input and output, or many over TCP.
+//! The program: makes images, serves one client over the standard input and output, or many over TCP, and tells whether an
+//! image is good and which files it has.
 #![tactic(auto)]
 
 mod announcement;
@@ -10,6 +11,8 @@ mod fault_stream;
 mod image_disk;
 mod image_files;
 mod lines;
+mod looking;
+mod read_files;
 mod scripts;
 mod streams;
 mod tcp;
@@ -20,6 +23,7 @@ use crate::answer::{answer, conclude};
 use crate::arguments::arguments;
 use crate::fault::Fault;
 use crate::fault_stream::FaultStream;
+use crate::read_files::SharedFile;
 use crate::streams::Streams;
 use disk::{BlockFile, FirstContents};
 use session::Input;
@@ -52,7 +56,7 @@ where
         + Clock
         + Eprint
         + Sync,
-    R::File: BlockFile + Send + Sync,
+    R::File: BlockFile + SharedFile + Send + Sync,
     I: Read + Drop,
     O: Write + Drop,
     E: Write + Drop,

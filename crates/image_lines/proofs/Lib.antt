@@ -1,0 +1,5 @@
+mod AtHome
+mod Files
+mod OfGood
+mod OfTable
+mod Rising

@@ -1,0 +1,131 @@
+//! The lines of the files of a table.
+ghost use Rattle.std.specs.Prelude.{◌≡◌, ◌≤◌, ◌<◌, ℕ, None, get_or, length, IfOk, IsErrOf, OnOk};
+ghost use Rattle.limits.specs.declared.TheConstants.{MOST_INODES};
+ghost use Rattle.layout.specs.Fields.{count_of};
+ghost use Rattle.wal_law.specs.Recovery.{HasOnlyRead, IsUnspoiled};
+ghost use Rattle.image_parts.specs.Table.{CountsPart};
+ghost use Rattle.image_files.specs.Content.{content_on};
+ghost use Rattle.image_lines.specs.Lines.{IsCounted, IsCountedIfAny, blocks_in, lines_below, with_line};
+
+use crate::Line;
+use disk::CrashDisk;
+use image_files::read_numbers;
+use image_parts::PartFault;
+use layout::{Geometry, Inode, InodeKind};
+use limits::BLOCK_BYTES;
+use overlays::Overlay;
+use std::alloc::{AllocError, Global};
+
+/// The lines of the files of a table, by rising number. They are refused (Range) where the numbers of a regular file's
+/// blocks are.
+#[tactic(auto, using(wal_law::proofs::OnlyRead::reads_then, wal_law::proofs::OnlyRead::no_read))]
+pub fn read_lines<D: CrashDisk>(
+    alloc: Global,
+    disk: &mut D,
+    overlay: &Overlay,
+    geometry: &Geometry,
+    table: &[Option<Inode>],
+) -> Result<Vec<Line>, PartFault>
+    requires size { geometry.now.blocks ≤ (D.device disk.old).size }
+    requires few { length table.now ≤ MOST_INODES }
+    ensures reads { HasOnlyRead (D.device disk.old) (D.device disk.new) }
+    ensures failure { CountsPart (D.device disk.old) (D.device disk.new) result }
+    ensures model { D.keeps_model disk.new → D.keeps_model disk.old }
+    ensures lines { D.keeps_model disk.new → IsUnspoiled (D.device disk.old) → IfOk result (λ lines.
+        lines.items ≡ lines_below (content_on geometry.now overlay.now (D.device disk.old)) table.now
+        (length table.now)) }
+    ensures refused { D.keeps_model disk.new → IsUnspoiled (D.device disk.old)
+        → IsErrOf result PartFault.Range
+        → ((number : ℕ) → number < length table.now → IsCountedIfAny geometry.now
+        (content_on geometry.now overlay.now (D.device disk.old)) (get_or table.now number None)) → ⊥ }
+{
+    let mut lines = Vec::new(alloc);
+    'numbers: for number in 0..table.len() {
+        push_line(
+            alloc,
+            disk,
+            overlay,
+            geometry,
+            number as u32,
+            &table[number],
+            &mut lines,
+        )?;
+    }
+    Ok(lines)
+}
+
+// Adds the line of the file of a number, if there is one.
+#[tactic(auto, using(wal_law::proofs::OnlyRead::reads_then, wal_law::proofs::OnlyRead::no_read))]
+fn push_line<D: CrashDisk>(
+    alloc: Global,
+    disk: &mut D,
+    overlay: &Overlay,
+    geometry: &Geometry,
+    number: u32,
+    inode: &Option<Inode>,
+    lines: &mut Vec<Line>,
+) -> Result<(), PartFault>
+    requires { geometry.now.blocks ≤ (D.device disk.old).size }
+    ensures reads { HasOnlyRead (D.device disk.old) (D.device disk.new) }
+    ensures failure { CountsPart (D.device disk.old) (D.device disk.new) result }
+    ensures model { D.keeps_model disk.new → D.keeps_model disk.old }
+    ensures pushed { D.keeps_model disk.new → IsUnspoiled (D.device disk.old) → OnOk result (lines.new.items
+        ≡ with_line (content_on geometry.now overlay.now (D.device disk.old)) number inode.now lines.old.items) }
+    ensures refused { D.keeps_model disk.new → IsUnspoiled (D.device disk.old)
+        → IsErrOf result PartFault.Range
+        → IsCountedIfAny geometry.now (content_on geometry.now overlay.now (D.device disk.old)) inode.now → ⊥ }
+{
+    let Some(inode) = inode else {
+        return Ok(());
+    };
+    let blocks = count_blocks(alloc, disk, overlay, geometry, inode)?;
+    let line = Line {
+        number,
+        kind: inode.kind,
+        mode: inode.mode,
+        uid: inode.uid,
+        gid: inode.gid,
+        nlink: inode.nlink,
+        size: inode.size,
+        blocks,
+    };
+    lines.push(line).map_err(AllocError::from)?;
+    Ok(())
+}
+
+// How many blocks the bytes of a file lie in.
+#[tactic(auto, using(wal_law::proofs::OnlyRead::no_read))]
+fn count_blocks<D: CrashDisk>(
+    alloc: Global,
+    disk: &mut D,
+    overlay: &Overlay,
+    geometry: &Geometry,
+    inode: &Inode,
+) -> Result<u64, PartFault>
+    requires { geometry.now.blocks ≤ (D.device disk.old).size }
+    ensures reads { HasOnlyRead (D.device disk.old) (D.device disk.new) }
+    ensures failure { CountsPart (D.device disk.old) (D.device disk.new) result }
+    ensures model { D.keeps_model disk.new → D.keeps_model disk.old }
+    ensures blocks { D.keeps_model disk.new → IsUnspoiled (D.device disk.old) → IfOk result (λ blocks.
+        blocks ≡ blocks_in (content_on geometry.now overlay.now (D.device disk.old)) inode.now.kind inode.now) }
+    ensures refused { D.keeps_model disk.new → IsUnspoiled (D.device disk.old)
+        → IsErrOf result PartFault.Range
+        → IsCounted geometry.now (content_on geometry.now overlay.now (D.device disk.old)) inode.now.kind inode.now
+        → ⊥ }
+{
+    match inode.kind {
+        InodeKind::Regular => {
+            let numbers = read_numbers(alloc, disk, overlay, geometry, inode)?;
+            Ok(count(&numbers))
+        }
+        InodeKind::Directory => Ok(inode.size / BLOCK_BYTES as u64),
+        InodeKind::Link => Ok(1),
+    }
+}
+
+// How many of these are numbers of blocks.
+fn count(numbers: &[u32]) -> u64
+    ensures { result ≡ count_of numbers.now }
+{
+    numbers.iter().filter(|number| **number != 0).count() as u64
+}
