@@ -1,5 +1,5 @@
 -- The files that a table has, and their lines.
-use Rattle.std.proofs.Common.{◌≡◌, ℕ, zero, suc, ◌+◌, ◌<◌, ◌≤◌, sym, ap, ◌∙◌, refl, subst, List, [], ◌∷◌, ◌++◌, length, map}
+use Rattle.std.proofs.Common.{◌≡◌, ℕ, zero, suc, ◌<◌, ◌≤◌, sym, ap, ◌∙◌, refl, subst, List, [], ◌∷◌, ◌++◌, length, map}
 use Rattle.std.proofs.Common.{get_or, Option, Some, None, Result, Ok, Err, IsOk, arith}
 use Rattle.std.proofs.lemmas.List.{map-append}
 use Rattle.std.specs.FinMap.{entries}
@@ -127,33 +127,28 @@ module _ (g : Geometry) (image : Image) (tree : Tree) (stands : Stands g (homes 
         by_inode None there = tt
         by_inode (Some inode) there = is_counted number inode less there
 
+    by_inode : (number : ℕ) → number < g.inodes
+        → map line_of (entries (files_below file number)) ≡ lines_below (content_in g image) table number
+        → (one : Option Inode) → inode_at g image number ≡ Ok one
+        → map line_of (entries (with_file number (file_of g.inodes content (Ok one)) (files_below file number)))
+        ≡ with_line (content_in g image) number one (lines_below (content_in g image) table number)
+    by_inode number less before None there = before
+    by_inode number less before (Some inode) there =
+        let node : Node = node_with inode (body_of g.inodes content inode.kind inode) in
+        let line = line_is number inode less there in
+        ap (map line_of) (more_files file number node)
+        ∙ map-append line_of (entries (files_below file number)) ((number, node) ∷ [])
+        ∙ (λ i. before i ++ line i ∷ [])
+
     below : (bound : ℕ) → bound ≤ g.inodes
         → map line_of (entries (files_below file bound)) ≡ lines_below (content_in g image) table bound
     unfolding files_below lines_below
     below zero some = ap (map line_of) (no_files file)
     below (suc number) some =
-        ap (λ found. map line_of (entries (with_file number found (files_below file number)))) file_is
-        ∙ by_inode (get_or table number None) (is.each number less)
-      where
-        less : number < g.inodes
-        less = omega (arith, some)
-
-        file_is : file number ≡ file_of g.inodes content (Ok (get_or table number None))
-        file_is = ap (file_of g.inodes content) (in_table g image number less ∙ is.each number less)
-
-        before : map line_of (entries (files_below file number)) ≡ lines_below (content_in g image) table number
-        before = below number (omega (arith, some))
-
-        by_inode : (one : Option Inode) → inode_at g image number ≡ Ok one
-            → map line_of (entries (with_file number (file_of g.inodes content (Ok one)) (files_below file number)))
-            ≡ with_line (content_in g image) number one (lines_below (content_in g image) table number)
-        by_inode None there = before
-        by_inode (Some inode) there =
-            let node : Node = node_with inode (body_of g.inodes content inode.kind inode) in
-            let line = line_is number inode less there in
-            ap (map line_of) (more_files file number node)
-            ∙ map-append line_of (entries (files_below file number)) ((number, node) ∷ [])
-            ∙ (λ i. before i ++ line i ∷ [])
+        let less : number < g.inodes = omega (arith, some) in
+        ap (λ found. map line_of (entries (with_file number found (files_below file number))))
+        (ap (file_of g.inodes content) (in_table g image number less ∙ is.each number less))
+        ∙ by_inode number less (below number (omega (arith, some))) (get_or table number None) (is.each number less)
 
     -- the lines of the table are those of the tree
     pub lines_are : lines_below (content_in g image) table (length table) ≡ lines_of tree

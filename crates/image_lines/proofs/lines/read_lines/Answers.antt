@@ -1,4 +1,4 @@
-use Rattle.std.proofs.Common.{rules, ◌≡◌, ◌∙◌, refl, subst, sym, get_or, None}
+use Rattle.std.proofs.Common.{rules, ◌∙◌, refl, subst, sym, get_or, None}
 use Rattle.disk.specs.Crash.{Image}
 use Rattle.disk.specs.Device.{Device}
 use Rattle.layout.specs.Parts.{content_in}

@@ -1,5 +1,4 @@
-use Rattle.std.proofs.Common.{rules, ◌≡◌, ◌≤◌, ◌∙◌, ap, subst, sym, get_or, length, None, Err, arith}
-use Rattle.limits.specs.declared.TheConstants.{MOST_INODES}
+use Rattle.std.proofs.Common.{rules, ◌≡◌, ◌∙◌, ap, subst, sym, get_or, length, None, Err}
 use Rattle.disk.specs.Crash.{Image}
 use Rattle.disk.specs.Device.{Device}
 use Rattle.layout.specs.Parts.{content_in}

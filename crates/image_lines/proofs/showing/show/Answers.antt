@@ -1,6 +1,8 @@
 use Rattle.disk.specs.Device.{Device}
-use Rattle.std.proofs.Common.{◌∙◌}
+use Rattle.std.proofs.Common.{rules, ◌≡◌, ◌∙◌, subst, Err}
 use Rattle.wal_law.proofs.OnlyRead.{reads_then, unspoiled_then}
+use Rattle.image_parts.specs.declared.fault.PartFault.TheVariants.{Range}
+use Rattle.image_lines.specs.Shown.{AreLines}
 use Rattle.image_lines.proofs.OfGood.{same_log, stands_for}
 use Rattle.image_lines.proofs.showing.show.Goals as goal
 
@@ -27,7 +29,9 @@ returns-in-Err-Range-clause-shown g c = λ keeps unspoiled tree boot good.
     let two = reads_then before first second one c.in_ok-overlay.ensures.reads in
     let kept = c.all_lines.ensures.model keeps in
     let logged = c.in_ok-overlay.ensures.overlay kept (unspoiled_then before first one unspoiled) in
-    absurd (c.in-Err-Range.ensures.lines keeps (unspoiled_then before second two unspoiled) tree
+    let range : c.in-Err-Range.field-0 ≡ Range = search rules in
+    absurd (subst (λ f. AreLines tree (Err f)) range
+    (c.in-Err-Range.ensures.lines keeps (unspoiled_then before second two unspoiled) tree
     (logged ∙ same_log before tree boot good first second one two)
     (stands_for before tree boot good c.in_ok-found.found
-    (c.in_ok-found.ensures.found (c.in_ok-overlay.ensures.model kept) unspoiled) second two))
+    (c.in_ok-found.ensures.found (c.in_ok-overlay.ensures.model kept) unspoiled) second two)))
