@@ -1,12 +1,11 @@
 -- What refuses an image, and what is said of it then.
-use Rattle.std.proofs.Common.{◌≡◌, ℕ, ◌+◌, ◌^◌, ◌<◌, ◌≤◌, inl, inr, sym, ap, ◌∙◌, refl, subst, List, Result, Ok, Err, arith}
+use Rattle.std.proofs.Common.{◌≡◌, ℕ, inl, inr, sym, ◌∙◌, refl, subst, List, Result, Ok, Err, arith}
 use Rattle.std.specs.Prelude.{IsErrOf}
 use Rattle.limits.specs.declared.TheConstants.{SUPER_BLOCK}
 use Rattle.disk.specs.Crash.{Image}
 use Rattle.disk.specs.Device.{Content, Device}
 use Rattle.disk.specs.declared.block.BlockNo.{BlockNo}
 use Rattle.model.specs.Sound.{IsMadeBy}
-use Rattle.model.specs.Tree.{Tree}
 use Rattle.layout.specs.declared.geometry.Geometry.{Geometry}
 use Rattle.layout.specs.declared.super_block.Super.{Super}
 use Rattle.layout.specs.Homes.{homes_of}
@@ -22,7 +21,6 @@ use Rattle.wal_law.proofs.OnlyRead.{image_then}
 use Rattle.overlays.specs.LaidOver.{laid_over}
 use Rattle.store_promise.specs.declared.fault.OpenFault.{OpenFault}
 use Rattle.store_promise.specs.declared.fault.OpenFault.TheVariants as opening
-use Rattle.store_promise.specs.GoodImage.{IsGoodImage}
 use Rattle.store_promise.specs.Openings.{IsRefusedFor, IsShownBy}
 use Rattle.store_promise.proofs.Shown.{has_blocks, not_magic, not_range, not_version}
 use Rattle.store_images.specs.BringingHome.{CountsCause}

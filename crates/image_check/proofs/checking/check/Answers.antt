@@ -1,5 +1,5 @@
 -- What the parts of a check say, it says of the image.
-use Rattle.std.proofs.Common.{◌≡◌, ◌∙◌, sym, subst, Err, Result}
+use Rattle.std.proofs.Common.{◌≡◌, sym, subst}
 use Rattle.disk.specs.Crash.{Image}
 use Rattle.disk.specs.Device.{Device}
 use Rattle.limits.specs.declared.TheConstants.{SUPER_BLOCK}

@@ -1,9 +1,9 @@
 -- What is said of the files is said of the image.
-use Rattle.std.proofs.Common.{◌≡◌, ◌∙◌, ℕ, sym, subst, List, arith}
+use Rattle.std.proofs.Common.{◌≡◌, ℕ, sym, subst, List, arith}
 use Rattle.disk.specs.Crash.{Image}
 use Rattle.disk.specs.Device.{Content, Device}
 use Rattle.disk.specs.declared.block.BlockNo.{BlockNo}
-use Rattle.wal_law.specs.Overlay.{logged_in, over}
+use Rattle.wal_law.specs.Overlay.{over}
 use Rattle.wal_law.specs.Recovery.{image_of}
 use Rattle.wal_law.proofs.OnlyRead.{unspoiled_then}
 use Rattle.overlays.specs.LaidOver.{laid_over}

@@ -1,5 +1,5 @@
 -- What is said by the marks and the links is said of the image.
-use Rattle.std.proofs.Common.{◌≡◌, ◌∙◌, rules, ap, sym, subst, Bool, Err, arith}
+use Rattle.std.proofs.Common.{◌∙◌, rules, ap, sym, subst, Bool, Err, arith}
 use Rattle.disk.specs.Crash.{Image}
 use Rattle.disk.specs.Device.{Device}
 use Rattle.wal_law.specs.Recovery.{image_of}
