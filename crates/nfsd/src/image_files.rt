@@ -53,11 +53,15 @@ where
         d.file.calls.items)) }
     ensures fresh { IfOk result (λ d. d.file.calls.items ≡ []) }
 {
-    let (file, blocks) = open_locked(rt, path)?;
+    if !is_block_device(rt, path) {
+        return FileDisk::open(rt, path);
+    }
+    let (mut file, size) = open_device(rt, path)?;
+    let blocks = blocks_of_image(&mut file, size)?;
     Ok(FileDisk::over(file, blocks))
 }
 
-/// The same as a file, with how many blocks it has.
+/// The same, of which the file is handed on with how many blocks it has, for who watches it.
 pub fn open_locked<R: Files>(rt: &R, path: &str) -> io::Result<(R::File, u32)>
 where
     R::File: BlockFile,
