@@ -61,7 +61,7 @@ where
     Ok(FileDisk::over(file, blocks))
 }
 
-/// The same as a file, with how many blocks it has, for who watches it.
+/// The same, of which the file is handed on with how many blocks it has, for who watches it.
 pub fn open_locked<R: Files>(rt: &R, path: &str) -> io::Result<(R::File, u32)>
 where
     R::File: BlockFile,
