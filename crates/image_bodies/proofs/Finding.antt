@@ -1,5 +1,5 @@
 -- What is found in one file more.
-use Rattle.std.proofs.Common.{◌≡◌, ℕ, zero, suc, ◌+◌, ◌<◌, inl, inr, ◌⊎◌, sym, ap, ◌∙◌, refl, subst, Bool, true, false, ◌&&◌}
+use Rattle.std.proofs.Common.{◌≡◌, ℕ, suc, ◌+◌, inl, inr, ◌⊎◌, sym, ap, ◌∙◌, refl, subst, Bool, true, false}
 use Rattle.std.proofs.Common.{List, [], ◌∷◌, ◌++◌, filter, get_or, Option, Some, None, Ok, arith}
 use Rattle.std.specs.List.{flat_map, range_with_len}
 use Rattle.std.proofs.lemmas.Bool.{cases_lt}
@@ -13,10 +13,9 @@ use Rattle.layout.specs.Owners.{owned_by}
 use Rattle.tallies.specs.Tally.{AreCounts, IsOwned, Owned}
 use Rattle.image_links.specs.declared.links.Links.{Links}
 use Rattle.image_files.proofs.SlotBlocks.{range_more}
-use Rattle.image_law.specs.TreeOf.{named_of}
 use Rattle.file_counts.specs.Adds.{AreNamed, for_directories, is_some, named_children}
 use Rattle.image_bodies.specs.declared.found.Found.{Found}
-use Rattle.image_bodies.specs.Bodies.{HasBlocks, IsAdded, IsFirstUntidy, IsFound, IsLookedAt, IsNamed, IsTidy, IsTidyOf, all_owned}
+use Rattle.image_bodies.specs.Bodies.{HasBlocks, IsAdded, IsFound, IsLookedAt, IsTidy, all_owned}
 use Rattle.image_bodies.specs.Bodies.{first_untidy, names_at}
 
 flat_more : (f : ℕ → List ℕ) (n : ℕ)
@@ -77,10 +76,14 @@ module _ (g : Geometry) (content : Image) (table : List (Option Inode)) where
       still_tidy None false e = cc
       still_tidy (Some n) b e = cc
 
+      number_in : Option ℕ → ℕ
+      number_in (Some n) = n
+      number_in None = number
+
       then_untidy : (old : Option ℕ) (b : Bool) (first : ℕ) → first_untidy old number b ≡ Some first
           → (old ≡ Some first) ⊎ ((number ≡ first) × (old ≡ None) × (b ≡ false))
       then_untidy None true first e = cc
-      then_untidy None false first e = inr (cc, refl, refl)
+      then_untidy None false first e = inr (ap number_in e, refl, refl)
       then_untidy (Some n) b first e = inl e
 
   pub none_found : (found : Found) → IsOwned [] found.owners → AreNamed [] [] [] found.links → found.untidy ≡ None
@@ -124,9 +127,9 @@ module _ (g : Geometry) (content : Image) (table : List (Option Inode)) where
               let is = before.untidy number earlier in
               record { within = omega (arith, is.within); is = is.is; first = is.first }
           | inr here ↦ record {
-              within = omega (arith, here.0);
-              is = subst (λ n. IsTidy g content (get_or table n None) → ⊥) here.0 here.2;
-              first = λ lower less. before.tidy here.1 lower (omega (arith, less, here.0));
-            }
+            within = omega (arith, here.0);
+            is = subst (λ n. IsTidy g content (get_or table n None) → ⊥) here.0 here.2;
+            first = λ lower less. before.tidy here.1 lower (omega (arith, less, here.0));
+          }
         ];
       }

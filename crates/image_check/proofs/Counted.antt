@@ -1,6 +1,6 @@
 -- How many files an image has.
-use Rattle.std.proofs.Common.{◌≡◌, ℕ, zero, suc, ◌+◌, ◌<◌, ◌≤◌, sym, ap, ◌∙◌, refl, Bool, true, false, cond, List, [], ◌∷◌, ◌++◌}
-use Rattle.std.proofs.Common.{count_by, length, take, get_or, is_some, Option, Some, None, Result, Ok, Err, add-one, arith}
+use Rattle.std.proofs.Common.{◌≡◌, ℕ, zero, suc, ◌+◌, ◌<◌, ◌≤◌, sym, ap, ◌∙◌, refl, Bool, cond, List, [], ◌∷◌, ◌++◌}
+use Rattle.std.proofs.Common.{count_by, length, take, get_or, is_some, Option, Some, None, Ok, add-one, arith}
 use Rattle.std.specs.Cmp.{nat_cmp_total}
 use Rattle.std.specs.FinMap.{FinMap, get, get-empty, get-insert, len, len-empty, len-insert}
 use Rattle.std.specs.Ordering.{eq_by_cmp, nat_cmp}
@@ -16,7 +16,7 @@ use Rattle.layout.specs.Stands.{file_at}
 use Rattle.layout.proofs.FreshFiles.{not_equal}
 use Rattle.image_law.specs.TreeOf.{files_below, tree_of, with_file}
 
-one_if : Bool → ℕ
+abbrev one_if : Bool → ℕ
 one_if b = cond b 1 0
 
 module _ (file : ℕ → Option Node) where
@@ -35,7 +35,7 @@ module _ (file : ℕ → Option Node) where
       kept n q (omega (arith, more)) (file n) (files_below file n) (none_there n q (omega (arith, more)))
 
   one_more : (k : ℕ) (o : Option Node) (nodes : FinMap nat_cmp Node) → get nodes k ≡ None
-      → len (with_file k o nodes) ≡ len nodes + cond (is_some o) 1 0
+      → len (with_file k o nodes) ≡ len nodes + one_if (is_some o)
   one_more k None nodes none = omega arith
   one_more k (Some node) nodes none =
       len-insert nat_cmp_total nodes k node
@@ -49,12 +49,12 @@ module _ (file : ℕ → Option Node) where
     len_below (suc n) less =
         let before = len_below n (omega (arith, less)) in
         let here = one_more n (file n) (files_below file n) (none_there n n (omega arith)) in
-        let is = ap (λ b. cond b 1 0) (same n (omega (arith, less))) in
+        let is = ap one_if (same n (omega (arith, less))) in
         let more : take (suc n) table ≡ take n table ++ get_or table n None ∷ [] =
         ap (λ k. take k table) (sym (add-one n)) ∙ take_more table n None (omega (arith, less)) in
         let all = ap (count_by (λ (o : Option Inode). is_some o)) more in
-        let both = sum_by-append (λ (o : Option Inode). cond (is_some o) 1 0) (take n table) (get_or table n None ∷ []) in
-        let one = sum_by-cons (λ (o : Option Inode). cond (is_some o) 1 0) (get_or table n None) [] in
+        let both = sum_by-append (λ (o : Option Inode). one_if (is_some o)) (take n table) (get_or table n None ∷ []) in
+        let one = sum_by-cons (λ (o : Option Inode). one_if (is_some o)) (get_or table n None) [] in
         omega (arith, before, here, is, all, both, one)
 
 module _ (g : Geometry) (blocks : Image) (table : List (Option Inode)) (long : length table ≡ g.inodes)

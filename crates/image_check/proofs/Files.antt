@@ -1,7 +1,7 @@
 -- A file is one by what was seen of its blocks, and back.
-use Rattle.std.proofs.Common.{◌≡◌, ℕ, zero, suc, ◌+◌, ◌*◌, ◌/◌, ◌%◌, ◌<◌, ◌≤◌, sym, ap, ◌∙◌, refl, subst, Bool, true, false, cond, not}
-use Rattle.std.proofs.Common.{◌&&◌, ◌||◌, All, IsOk, List, [], ◌∷◌, length, drop, take, get_or, min, is_none, nat_eq, nat_le, nat_lt, Option, Some, None, Ok, arith}
-use Rattle.std.specs.List.{list_any, range_with_len}
+use Rattle.std.proofs.Common.{◌≡◌, ℕ, ◌*◌, ◌/◌, ◌%◌, ◌≤◌, sym, ap, ◌∙◌, refl, subst, Bool, true, false, cond, not}
+use Rattle.std.proofs.Common.{◌&&◌, ◌||◌, All, IsOk, length, drop, get_or, min, is_none, nat_eq, nat_le, nat_lt, Some, Ok, arith}
+use Rattle.std.specs.List.{list_any}
 use Rattle.std.proofs.lemmas.Bool.Decides.{nat_tests}
 use Rattle.std.proofs.lemmas.List.FromFn.{get_or-range_with_len, length-range_with_len}
 use Rattle.limits.specs.declared.TheConstants.{BLOCK_BYTES, DIRECT_INDEXES, FILE_INDEXES, LARGEST_DIRECTORY, SLOTS_PER_BLOCK, TARGET_BYTES}
@@ -19,10 +19,8 @@ use Rattle.layout.proofs.AllNumbers.{all-length, all_placed}
 use Rattle.layout.proofs.Respelled.{all_three, all_two}
 use Rattle.image_files.specs.Slots.{IsSpanned}
 use Rattle.image_law.specs.TreeOf.{HasNames}
-use Rattle.slot_names.specs.Names.{AreNames}
-use Rattle.directory_law.specs.SlotsOf.{slots_of_directory}
 use Rattle.directory_law.proofs.Directory.{are_names, has_names, once}
-use Rattle.image_bodies.specs.Bodies.{HasBlocks, HasBlocksOf, IsTidy, IsTidyOf}
+use Rattle.image_bodies.specs.Bodies.{HasBlocksOf, IsTidyOf}
 use Rattle.image_check.proofs.SlotBytes.{slots_are_bytes}
 
 at_most : (a b : ℕ) → nat_le a b ≡ true → a ≤ b

@@ -1,22 +1,21 @@
 -- What the passes over an image tell of the trees that it stands for.
-use Rattle.std.proofs.Common.{◌≡◌, ℕ, ◌+◌, ◌<◌, ◌≤◌, inl, inr, sym, ap, ◌∙◌, refl, subst, true, false, Bool, cond, List, count_by, length}
-use Rattle.std.proofs.Common.{take, drop, get_or, is_some, replicate, nat_lt, IfSome, IsOk, Option, Some, None, Result, Ok, Err, arith}
+use Rattle.std.proofs.Common.{◌≡◌, ℕ, ◌<◌, ◌≤◌, inl, inr, sym, ap, ◌∙◌, refl, subst, true, false, Bool, cond, List, count_by, length}
+use Rattle.std.proofs.Common.{take, drop, get_or, is_some, replicate, IfSome, IsOk, Option, Some, None, Result, Ok, Err, arith}
 use Rattle.std.specs.Prelude.{IfErr, IfOk}
-use Rattle.std.proofs.lemmas.Bool.{cases_lt, le-ltb}
-use Rattle.limits.specs.declared.TheConstants.{BLOCK_BYTES, INODES_PER_BLOCK, INODE_BYTES}
+use Rattle.std.proofs.lemmas.Bool.{cases_lt}
+use Rattle.limits.specs.declared.TheConstants.{BLOCK_BYTES, INODE_BYTES}
 use Rattle.disk.specs.Crash.{Image}
 use Rattle.nfs_types.specs.Fits.{AreBytes}
 use Rattle.model.specs.Node.{Node}
 use Rattle.model.specs.Sound.{IsMadeBy}
 use Rattle.model.specs.Tree.{Tree, node_at}
 use Rattle.layout.specs.declared.fault.LayoutFault.{LayoutFault}
-use Rattle.layout.specs.declared.fault.LayoutFault.TheVariants.{Range}
 use Rattle.layout.specs.declared.geometry.Geometry.{Geometry}
 use Rattle.layout.specs.declared.inode.Inode.{Inode}
 use Rattle.layout.specs.declared.inode.InodeKind.TheVariants.{Directory}
 use Rattle.layout.specs.Decode.{IsFile, body_of, file_of, inode_at, node_with}
 use Rattle.layout.specs.Homes.{homes_of}
-use Rattle.layout.specs.InodeForm.{SoundInode, read_inode}
+use Rattle.layout.specs.InodeForm.{SoundInode}
 use Rattle.layout.specs.Owners.{IsMarked, owned}
 use Rattle.layout.specs.Parts.{content_in, parts_of, table_of}
 use Rattle.layout.specs.Places.{inode_block, inode_offset, is_data}
@@ -27,8 +26,7 @@ use Rattle.layout.proofs.Holding.{holds_of}
 use Rattle.dir.proofs.Members.{none_some, same}
 use Rattle.tallies.specs.Tally.{IsOwned}
 use Rattle.image_parts.specs.Marks.{AreMarked}
-use Rattle.image_parts.specs.Table.{HasRefusedInode, IsTable}
-use Rattle.image_links.specs.Linked.{AreLinked}
+use Rattle.image_parts.specs.Table.{HasRefusedInode}
 use Rattle.image_law.specs.TreeOf.{HasNames, tree_of}
 use Rattle.image_law.specs.Whole.{IsWhole}
 use Rattle.image_law.proofs.Made.{files_are, none_past}
@@ -41,9 +39,8 @@ use Rattle.link_law.proofs.Facts.{below, same_option}
 use Rattle.link_law.proofs.Linked.{are_linked}
 use Rattle.link_law.proofs.Whole.{is_whole}
 use Rattle.image_bodies.specs.declared.found.Found.{Found}
-use Rattle.image_bodies.specs.Bodies.{AreAsRead, FitsFound, HasBlocks, HasBlocksOf, IsFound, IsTidy, IsTidyOf, IsSoundIfAny}
+use Rattle.image_bodies.specs.Bodies.{AreAsRead, FitsFound, HasBlocks, IsFound, IsTidy, IsSoundIfAny}
 use Rattle.found_law.proofs.Counting.{is_counted, is_owned}
-use Rattle.image_check.specs.Checked.{AreCounts}
 use Rattle.image_check.specs.Refused.{IsRefusal}
 use Rattle.image_check.specs.Searched.{AreBlocksOf, AreMadeBy, IsJudged, IsNoTree, IsRead, IsSearched, IsTreeBy, IsTreeWith}
 use Rattle.image_check.specs.declared.fault.CheckFault.{CheckFault}
@@ -69,15 +66,15 @@ module _ (g : Geometry) (boot : ℕ) (image : Image) where
       (λ is. refused.2 (subst IsOk (inode_same g image refused.0 refused.1) is))
     where
       by_result : (r : Result (Option Inode) LayoutFault) → IsFile g (content_in g home) r → (IsOk r → ⊥) → ⊥
-      by_result (Ok o) is not = not tt
+      by_result (Ok o) is not = not refl
       by_result (Err fault) is not = is
 
   module _ (table : List (Option Inode)) (read : IsRead g image table) where
     long : length table ≡ g.inodes
-    long = read.table.long
+    long = read.inodes.long
 
     are : (number : ℕ) → number < g.inodes → table_of g home number ≡ Ok (get_or table number None)
-    are number less = inode_same g image number less ∙ read.table.each number less
+    are number less = inode_same g image number less ∙ read.inodes.each number less
 
     blocks : AreBlocksOf g.blocks home
     blocks = blocks_are g image read.blocks
@@ -109,7 +106,7 @@ module _ (g : Geometry) (boot : ℕ) (image : Image) where
         (taken INODE_BYTES (drop (inode_offset number) (image (inode_block g number)))
         (dropped (inode_offset number) (image (inode_block g number)) block.1))
         (part-length INODE_BYTES (inode_offset number) (image (inode_block g number)) (omega (arith, long)))
-        inode (read.table.each number less ∙ ap Ok is)
+        inode (read.inodes.each number less ∙ ap Ok is)
 
     sound_if_any : (number : ℕ) → number < g.inodes → IsSoundIfAny g (get_or table number None)
     sound_if_any number less = by_entry (get_or table number None) (sound_at number less)
@@ -277,5 +274,5 @@ module _ (g : Geometry) (boot : ℕ) (image : Image) where
       pub judged : found.owners.shared ≡ false → AreMarked g image found.owners table
           → (result : Result Counts CheckFault) → IfOk result (IsJudged boot table found)
           → IfErr result (IsRefusal (IsTreeBy boot table found → ⊥)) → IsSearched g boot image result
-      judged once marks (Ok counts) yes no = is_tree once marks yes.tree counts yes.files yes.blocks
-      judged once marks (Err cause) yes no = as_searched g boot image cause (said_then cause no_tree no)
+      judged once marks (Ok counts) is not = is_tree once marks is.tree counts is.files is.blocks
+      judged once marks (Err cause) is not = as_searched g boot image cause (said_then cause no_tree not)

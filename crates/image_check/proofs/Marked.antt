@@ -1,6 +1,6 @@
 -- Whether the bitmaps mark what is in use, by the bits of the image and by the parts of its homes.
-use Rattle.std.proofs.Common.{◌≡◌, ℕ, ◌+◌, ◌*◌, ◌<◌, ◌≤◌, inl, inr, sym, ap, ◌∙◌, refl, Bool, true, false, ◌||◌, List, length, get_or}
-use Rattle.std.proofs.Common.{is_some, nat_eq, nat_le, nat_lt, Option, Some, None, Result, Ok, Err, arith}
+use Rattle.std.proofs.Common.{◌≡◌, ℕ, ◌+◌, ◌<◌, ◌≤◌, inl, inr, sym, ap, ◌∙◌, refl, Bool, true, false, ◌||◌, List, length, get_or}
+use Rattle.std.proofs.Common.{is_some, nat_eq, nat_le, Option, Some, None, Ok, arith}
 use Rattle.std.proofs.lemmas.Bool.{cases_lt, le-leb}
 use Rattle.limits.specs.declared.TheConstants.{FIRST_HOME_BLOCK}
 use Rattle.disk.specs.Crash.{Image}

@@ -1,5 +1,5 @@
 -- What the log lays over the blocks of a device are blocks.
-use Rattle.std.proofs.Common.{◌≡◌, ℕ, zero, suc, ◌+◌, ◌-◌, ◌<◌, ◌≤◌, refl, subst, Bool, true, false, List, [], ◌∷◌, ◌++◌, length}
+use Rattle.std.proofs.Common.{ℕ, zero, suc, ◌+◌, ◌-◌, ◌<◌, ◌≤◌, Bool, true, false, List, [], ◌∷◌, ◌++◌, length}
 use Rattle.std.proofs.Common.{if◌then◌else◌, nat_eq, Option, Some, None, arith}
 use Rattle.std.specs.List.{All, AllByRecursion}
 use Rattle.limits.specs.declared.TheConstants.{FIRST_HOME_BLOCK, LOG_HEADER_BLOCK}

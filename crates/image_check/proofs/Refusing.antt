@@ -1,12 +1,11 @@
 -- What refuses an image, and what is said of it then.
-use Rattle.std.proofs.Common.{◌≡◌, ℕ, ◌+◌, ◌^◌, ◌<◌, ◌≤◌, inl, inr, sym, ap, ◌∙◌, refl, subst, List, Result, Ok, Err, arith}
+use Rattle.std.proofs.Common.{◌≡◌, ℕ, inl, inr, sym, ◌∙◌, refl, subst, List, Result, Ok, Err, arith}
 use Rattle.std.specs.Prelude.{IsErrOf}
 use Rattle.limits.specs.declared.TheConstants.{SUPER_BLOCK}
 use Rattle.disk.specs.Crash.{Image}
 use Rattle.disk.specs.Device.{Content, Device}
 use Rattle.disk.specs.declared.block.BlockNo.{BlockNo}
 use Rattle.model.specs.Sound.{IsMadeBy}
-use Rattle.model.specs.Tree.{Tree}
 use Rattle.layout.specs.declared.geometry.Geometry.{Geometry}
 use Rattle.layout.specs.declared.super_block.Super.{Super}
 use Rattle.layout.specs.Homes.{homes_of}
@@ -22,7 +21,6 @@ use Rattle.wal_law.proofs.OnlyRead.{image_then}
 use Rattle.overlays.specs.LaidOver.{laid_over}
 use Rattle.store_promise.specs.declared.fault.OpenFault.{OpenFault}
 use Rattle.store_promise.specs.declared.fault.OpenFault.TheVariants as opening
-use Rattle.store_promise.specs.GoodImage.{IsGoodImage}
 use Rattle.store_promise.specs.Openings.{IsRefusedFor, IsShownBy}
 use Rattle.store_promise.proofs.Shown.{has_blocks, not_magic, not_range, not_version}
 use Rattle.store_images.specs.BringingHome.{CountsCause}
@@ -38,27 +36,27 @@ use Rattle.image_check.specs.Searched.{IsNoTree, IsSearched, IsTreeWith}
 
 -- ---- failures
 
-pub counts_open : {T : Type 0} (old new : Device) (cause : OpenFault) → CountsCause cause old new
+pub counts_open : (T : Type 0) (old new : Device) (cause : OpenFault) → CountsCause cause old new
     → CountsCheck {T = T} old new (Err (of_open cause))
-counts_open old new opening.Magic counts = counts
-counts_open old new opening.Version counts = counts
-counts_open old new opening.Range counts = counts
-counts_open old new opening.Log counts = counts
-counts_open old new opening.Device counts = counts
-counts_open old new opening.NoMemory counts = counts
+counts_open T old new opening.Magic counts = counts
+counts_open T old new opening.Version counts = counts
+counts_open T old new opening.Range counts = counts
+counts_open T old new opening.Log counts = counts
+counts_open T old new opening.Device counts = counts
+counts_open T old new opening.NoMemory counts = counts
 
-pub counts_log : {T U : Type 0} (old new : Device) (cause : LogFault) → CountsFault {T = U} old new (Err cause)
+pub counts_log : (T U : Type 0) (old new : Device) (cause : LogFault) → CountsFault {T = U} old new (Err cause)
     → CountsCheck {T = T} old new (Err (of_log cause))
-counts_log old new log.Range counts = counts
-counts_log old new log.Address counts = counts
-counts_log old new log.Device counts = omega (arith, counts)
-counts_log old new log.NoMemory counts = counts
+counts_log T U old new log.Range counts = counts
+counts_log T U old new log.Address counts = counts
+counts_log T U old new log.Device counts = omega (arith, counts)
+counts_log T U old new log.NoMemory counts = counts
 
-pub counts_part : {T U : Type 0} (old new : Device) (cause : PartFault) → CountsPart {T = U} old new (Err cause)
+pub counts_part : (T U : Type 0) (old new : Device) (cause : PartFault) → CountsPart {T = U} old new (Err cause)
     → CountsCheck {T = T} old new (Err (of_part cause))
-counts_part old new part.Range counts = counts
-counts_part old new part.Device counts = omega (arith, counts)
-counts_part old new part.NoMemory counts = counts
+counts_part T U old new part.Range counts = counts
+counts_part T U old new part.Device counts = omega (arith, counts)
+counts_part T U old new part.NoMemory counts = counts
 
 pub counts_then : {T : Type 0} (old middle new : Device) (result : Result T CheckFault)
     → middle.failures ≡ old.failures → CountsCheck middle new result → CountsCheck old new result
@@ -74,17 +72,17 @@ counts_then old middle new (Err fault.Bitmap) same counts = counts ∙ same
 counts_then old middle new (Err (fault.Tree why)) same counts = counts ∙ same
 
 -- a refusal of one kind is one of another
-pub counts_as : {T U : Type 0} (old new : Device) (cause : CheckFault) → CountsCheck {T = U} old new (Err cause)
+pub counts_as : (T U : Type 0) (old new : Device) (cause : CheckFault) → CountsCheck {T = U} old new (Err cause)
     → CountsCheck {T = T} old new (Err cause)
-counts_as old new fault.Magic counts = counts
-counts_as old new fault.Version counts = counts
-counts_as old new fault.Range counts = counts
-counts_as old new fault.Log counts = counts
-counts_as old new fault.Device counts = counts
-counts_as old new fault.NoMemory counts = counts
-counts_as old new fault.Shared counts = counts
-counts_as old new fault.Bitmap counts = counts
-counts_as old new (fault.Tree why) counts = counts
+counts_as T U old new fault.Magic counts = counts
+counts_as T U old new fault.Version counts = counts
+counts_as T U old new fault.Range counts = counts
+counts_as T U old new fault.Log counts = counts
+counts_as T U old new fault.Device counts = counts
+counts_as T U old new fault.NoMemory counts = counts
+counts_as T U old new fault.Shared counts = counts
+counts_as T U old new fault.Bitmap counts = counts
+counts_as T U old new (fault.Tree why) counts = counts
 
 -- where no call failed, none is counted
 pub counts_none : {T : Type 0} (old new : Device) (result : Result T CheckFault) → new.failures ≡ old.failures

@@ -1,7 +1,6 @@
 -- The names in a directory's slots are bytes.
-use Rattle.std.proofs.Common.{◌≡◌, ℕ, zero, suc, ◌+◌, ◌*◌, ◌<◌, ◌≤◌, inl, inr, sym, ap, ◌∙◌, refl, subst, Bool, true, false, cond}
-use Rattle.std.proofs.Common.{List, [], ◌∷◌, ◌++◌, length, take, drop, get_or, replicate, nat_eq, length-take, Option, Some, None, Result, Ok, Err, arith}
-use Rattle.std.specs.List.{flat_map}
+use Rattle.std.proofs.Common.{◌≡◌, ℕ, ◌+◌, ◌*◌, inl, inr, sym, subst, Bool, true, false, cond}
+use Rattle.std.proofs.Common.{List, [], ◌∷◌, take, drop, replicate, nat_eq, length-take, Option, Some, None, Result, Ok, Err, arith}
 use Rattle.std.proofs.lemmas.Bool.{cases_lt}
 use Rattle.std.proofs.lemmas.List.{get_or-drop, get_or-take, get_or_past}
 use Rattle.disk.specs.Crash.{Image}
@@ -11,8 +10,8 @@ use Rattle.layout.specs.declared.fault.LayoutFault.{LayoutFault}
 use Rattle.layout.specs.declared.fault.LayoutFault.TheVariants.{Range}
 use Rattle.layout.specs.declared.inode.Inode.{Inode}
 use Rattle.layout.specs.declared.slot.Slot.{Slot}
-use Rattle.layout.specs.declared.slot.TheConstants.{COUNT_AT, NAME_AT, NUMBER_AT, SLOT_BYTES}
-use Rattle.layout.specs.Decode.{bytes_of, content_of, numbers_of, slot_bytes, span_of}
+use Rattle.layout.specs.declared.slot.TheConstants.{SLOT_BYTES}
+use Rattle.layout.specs.Decode.{bytes_of, numbers_of, slot_bytes, span_of}
 use Rattle.layout.specs.Fields.{four_at, is_zeros}
 use Rattle.layout.specs.SlotForm.{is_sound_slot, read_slot, slot_of}
 use Rattle.layout.proofs.FreshBytes.{IsBytes, join, zero_block}
@@ -36,7 +35,7 @@ named : (bytes : List ℕ) (r : Result (Option Slot) LayoutFault) (slot : Slot) 
     → ((one : Slot) → r ≡ Ok (Some one) → one ≡ slot_of bytes) → AreBytes bytes → AreBytes slot.name
 named bytes r slot is from are =
     subst (λ (one : Slot). AreBytes one.name) (sym (from slot is))
-    (taken (four_at COUNT_AT bytes) (drop NAME_AT bytes) (dropped NAME_AT bytes are))
+    (taken (four_at 4 bytes) (drop 8 bytes) (dropped 8 bytes are))
 
 module _ (inodes : ℕ) (bytes : List ℕ) where
   from_used : (sound : Bool) (slot : Slot)
@@ -59,7 +58,7 @@ module _ (inodes : ℕ) (bytes : List ℕ) where
 
   slot_is : (slot : Slot) → read_slot inodes bytes ≡ Ok (Some slot) → slot ≡ slot_of bytes
   unfolding read_slot
-  slot_is slot e = by_number (nat_eq (four_at NUMBER_AT bytes) 0) slot e
+  slot_is slot e = by_number (nat_eq (four_at 0 bytes) 0) slot e
 
 module _ (content : Image) (are : (number : ℕ) → AreBytes (content number)) where
   one_is : (none : Bool) (number : ℕ) → IsBytes (cond none (replicate BLOCK_BYTES 0) (content number))

@@ -1,5 +1,4 @@
 -- What a refusal says.
-use Rattle.std.specs.Prelude.{◌≡◌, ℕ, ◌≤◌, Result, Ok, Err}
 use Rattle.wal_law.specs.declared.recovery.LogFault.{LogFault}
 use Rattle.wal_law.specs.declared.recovery.LogFault.TheVariants as log
 use Rattle.store_promise.specs.declared.fault.OpenFault.{OpenFault}

@@ -50,7 +50,7 @@ IsSearched g boot image (Err cause) = IsNoTree g boot image
 -- these are the blocks of an image, and its table
 pub record IsRead (g : Geometry) (image : Image) (table : List (Option Inode)) : Type 0 where
   pub blocks : AreBlocksOf g.blocks image
-  pub table : IsTable g image g.inodes table
+  pub inodes : IsTable g image g.inodes table
 
 -- the files of a table make a tree, by what was found in them
 pub record IsTreeBy (boot : ℕ) (table : List (Option Inode)) (found : Found) : Type 0 where

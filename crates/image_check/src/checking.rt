@@ -41,11 +41,7 @@ pub fn check<D: CrashDisk>(alloc: Global, disk: &mut D) -> Result<Counts, CheckF
 
 // The same, by the super block of the image.
 #[tactic(auto, using(wal_law::proofs::OnlyRead::reads_then))]
-fn check_log<D: CrashDisk>(
-    alloc: Global,
-    disk: &mut D,
-    found: &Super,
-) -> Result<Counts, CheckFault>
+fn check_log<D: CrashDisk>(alloc: Global, disk: &mut D, found: &Super) -> Result<Counts, CheckFault>
     requires { found.now.geometry.blocks ≡ (D.device disk.old).size }
     ensures reads { HasOnlyRead (D.device disk.old) (D.device disk.new) }
     ensures failure { CountsCheck (D.device disk.old) (D.device disk.new) result }
@@ -131,14 +127,7 @@ fn search_marks<D: CrashDisk>(
     if files.owners.is_shared() {
         return Err(CheckFault::Shared);
     }
-    match are_marked(
-        alloc,
-        disk,
-        overlay,
-        &found.geometry,
-        &files.owners,
-        table,
-    ) {
+    match are_marked(alloc, disk, overlay, &found.geometry, &files.owners, table) {
         Ok(true) => judge(alloc, found.boot, table, files),
         Ok(false) => Err(CheckFault::Bitmap),
         Err(cause) => Err(of_part(cause)),

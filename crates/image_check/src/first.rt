@@ -39,10 +39,7 @@ pub(crate) fn read_first<D: CrashDisk>(alloc: Global, disk: &mut D) -> Result<Su
 }
 
 // The blocks in the log of an image.
-pub(crate) fn read_overlay<D: CrashDisk>(
-    alloc: Global,
-    disk: &mut D,
-) -> Result<Overlay, CheckFault>
+pub(crate) fn read_overlay<D: CrashDisk>(alloc: Global, disk: &mut D) -> Result<Overlay, CheckFault>
     requires { FIRST_HOME_BLOCK ≤ (D.device disk.old).size }
     ensures reads { HasOnlyRead (D.device disk.old) (D.device disk.new) }
     ensures failure { CountsCheck (D.device disk.old) (D.device disk.new) result }

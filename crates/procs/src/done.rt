@@ -54,7 +54,7 @@ impl Done {
 
     /// The reply, by itself.
     pub fn into_reply(self) -> Reply
-        ensures { result ≡ self.entry.reply }
+        ensures { result ≡ self.reply }
     {
         self.draft.reply
     }

@@ -1,5 +1,5 @@
 -- A worker that is alone in its store is never kept off.
-use Rattle.std.proofs.Common.{◌≡◌, ◌∙◌, refl, sym, ap, subst, true≢false, ℕ, ◌⊎◌, inl, inr, Bool, true, false}
+use Rattle.std.proofs.Common.{◌≡◌, ◌∙◌, refl, sym, ap, subst, true≢false, ℕ, inl, inr, Bool, true, false}
 use Rattle.std.proofs.Common.{◌||◌, nat_eq, Option, Some, None, is_some, List, [], ◌∷◌, All}
 use Rattle.std.specs.Prelude.{Contains, IsSomeAnd, option_to_list}
 use Rattle.std.proofs.lemmas.Bool.{eqb-true}

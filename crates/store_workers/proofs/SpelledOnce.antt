@@ -1,5 +1,6 @@
 -- That the call of a worker can be spelled is told in one way alone.
-use Rattle.std.proofs.Common.{Option, Some, None, IfSome}
+use Rattle.std.proofs.Common.{◌≡◌, Option, Some, None, IfSome, subst}
+use Rattle.std.proofs.Math.Logic.{∥∥₁_elim}
 use Rattle.std.proofs.Props.{props}
 use Rattle.nfs_types.specs.Fits.{CallFits, CreateHowFits, NewAttributesFit, SetTimeFits, SpecialFileFits}
 use Rattle.nfs_types.specs.declared.attributes.NewAttributes.{NewAttributes}
@@ -63,3 +64,8 @@ call_fits (call.Commit file offset count) = hlevel props
 pub job_once : (job : Option Job) → IsProp (IfSome job IsJobOf)
 job_once None = hlevel props
 job_once (Some job) = hlevel (props, call_fits)
+
+-- a call that is there can be spelled
+pub job_sound : (found : Option Job) (job : Job) → found ≡ Some job → ∥ IfSome found IsJobOf ∥₁ → IsJobOf job
+job_sound found job is asked = ∥∥₁_elim asked (job_once (Some job))
+    (λ sound. subst (λ (j : Option Job). IfSome j IsJobOf) is sound)

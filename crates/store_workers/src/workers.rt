@@ -12,7 +12,6 @@ mod telling;
 ghost use Rattle.std.specs.Prelude.{◌≡◌, true, is_some};
 ghost use Rattle.store_workers.specs.Phases.{has_fetch, has_transaction, is_ready};
 ghost use Rattle.store_workers.specs.Stages.{HasSoundJob};
-ghost use Rattle.store_workers.proofs.SpelledOnce.{job_once};
 
 use asked::Asked;
 use disk::{BlockNo, CrashDisk};
@@ -35,7 +34,7 @@ pub struct Worker {
     pub ghost transaction: { is_some state.begun.tx ≡ has_transaction state.phase },
     pub ghost fetch: { is_some state.begun.io ≡ has_fetch state.phase },
     pub ghost ready: { is_ready state.phase state.work ≡ true },
-    pub ghost asked: { HasSoundJob state } by { job_once state.work.job },
+    pub ghost asked: { ∥ HasSoundJob state ∥₁ },
 }
 
 impl Worker {

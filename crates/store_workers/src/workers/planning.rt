@@ -33,7 +33,7 @@ impl State {
     // Takes again the first of what is left, or goes by the plan.
     pub(super) fn go_within(&mut self, alloc: Global, core: &mut Core<Done>) -> Step
         requires sound { IsSound self.old }
-        requires asked { HasSoundJob self.old }
+        requires asked { ∥ HasSoundJob self.old ∥₁ }
         requires phase { self.old.phase ≡ Planning }
         ensures sound { IsSound self.new }
         ensures frame { SameFrame core.old core.new }
@@ -69,7 +69,7 @@ impl State {
     // Makes the step that the plan asks for. Where the plan finds no memory the transaction is ended.
     fn go_by_plan(&mut self, alloc: Global, core: &mut Core<Done>) -> Step
         requires sound { IsSound self.old }
-        requires asked { HasSoundJob self.old }
+        requires asked { ∥ HasSoundJob self.old ∥₁ }
         requires phase { self.old.phase ≡ Planning }
         requires none { self.old.known.left ≡ [] }
         ensures sound { IsSound self.new }
@@ -91,7 +91,7 @@ impl State {
     // What the call needs next, or what comes of it, with room for what is read next.
     fn next(&mut self, alloc: Global) -> Plan
         requires planned { is_planned self.old.work ≡ true }
-        requires asked { HasSoundJob self.old }
+        requires asked { ∥ HasSoundJob self.old ∥₁ }
         ensures next { IsNext self.old result }
         ensures rest { self.new ≡ with_snap self.new self.old }
         ensures seen { seen_in self.new.work.snap ≡ seen_in self.old.work.snap }

@@ -29,7 +29,7 @@ impl State {
     // Makes the next step.
     pub(super) fn step(&mut self, alloc: Global, core: &mut Core<Done>) -> Option<Step>
         requires sound { IsSound self.old }
-        requires asked { HasSoundJob self.old }
+        requires asked { ∥ HasSoundJob self.old ∥₁ }
         ensures sound { IsSound self.new }
         ensures frame { SameFrame core.old core.new }
         ensures step { GoesOn self.old.phase (side self.old core.old) result (side self.new core.new) }

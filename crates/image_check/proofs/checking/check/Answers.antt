@@ -1,5 +1,5 @@
 -- What the parts of a check say, it says of the image.
-use Rattle.std.proofs.Common.{◌≡◌, ◌∙◌, sym, subst, Err, Result}
+use Rattle.std.proofs.Common.{◌≡◌, sym, subst}
 use Rattle.disk.specs.Crash.{Image}
 use Rattle.disk.specs.Device.{Device}
 use Rattle.limits.specs.declared.TheConstants.{SUPER_BLOCK}
@@ -14,7 +14,7 @@ use Rattle.image_check.proofs.checking.check.Goals as goal
 
 pub returns-in-Err-clause-failure : goal.returns-in-Err-clause-failure
 returns-in-Err-clause-failure g c =
-    counts_as {T = Counts} {U = Super} (g.D.CrashDisk.device c.args.disk.now) (g.D.CrashDisk.device c.read_first.new.disk)
+    counts_as Counts Super (g.D.CrashDisk.device c.args.disk.now) (g.D.CrashDisk.device c.read_first.new.disk)
     c.in-Err.cause c.in-Err.ensures.failure
 
 pub returns-in-Err-clause-checked : goal.returns-in-Err-clause-checked

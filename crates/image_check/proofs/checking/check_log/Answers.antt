@@ -1,9 +1,9 @@
 -- What is said of the files is said of the image.
-use Rattle.std.proofs.Common.{◌≡◌, ◌∙◌, ℕ, sym, subst, List, arith}
+use Rattle.std.proofs.Common.{◌≡◌, ℕ, sym, subst, List, arith}
 use Rattle.disk.specs.Crash.{Image}
 use Rattle.disk.specs.Device.{Content, Device}
 use Rattle.disk.specs.declared.block.BlockNo.{BlockNo}
-use Rattle.wal_law.specs.Overlay.{logged_in, over}
+use Rattle.wal_law.specs.Overlay.{over}
 use Rattle.wal_law.specs.Recovery.{image_of}
 use Rattle.wal_law.proofs.OnlyRead.{unspoiled_then}
 use Rattle.overlays.specs.LaidOver.{laid_over}
@@ -22,7 +22,7 @@ search-requires g c = let size = c.in-Ok.ensures.reads.size in omega (arith, siz
 
 pub returns-in-Err-clause-failure : goal.returns-in-Err-clause-failure
 returns-in-Err-clause-failure g c =
-    counts_as {T = Counts} {U = List (BlockNo × Content)} (g.D.CrashDisk.device c.args.disk.now)
+    counts_as Counts (List (BlockNo × Content)) (g.D.CrashDisk.device c.args.disk.now)
     (g.D.CrashDisk.device c.read_overlay.new.disk) c.in-Err.cause c.in-Err.ensures.failure
 
 pub returns-in-Err-clause-checked : goal.returns-in-Err-clause-checked

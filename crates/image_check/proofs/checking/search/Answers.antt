@@ -1,5 +1,5 @@
 -- What is said by the table is said of the image.
-use Rattle.std.proofs.Common.{◌≡◌, ◌∙◌, sym, subst, Err, List, Option, arith}
+use Rattle.std.proofs.Common.{◌≡◌, ap, sym, subst, Err, List, Option}
 use Rattle.std.specs.Prelude.{Vec}
 use Rattle.std.specs.declared.alloc.Global.{Global}
 use Rattle.disk.specs.Crash.{Image}
@@ -20,7 +20,7 @@ returns-in-Err-clause-failure g c =
     let old : Device = g.D.CrashDisk.device c.args.disk.now in
     let new : Device = g.D.CrashDisk.device c.read_table.new.disk in
     subst (λ cause. CountsCheck {T = Counts} old new (Err cause)) (sym c.of_part.ensures)
-    (counts_part {T = Counts} {U = Vec (Option Inode) Global} old new c.in-Err.cause c.in-Err.ensures.failure)
+    (counts_part Counts (Vec (Option Inode) Global) old new c.in-Err.cause c.in-Err.ensures.failure)
 
 pub returns-in-Err-clause-searched : goal.returns-in-Err-clause-searched
 returns-in-Err-clause-searched g c = λ keeps clean blocks.
@@ -29,7 +29,7 @@ returns-in-Err-clause-searched g c = λ keeps clean blocks.
     let image : Image = laid_over c.args.overlay.now (image_of old) in
     subst (λ cause. IsSearched found.geometry found.boot image (Err cause)) (sym c.of_part.ensures)
     (of_range found.geometry found.boot image c.in-Err.cause (λ is. no_table found.geometry found.boot image
-    (c.in-Err.ensures.refused keeps clean is)))
+    (c.in-Err.ensures.refused keeps clean (ap Err is))))
 
 pub returns-in-Ok-clause-failure : goal.returns-in-Ok-clause-failure
 returns-in-Ok-clause-failure g c =
@@ -47,7 +47,7 @@ returns-in-Ok-clause-searched g c = λ keeps clean blocks.
     let same : image_of middle ≡ image_of old = image_is old middle reads in
     let read : IsRead found.geometry (laid_over logged (image_of old)) c.in-Ok.table.items = record {
       blocks = blocks;
-      table = c.in-Ok.ensures.table (c.search_files.ensures.model keeps) clean;
+      inodes = c.in-Ok.ensures.table (c.search_files.ensures.model keeps) clean;
     } in
     let there : IsRead found.geometry (laid_over logged (image_of middle)) c.deref.result.now =
     subst (λ (image : Image). IsRead found.geometry (laid_over logged image) c.deref.result.now) (sym same)

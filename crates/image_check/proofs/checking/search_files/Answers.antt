@@ -1,5 +1,5 @@
 -- What is said by the files is said of the image.
-use Rattle.std.proofs.Common.{◌≡◌, ◌∙◌, sym, subst, Err, arith}
+use Rattle.std.proofs.Common.{◌≡◌, ap, sym, subst, Err}
 use Rattle.disk.specs.Crash.{Image}
 use Rattle.disk.specs.Device.{Device}
 use Rattle.layout.specs.Parts.{content_in}
@@ -20,7 +20,7 @@ returns-in-Err-clause-failure g c =
     let old : Device = g.D.CrashDisk.device c.args.disk.now in
     let new : Device = g.D.CrashDisk.device c.look_at_files.new.disk in
     subst (λ cause. CountsCheck {T = Counts} old new (Err cause)) (sym c.of_part.ensures)
-    (counts_part {T = Counts} {U = Found} old new c.in-Err.cause c.in-Err.ensures.failure)
+    (counts_part Counts Found old new c.in-Err.cause c.in-Err.ensures.failure)
 
 pub returns-in-Err-clause-searched : goal.returns-in-Err-clause-searched
 returns-in-Err-clause-searched g c = λ keeps clean read.
@@ -31,7 +31,7 @@ returns-in-Err-clause-searched g c = λ keeps clean read.
     subst (λ cause. IsSearched found.geometry found.boot image (Err cause)) (sym c.of_part.ensures)
     (of_range found.geometry found.boot image c.in-Err.cause (λ is.
     no_blocks found.geometry found.boot image table read
-    (c.in-Err.ensures.refused keeps clean (as_read found.geometry found.boot image table read) is)))
+    (c.in-Err.ensures.refused keeps clean (as_read found.geometry found.boot image table read) (ap Err is))))
 
 pub returns-in-Ok-clause-failure : goal.returns-in-Ok-clause-failure
 returns-in-Ok-clause-failure g c =

@@ -1,5 +1,5 @@
 -- What is said by the marks and the links is said of the image.
-use Rattle.std.proofs.Common.{◌≡◌, ◌∙◌, refl, sym, subst, Bool, Err, arith}
+use Rattle.std.proofs.Common.{◌∙◌, rules, ap, sym, subst, Bool, Err, arith}
 use Rattle.disk.specs.Crash.{Image}
 use Rattle.disk.specs.Device.{Device}
 use Rattle.wal_law.specs.Recovery.{image_of}
@@ -43,7 +43,7 @@ returns-in-Ok-true-clause-searched g c = λ keeps clean read seen.
     let found = c.args.found.now in
     let image : Image = laid_over c.args.overlay.now (image_of old) in
     judged found.geometry found.boot image c.args.table.now read c.args.files.now c.requires.fits seen
-    (sym c.is_shared.ensures ∙ c.if-is_shared.false) (c.in-Ok-true.ensures.yes keeps clean refl) c.judge.result
+    (sym c.is_shared.ensures ∙ c.if-is_shared.false) (c.in-Ok-true.ensures.yes keeps clean (search rules)) c.judge.result
     c.judge.ensures.yes c.judge.ensures.no
 
 pub returns-in-Ok-false-clause-searched : goal.returns-in-Ok-false-clause-searched
@@ -52,14 +52,14 @@ returns-in-Ok-false-clause-searched g c = λ keeps clean read seen.
     let found = c.args.found.now in
     let image : Image = laid_over c.args.overlay.now (image_of old) in
     no_marks found.geometry found.boot image c.args.table.now read c.args.files.now c.requires.fits seen
-    (c.in-Ok-false.ensures.no keeps clean refl)
+    (c.in-Ok-false.ensures.no keeps clean (search rules))
 
 pub returns-in-Err-clause-failure : goal.returns-in-Err-clause-failure
 returns-in-Err-clause-failure g c =
     let old : Device = g.D.CrashDisk.device c.args.disk.now in
     let new : Device = g.D.CrashDisk.device c.are_marked.new.disk in
     subst (λ cause. CountsCheck {T = Counts} old new (Err cause)) (sym c.of_part.ensures)
-    (counts_part {T = Counts} {U = Bool} old new c.in-Err.cause c.in-Err.ensures.failure)
+    (counts_part Counts Bool old new c.in-Err.cause c.in-Err.ensures.failure)
 
 pub returns-in-Err-clause-searched : goal.returns-in-Err-clause-searched
 returns-in-Err-clause-searched g c = λ keeps clean read seen.
@@ -67,4 +67,4 @@ returns-in-Err-clause-searched g c = λ keeps clean read seen.
     let found = c.args.found.now in
     let image : Image = laid_over c.args.overlay.now (image_of old) in
     subst (λ cause. IsSearched found.geometry found.boot image (Err cause)) (sym c.of_part.ensures)
-    (of_range found.geometry found.boot image c.in-Err.cause (λ is. absurd (c.in-Err.ensures.other is)))
+    (of_range found.geometry found.boot image c.in-Err.cause (λ is. absurd (c.in-Err.ensures.other (ap Err is))))

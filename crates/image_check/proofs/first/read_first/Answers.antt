@@ -8,15 +8,15 @@ use Rattle.image_check.specs.Refused.{IsRefusal}
 use Rattle.image_check.proofs.Refusing.{counts_open, refused_first}
 use Rattle.image_check.proofs.first.read_first.Goals as goal
 
-pub returns-in-Err-clause-failure : goal.returns-in-Err-clause-failure
-returns-in-Err-clause-failure g c =
+pub returns-clause-failure : goal.returns-clause-failure
+returns-clause-failure g c =
     let old : Device = g.D.CrashDisk.device c.args.disk.now in
     let new : Device = g.D.CrashDisk.device c.read_super.new.disk in
     subst (λ cause. CountsCheck {T = Super} old new (Err cause)) (sym c.of_open.ensures)
-    (counts_open {T = Super} old new c.in-Err.cause c.in-Err.ensures.failure)
+    (counts_open Super old new c.in-Err.cause c.in-Err.ensures.failure)
 
-pub returns-in-Err-clause-refused : goal.returns-in-Err-clause-refused
-returns-in-Err-clause-refused g c = λ keeps clean.
+pub returns-clause-refused : goal.returns-clause-refused
+returns-clause-refused g c = λ keeps clean.
     let old : Device = g.D.CrashDisk.device c.args.disk.now in
     let new : Device = g.D.CrashDisk.device c.read_super.new.disk in
     subst (IsRefusal (IsNotGood old.size (image_of old))) (sym c.of_open.ensures)

@@ -15,7 +15,7 @@ returns-in-Err-clause-failure g c =
     let old : Device = g.D.CrashDisk.device c.args.disk.now in
     let new : Device = g.D.CrashDisk.device c.read_log.new.disk in
     subst (λ cause. CountsCheck {T = List (BlockNo × Content)} old new (Err cause)) (sym c.of_log.ensures)
-    (counts_log {T = List (BlockNo × Content)} {U = Vec (BlockNo × Content) Global} old new c.in-Err.cause
+    (counts_log (List (BlockNo × Content)) (Vec (BlockNo × Content) Global) old new c.in-Err.cause
     c.in-Err.ensures.failure)
 
 pub returns-in-Err-clause-refused : goal.returns-in-Err-clause-refused

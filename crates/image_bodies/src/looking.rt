@@ -156,13 +156,7 @@ fn first_untidy(first: Option<u32>, number: u32, tidy: bool) -> Option<u32>
 {
     match first {
         Some(first) => Some(first),
-        None => {
-            if tidy {
-                None
-            } else {
-                Some(number)
-            }
-        }
+        None => { if tidy { None } else { Some(number) } }
     }
 }
 
