@@ -91,8 +91,7 @@ fn print_counts<O: Write>(writer: &mut O, counts: Counts) -> Result<(), Fault>
     writeln!(
         writer,
         "clean {} files {} blocks",
-        counts.files,
-        counts.blocks
+        counts.files, counts.blocks
     )
     .or(Err(Fault::Print))
 }
