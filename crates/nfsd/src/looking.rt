@@ -79,8 +79,10 @@ pub fn check_device<D: CrashDisk, O: Write>(
     ensures { ChecksDevice (D.keeps_model disk.new) (D.device disk.old) (O.contents writer.old) result
         (D.device disk.new) (O.contents writer.new) }
 {
-    let counts = store::check(alloc, disk).map_err(Fault::Check)?;
-    print_counts(writer, counts)
+    match store::check(alloc, disk) {
+        Ok(counts) => print_counts(writer, counts),
+        Err(why) => Err(Fault::Check(why)),
+    }
 }
 
 // Prints the counts of a good image.
@@ -92,8 +94,7 @@ fn print_counts<O: Write>(writer: &mut O, counts: Counts) -> Result<(), Fault>
     writeln!(
         writer,
         "clean {} files {} blocks",
-        counts.files,
-        counts.blocks
+        counts.files, counts.blocks
     )
     .or(Err(Fault::Print))
 }
@@ -107,8 +108,10 @@ pub fn show_device<D: CrashDisk, O: Write>(
     ensures { ShowsDevice (D.keeps_model disk.new) (D.device disk.old) (O.contents writer.old) result
         (D.device disk.new) (O.contents writer.new) }
 {
-    let lines = store::show(alloc, disk).map_err(Fault::Open)?;
-    print_lines(writer, &lines)
+    match store::show(alloc, disk) {
+        Ok(lines) => print_lines(writer, &lines),
+        Err(why) => Err(Fault::Open(why)),
+    }
 }
 
 // Prints these lines.
