@@ -391,6 +391,36 @@ def test_a_directory_grows_by_links_and_never_shrinks(place):
     same("what it lists", ([it.name for it in found[-1][1].entries], found[-1][1].eof), ([b".", b".."], True))
 
 
+# The scripts to read and run.
+
+EXAMPLES = {
+    "crash": [[], [OLD_ROOT], wire.setattr_reply(5, 0o700, MADE, MADE, NOW), [NEW_ROOT]],
+    "two_workers": [[], None, ["1 dir 700 0 0 3 4096 1", "2 dir 711 0 0 2 0 0"]],
+    "failed_call": [[], wire.setattr_failed(4), wire.getattr_failed(5), [OLD_ROOT]],
+}
+
+
+def test_the_examples(place):
+    for name, wanted in EXAMPLES.items():
+        ran = place.run(["sim", os.path.join(place.top, f"examples/{name}.script")])
+        expect(name, ran, 0, ran.output, b"")
+        found, boot = ran.output.decode().splitlines(), 0
+        for part in wanted:
+            if isinstance(part, list):
+                boot += 1
+                same(name, found.pop(0), f"open boot {boot}")
+                # (files are told by lines that begin with a number)
+                told = [it for it in found[: len(part)] if it[:1].isdigit()]
+                same(f"{name}, opening {boot}", told or part, part)
+                del found[: len(told)]
+            elif part is None:
+                # The reply to the MKDIR.
+                same(f"{name}: who is answered", found.pop(0)[:8], "reply 0 ")
+            else:
+                same(name, found.pop(0), f"reply 0 {message(part)}")
+        same(f"{name}: what is left", found, [])
+
+
 # What is refused.
 
 

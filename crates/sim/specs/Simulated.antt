@@ -45,7 +45,7 @@ number_behind calls call = min (calls + call) (2 ^ 64 - 1)
 pub record IsFailing (fails : List ℕ) (disk failing : MemDisk) : Type 0 where
   pub blocks : blocks_of failing ≡ blocks_of disk
   pub past : past_of failing ≡ past_of disk
-  pub fails : to_fail failing ≡ to_fail disk ++ map (number_behind (memory_device disk).clock) fails
+  pub more : to_fail failing ≡ to_fail disk ++ map (number_behind (memory_device disk).clock) fails
 
 -- what happened was a run of the store, which keeps its promise and took all events; what it tells is printed
 pub record IsRun (disk : MemDisk) (happened : Happened) (left : MemDisk) (printed : List ℕ) : Type 0 where
@@ -55,7 +55,7 @@ pub record IsRun (disk : MemDisk) (happened : Happened) (left : MemDisk) (printe
   pub promised : (tree : Tree) (first : ℕ) → IsPromised (Unit {0}) (memory_device before) (memory_device left) tree
       first WORKERS happened.events (Ok report)
   pub all : length report.told.steps ≡ length happened.events
-  pub printed : printed ≡ boot_line report.told.boot
+  pub prints : printed ≡ boot_line report.told.boot
       ++ reply_lines happened.handed report.told.steps report.told.answers
 
 -- or the image was refused, and that is printed
@@ -66,7 +66,7 @@ pub record IsRefusal (disk : MemDisk) (happened : Happened) (printed : List ℕ)
   pub fails : IsFailing happened.fails disk before
   pub promised : (tree : Tree) (first : ℕ) → IsPromised (Unit {0}) (memory_device before) (memory_device left) tree
       first WORKERS happened.events (Err fault)
-  pub printed : printed ≡ open_refused_line fault
+  pub prints : printed ≡ open_refused_line fault
 
 -- what is known to be written grows by something of which this holds
 abbrev pub Prints : Option (List ℕ) → Option (List ℕ) → (List ℕ → Type 0) → Type 0
@@ -112,10 +112,13 @@ abbrev pub is_within : ℕ → ℕ → List ℕ → MemDisk → Bool
 is_within block offset bytes disk =
     nat_lt block (length (blocks_of disk)) && nat_le (offset + length bytes) BLOCK_BYTES
 
+abbrev pub IsPokedWhere : Bool → ℕ → ℕ → List ℕ → MemDisk → MemDisk → Type 0
+IsPokedWhere true block offset bytes disk poked = IsPoked block offset bytes disk poked
+IsPokedWhere false block offset bytes disk poked = poked ≡ disk
+
 abbrev pub HasPoked : ℕ → ℕ → List ℕ → Stage → Stage → List ℕ → Type 0
 HasPoked block offset bytes (Stopped disk) later printed = (poked : MemDisk) × (later ≡ Stopped poked)
-    × (printed ≡ []) × (if is_within block offset bytes disk then IsPoked block offset bytes disk poked
-    else poked ≡ disk)
+    × (printed ≡ []) × IsPokedWhere (is_within block offset bytes disk) block offset bytes disk poked
 HasPoked block offset bytes stage later printed = IsIdle stage later printed
 
 -- What a command prints at a moment, and how the script stands then. One that may not stand there does nothing.

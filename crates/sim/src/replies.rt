@@ -57,7 +57,7 @@ fn is_before(run: &Run, answer: &Answer, message: &Handed) -> bool
 
 // Whether an event handed a call to a worker, who was idle.
 fn is_called(made: Option<&Option<Step>>) -> bool
-    ensures { result ≡ is_called (option_map (λ step. step.now) made) }
+    ensures { result ≡ is_called (option_map (λ step. step.now) made.entry) }
 {
     matches!(made, Some(Some(Step::Called)))
 }
