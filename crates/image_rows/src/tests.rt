@@ -3,6 +3,8 @@ ghost use Rattle.std.specs.Prelude.{◌≡◌, ◌≤◌, length, IfOk};
 ghost use Rattle.limits.specs.declared.TheConstants.{LEAST_INODES};
 ghost use Rattle.disk.specs.Memory.{memory_device};
 
+mod bodies;
+
 use disk::{Block, BlockNo, CrashDisk, MemDisk};
 use image_links::{Links, are_linked};
 use image_parts::{PartFault, are_marked, read_table};
@@ -276,7 +278,10 @@ fn far(alloc: Global, next: &[u32]) -> Result<Vec<u32>, Fail> {
 #[test]
 fn many_steps_lead_to_the_root(rt: HostRuntime) -> Result<(), Fail> {
     let led = far(rt.alloc(), &[0, 1, 1, 2, 3])?;
-    assert!(rt; led.as_slice() == &[0, 1, 1, 1, 1], "one behind another");
+    assert!(rt;
+        led.as_slice() == [0, 1, 1, 1, 1].as_slice(),
+        "one behind another"
+    );
     let led = far(rt.alloc(), &[0, 1, 3, 2])?;
     assert!(rt;
         led.len() == 4 && led[1] == 1 && led[2] != 1 && led[3] != 1,
