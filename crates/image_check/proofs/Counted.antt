@@ -14,10 +14,8 @@ use Rattle.layout.specs.Decode.{file_of}
 use Rattle.layout.specs.Parts.{content_in, parts_of, table_of}
 use Rattle.layout.specs.Stands.{file_at}
 use Rattle.layout.proofs.FreshFiles.{not_equal}
+use Rattle.bitmap.proofs.Ranges.{one_if}
 use Rattle.image_law.specs.TreeOf.{files_below, tree_of, with_file}
-
-abbrev one_if : Bool → ℕ
-one_if b = cond b 1 0
 
 module _ (file : ℕ → Option Node) where
   kept : (k q : ℕ) → k < q → (o : Option Node) (nodes : FinMap nat_cmp Node) → get nodes q ≡ None

@@ -2,7 +2,6 @@
 use Rattle.std.proofs.Common.{◌≡◌, ℕ, ◌*◌, ◌/◌, ◌%◌, ◌≤◌, sym, ap, ◌∙◌, refl, subst, Bool, true, false, cond, not}
 use Rattle.std.proofs.Common.{◌&&◌, ◌||◌, All, IsOk, length, drop, get_or, min, is_none, nat_eq, nat_le, nat_lt, Some, Ok, arith}
 use Rattle.std.specs.List.{list_any}
-use Rattle.std.proofs.lemmas.Bool.Decides.{nat_tests}
 use Rattle.std.proofs.lemmas.List.FromFn.{get_or-range_with_len, length-range_with_len}
 use Rattle.limits.specs.declared.TheConstants.{BLOCK_BYTES, DIRECT_INDEXES, FILE_INDEXES, LARGEST_DIRECTORY, SLOTS_PER_BLOCK, TARGET_BYTES}
 use Rattle.disk.specs.Crash.{Image}
@@ -16,26 +15,15 @@ use Rattle.layout.specs.InodeForm.{SoundInode, is_sound_directory, is_sound_file
 use Rattle.layout.specs.InodeForm.{names_first}
 use Rattle.layout.specs.SlotForm.{read_slot}
 use Rattle.layout.proofs.AllNumbers.{all-length, all_placed}
-use Rattle.layout.proofs.Respelled.{all_three, all_two}
+use Rattle.inode.proofs.AllTests.{all_five, all_seven, all_three, all_two, no_more}
 use Rattle.image_files.specs.Slots.{IsSpanned}
 use Rattle.image_law.specs.TreeOf.{HasNames}
 use Rattle.directory_law.proofs.Directory.{are_names, has_names, once}
 use Rattle.image_bodies.specs.Bodies.{HasBlocksOf, IsTidyOf}
 use Rattle.image_check.proofs.SlotBytes.{slots_are_bytes}
 
-at_most : (a b : ℕ) → nat_le a b ≡ true → a ≤ b
-at_most a b is = grind (arith, nat_tests)
-
 none_is : (n : ℕ) → nat_eq n 0 ≡ true → nat_eq n 0 ≡ false → ⊥
 none_is n is not = let clash : true ≡ false = sym is ∙ not in cc
-
-all_five : (a b c d e : Bool) → (a && b && c && d && e) ≡ true → e ≡ true
-all_five true true true true true is = refl
-all_five _ _ _ _ _ is = cc
-
-second : (a b c d e f g : Bool) → (a && b && c && d && e && f && g) ≡ true → b ≡ true
-second true true true true true true true is = refl
-second _ _ _ _ _ _ _ is = cc
 
 module _ (g : Geometry) (content : Image) (inode : Inode) (sound : SoundInode g inode) where
   -- ---- what a sound inode tells
@@ -48,12 +36,12 @@ module _ (g : Geometry) (content : Image) (inode : Inode) (sound : SoundInode g 
       && names_first (min (inode.size / BLOCK_BYTES) DIRECT_INDEXES) inode.direct
       && (cond (nat_lt DIRECT_INDEXES (inode.size / BLOCK_BYTES)) (not (nat_eq inode.indirect 0))
       (nat_eq inode.indirect 0))) (is_none inode.verifier) three.2 in
-      let is = second (nat_le 2 inode.nlink) (nat_le inode.size LARGEST_DIRECTORY)
+      let rules = all_seven (nat_le 2 inode.nlink) (nat_le inode.size LARGEST_DIRECTORY)
       (nat_eq (inode.size % BLOCK_BYTES) 0) (nat_lt 0 inode.parent) (nat_lt inode.parent g.inodes)
       (names_first (min (inode.size / BLOCK_BYTES) DIRECT_INDEXES) inode.direct)
       (cond (nat_lt DIRECT_INDEXES (inode.size / BLOCK_BYTES)) (not (nat_eq inode.indirect 0)) (nat_eq inode.indirect 0))
       last.0 in
-      let few = at_most inode.size LARGEST_DIRECTORY is in
+      let few = no_more inode.size LARGEST_DIRECTORY rules.1 in
       omega (arith, few)
 
   no_far : is_sound_kind g Link inode ≡ true → nat_eq inode.indirect 0 ≡ true
@@ -61,8 +49,8 @@ module _ (g : Geometry) (content : Image) (inode : Inode) (sound : SoundInode g 
       let three = all_three (is_sound_file inode) (is_sound_map g inode) (is_sound_link inode) good in
       let last = all_two (nat_le 1 inode.size && nat_le inode.size TARGET_BYTES && nat_eq inode.parent 0
       && names_first 1 inode.direct && nat_eq inode.indirect 0) (is_none inode.verifier) three.2 in
-      all_five (nat_le 1 inode.size) (nat_le inode.size TARGET_BYTES) (nat_eq inode.parent 0)
-      (names_first 1 inode.direct) (nat_eq inode.indirect 0) last.0
+      (all_five (nat_le 1 inode.size) (nat_le inode.size TARGET_BYTES) (nat_eq inode.parent 0)
+      (names_first 1 inode.direct) (nat_eq inode.indirect 0) last.0).4
 
   link_mapped : is_sound_kind g Link inode ≡ true → IsMapped g content inode
   link_mapped good = record {

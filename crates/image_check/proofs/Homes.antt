@@ -2,7 +2,6 @@
 use Rattle.std.proofs.Common.{◌≡◌, ℕ, ◌+◌, ◌*◌, ◌/◌, ◌%◌, ◌^◌, ◌<◌, ◌≤◌, ap, ◌∙◌, refl, Bool, true, false, cond, ◌&&◌, length}
 use Rattle.std.proofs.Common.{take, drop, replicate, get_or, nat_eq, nat_le, nat_lt, Err, arith}
 use Rattle.std.proofs.lemmas.Bool.{lt-ltb}
-use Rattle.std.proofs.lemmas.Bool.Decides.{nat_tests}
 use Rattle.limits.specs.declared.TheConstants.{BITS_PER_BLOCK, BLOCK_BYTES, FIRST_HOME_BLOCK, INODE_BYTES}
 use Rattle.disk.specs.Crash.{Image}
 use Rattle.nfs_types.specs.Fits.{AreBytes}
@@ -16,19 +15,13 @@ use Rattle.layout.specs.Parts.{bit_at, bits_of, content_in, table_of}
 use Rattle.layout.specs.Places.{inode_block, inode_offset, is_data}
 use Rattle.layout.proofs.FreshBytes.{zero_block}
 use Rattle.layout.proofs.FreshHomes.{home_is}
-use Rattle.layout.proofs.Respelled.{all_two}
+use Rattle.inode.proofs.AllTests.{all_two, is_less, no_more}
 use Rattle.image_check.specs.Searched.{AreBlocksOf}
-
-from_test : (a b : ℕ) → nat_le a b ≡ true → a ≤ b
-from_test a b is = grind (arith, nat_tests)
-
-below_test : (a b : ℕ) → nat_lt a b ≡ true → a < b
-below_test a b is = grind (arith, nat_tests)
 
 -- a data block is one of the image's
 pub in_blocks : (g : Geometry) (number : ℕ) → is_data g number ≡ true → number < g.blocks
 in_blocks g number is =
-    below_test number g.blocks (all_two (nat_le (data_at g.blocks g.inodes) number) (nat_lt number g.blocks) is).1
+    is_less number g.blocks (all_two (nat_le (data_at g.blocks g.inodes) number) (nat_lt number g.blocks) is).1
 
 module _ (g : Geometry) (image : Image) where
   abbrev home : Image
@@ -41,8 +34,8 @@ module _ (g : Geometry) (image : Image) where
           → cond b (home number) (replicate BLOCK_BYTES 0) ≡ cond b (image number) (replicate BLOCK_BYTES 0)
       by_test true is =
           let both = all_two (nat_le (data_at g.blocks g.inodes) number) (nat_lt number g.blocks) is in
-          let from = from_test (data_at g.blocks g.inodes) number both.0 in
-          home_is g.blocks number image (omega (arith, from)) (below_test number g.blocks both.1)
+          let from = no_more (data_at g.blocks g.inodes) number both.0 in
+          home_is g.blocks number image (omega (arith, from)) (is_less number g.blocks both.1)
       by_test false is = refl
 
   pub content_same : content_in g home ≡ content_in g image

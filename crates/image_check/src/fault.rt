@@ -6,7 +6,7 @@ use thiserror::Error;
 pub struct Unlinked {
     pub inode: u32,
     pub links: u32,
-    /// How often it is named, as far as a file may have links, and once more.
+    /// How often it is named; where that is more often than a file may have links, only once more than that is told.
     pub named: u32,
 }
 
@@ -38,8 +38,9 @@ pub enum CheckFault {
     /// A bitmap doesn't mark what is in use.
     #[error("Bitmap")]
     Bitmap,
-    /// The files make no tree, one was made in a later boot, names that are none or stand twice are in a directory, or
-    /// something lies past a file's size. Where a file isn't named as often as it has links, it is the first of these.
+    /// Something lies past a file's size, a name in a directory is none or stands twice, a file was made in a later
+    /// boot, or the files make no tree. Where the links alone are wrong, it has the first file that isn't named as often
+    /// as it has links, of those that are no directories.
     #[error("Tree")]
     Tree(Option<Unlinked>),
 }
