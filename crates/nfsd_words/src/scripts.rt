@@ -29,6 +29,8 @@ pub fn sim_words<'a>(alloc: Global) -> Result<Command<'a>, AllocError>
     ensures local { IfOk result (λ command. (out-Command command).has_globals ≡ false) }
 {
     Command::new(alloc, "sim")
-        .about("Runs the schedule of a script over an image in memory: calls of several workers, crashes and failures")
+        .about(
+            "Runs the schedule of a script over an image in memory: calls of several workers, crashes and failures",
+        )
         .arg(Arg::new(alloc, "SCRIPT").required(true).help(SCRIPT))
 }

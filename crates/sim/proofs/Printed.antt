@@ -46,6 +46,8 @@ pub it_ends : (start moment : Moment) (first stage : Stage) (all : List Command)
     → IsBegun start moment first stage all [] written now → Prints now then (Ends stage)
     → Prints written then (Comes start first all)
 unfolding Comes
-it_ends start moment first stage all written now then begun (printed, appends, ends) =
-    (begun.printed ++ printed, Appends-then written now then begun.printed printed begun.appends appends,
-    begun.goes_on printed ends)
+it_ends start moment first stage all written now then begun (printed, appends, ends) = (
+  begun.printed ++ printed,
+  Appends-then written now then begun.printed printed begun.appends appends,
+  begun.goes_on printed ends,
+)

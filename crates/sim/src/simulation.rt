@@ -20,11 +20,7 @@ use std::io::Write;
 
 /// Runs the commands of a script, and prints what comes of them. A store that can't be made or opened ends it. Output
 /// is a line that isn't printed.
-pub fn simulate<W: Write>(
-    alloc: Global,
-    script: Vec<Command>,
-    out: &mut W,
-) -> Result<(), SimFault>
+pub fn simulate<W: Write>(alloc: Global, script: Vec<Command>, out: &mut W) -> Result<(), SimFault>
     ensures { OnOk result (Prints (W.contents out.old) (W.contents out.new) (IsPlayed script.items)) }
 {
     let mut moment = Moment {
