@@ -1,5 +1,5 @@
 -- What the getters of a parse give, as the rows that it found say.
-use Rattle.std.proofs.Common.{◌≡◌, ◌∙◌, ℕ, ◌^◌, ◌<◌, List, [], Option, Some, None, Result, ap, sym, subst, refl}
+use Rattle.std.proofs.Common.{◌≡◌, ◌∙◌, ℕ, ◌^◌, ◌<◌, List, [], ◌∷◌, Option, Some, None, Result, ap, sym, subst, refl, T, nat_eq}
 use Rattle.std.specs.Prelude.{IfNone, codes, option_map}
 use Rattle.std.specs.Borrow.{Bor}
 use Rattle.std.specs.Str.Parse.{ExplainsUnsignedError, HasUnsignedDigitsIfOk, ParsesUnsigned}
@@ -76,7 +76,18 @@ pub number_or_none_found : (m : ArgMatches) (id : Text) (r : Option ℕ)
 number_or_none_found m id None none value = λ n. no_number_found m id None n value refl
 number_or_none_found m id (Some n) none value = number_found m id (Some n) n none value refl
 
+-- a word begins with this character
+abbrev pub BeginsWith : ℕ → List ℕ → Type 0
+BeginsWith c [] = ⊥
+BeginsWith c (first ∷ rest) = T (nat_eq first c)
+
 -- the commands have names of their own
+pub once_is_no_show : ¬ (codes "once" ≡ codes "show")
+once_is_no_show same = subst (BeginsWith 111) same tt
+
+pub serve_is_no_check : ¬ (codes "serve" ≡ codes "check")
+serve_is_no_check same = subst (BeginsWith 115) same tt
+
 pub format_is_no_sim : ¬ (codes "format" ≡ codes "sim")
 format_is_no_sim same = let other : codes "format" ≡ codes "sim" = same in cc
 
@@ -122,7 +133,7 @@ no_time_of_calls found none (Once image time) asks = none time asks.2
 no_time_of_calls found none (Serve image listen workers connections) asks =
     let other : codes "once" ≡ codes "serve" = asks.0 in cc
 no_time_of_calls found none (Check image) asks = let other : codes "once" ≡ codes "check" = asks.0 in cc
-no_time_of_calls found none (Show image) asks = let other : codes "once" ≡ codes "show" = asks.0 in cc
+no_time_of_calls found none (Show image) asks = absurd (once_is_no_show asks.0)
 no_time_of_calls found none (Sim script) asks = absurd (once_is_no_sim asks.0)
 
 -- `format` asks for nothing without a number of its inodes
@@ -143,7 +154,7 @@ no_listen found none (Format image blocks inodes time) asks =
     let other : codes "serve" ≡ codes "format" = asks.0 in cc
 no_listen found none (Once image time) asks = let other : codes "serve" ≡ codes "once" = asks.0 in cc
 no_listen found none (Serve image listen workers connections) asks = none listen.now asks.2
-no_listen found none (Check image) asks = let other : codes "serve" ≡ codes "check" = asks.0 in cc
+no_listen found none (Check image) asks = absurd (serve_is_no_check asks.0)
 no_listen found none (Show image) asks = let other : codes "serve" ≡ codes "show" = asks.0 in cc
 no_listen found none (Sim script) asks = absurd (serve_is_no_sim asks.0)
 
@@ -154,7 +165,7 @@ no_workers found none (Format image blocks inodes time) asks =
     let other : codes "serve" ≡ codes "format" = asks.0 in cc
 no_workers found none (Once image time) asks = let other : codes "serve" ≡ codes "once" = asks.0 in cc
 no_workers found none (Serve image listen workers connections) asks = none workers asks.3
-no_workers found none (Check image) asks = let other : codes "serve" ≡ codes "check" = asks.0 in cc
+no_workers found none (Check image) asks = absurd (serve_is_no_check asks.0)
 no_workers found none (Show image) asks = let other : codes "serve" ≡ codes "show" = asks.0 in cc
 no_workers found none (Sim script) asks = absurd (serve_is_no_sim asks.0)
 
@@ -165,7 +176,7 @@ no_connections found none (Format image blocks inodes time) asks =
     let other : codes "serve" ≡ codes "format" = asks.0 in cc
 no_connections found none (Once image time) asks = let other : codes "serve" ≡ codes "once" = asks.0 in cc
 no_connections found none (Serve image listen workers connections) asks = none connections asks.4
-no_connections found none (Check image) asks = let other : codes "serve" ≡ codes "check" = asks.0 in cc
+no_connections found none (Check image) asks = absurd (serve_is_no_check asks.0)
 no_connections found none (Show image) asks = let other : codes "serve" ≡ codes "show" = asks.0 in cc
 no_connections found none (Sim script) asks = absurd (serve_is_no_sim asks.0)
 
