@@ -1,17 +1,15 @@
 -- A worker has what its phase needs, once its commit was answered.
-use Rattle.std.proofs.Common.{rules, ◌≡◌, ◌∙◌, ap, sym, refl, subst, Bool, true, false, ◌&&◌, Option, Some}
+use Rattle.std.proofs.Common.{rules, ◌≡◌, sym, refl, subst, Bool, true, false, ◌&&◌, Option, Some}
 use Rattle.std.proofs.Common.{None}
 use Rattle.std.proofs.Common.{IfSome, is_some, true≢false}
 use Rattle.model.specs.Calls.{is_answered_stable}
 use Rattle.nfs_types.specs.declared.reply.Reply.{Reply}
-use Rattle.procs.specs.Outcome.{Outcome}
-use Rattle.txn.specs.Outcomes.{IsGiven}
 use Rattle.txn.specs.declared.outcomes.Commit.{Commit}
 use Rattle.txn.specs.declared.outcomes.Commit.TheVariants as commit
 use Rattle.wal_law.specs.declared.outcomes.Seq.{Seq}
 use Rattle.store_workers.specs.Phases.{is_served}
 use Rattle.store_workers.specs.Worker.{IsHeld, IsSound}
-use Rattle.store_workers.specs.WorkerAnswers.{HasReply, after_commit, told_of, with_entry}
+use Rattle.store_workers.specs.WorkerAnswers.{after_commit, told_of, with_entry}
 use Rattle.store_workers.specs.declared.workers.parts.Job.{Job}
 use Rattle.store_workers.specs.declared.workers.parts.State.{State}
 
@@ -42,13 +40,3 @@ pub committed_with : {C : Type 0} (worker made : State) (answer : Commit C) (rep
     → IfSome worker.work.job (λ job. made ≡ after_commit job reply answer worker) → IsSound made
 committed_with worker made answer reply held made_is =
     by_job worker made answer reply worker.work.job refl held.planned held made_is
-
--- the receipt's change has the reply of what was committed
-pub has_reply : (done : Outcome) (reply : Reply) (answer : Commit Outcome) → reply ≡ done.reply
-    → IsGiven done answer → HasReply reply answer
-has_reply done reply (commit.Committed receipt) same given = ap (λ (d : Outcome). d.reply) given ∙ sym same
-has_reply done reply (commit.Full back change) same given = tt
-has_reply done reply (commit.Foreign back change) same given = tt
-has_reply done reply (commit.NoMemory back change) same given = tt
-has_reply done reply (commit.Broken back change) same given = tt
-has_reply done reply (commit.Spent back change) same given = tt

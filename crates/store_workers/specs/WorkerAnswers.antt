@@ -1,5 +1,5 @@
 -- What a worker makes of what the core answered it.
-use Rattle.std.specs.Prelude.{◌≡◌, ℕ, Bool, true, false, if◌then◌else◌, Option, Some, None, List, [], ◌∷◌}
+use Rattle.std.specs.Prelude.{ℕ, Bool, true, false, if◌then◌else◌, Option, Some, None, List, [], ◌∷◌}
 use Rattle.objects.specs.declared.addr.Addr.{Addr}
 use Rattle.objects.specs.declared.mode.Mode.{Mode}
 use Rattle.disk.specs.declared.block.BlockNo.{BlockNo}
@@ -7,7 +7,6 @@ use Rattle.nfs_types.specs.declared.reply.Reply.{Reply}
 use Rattle.nfs_types.specs.declared.status.Status.TheVariants as status
 use Rattle.model.specs.Calls.{is_answered_stable}
 use Rattle.model.specs.Refused.{refused}
-use Rattle.procs.specs.Outcome.{Outcome}
 use Rattle.wal_law.specs.declared.outcomes.Seq.{Seq}
 use Rattle.txn.specs.declared.outcomes.Claim.{Claim}
 use Rattle.txn.specs.declared.outcomes.Claim.TheVariants as claim
@@ -168,15 +167,6 @@ committing_of (commit.Foreign back change) = committing.Foreign
 committing_of (commit.NoMemory back change) = committing.NoMemory
 committing_of (commit.Broken back change) = committing.Broken
 committing_of (commit.Spent back change) = committing.Spent
-
--- what was committed has this reply
-abbrev pub HasReply : Reply → Commit Outcome → Type 0
-HasReply reply (commit.Committed receipt) = receipt.change.reply ≡ reply
-HasReply reply (commit.Full back change) = Unit {0}
-HasReply reply (commit.Foreign back change) = Unit {0}
-HasReply reply (commit.NoMemory back change) = Unit {0}
-HasReply reply (commit.Broken back change) = Unit {0}
-HasReply reply (commit.Spent back change) = Unit {0}
 
 -- the procedure is answered at once, or once it is stable
 abbrev pub told_of : Bool → Job → Reply → Seq → State → State

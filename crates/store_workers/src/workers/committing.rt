@@ -1,26 +1,25 @@
 //! The commit of what a worker's plan ended in.
-ghost use Rattle.std.specs.Prelude.{◌≡◌, ℕ, None, true, is_some, IfSome};
+ghost use Rattle.std.specs.Prelude.{◌≡◌, ℕ, None, true, is_some, IfOk, IfSome};
 
 use super::parts::{Job, Phase, State};
 use groups::blocks_of_objects;
 use nfs_types::{Call, Reply, Status};
 use procs::{Done, is_answered_stable, refused_reply};
-use std::alloc::Global;
+use std::alloc::{AllocError, Global};
 use store_promise::{Cause, Changed, Committing, Entry, Step, Verdict};
-use txn::{Change, Commit, Core, Receipt, Seq, Tx};
+use txn::{Change, Commit, Core, Seq, Tx};
 
 impl State {
-    ghost use Rattle.store_promise.specs.declared.events.Committing.TheVariants as committing;
     ghost use Rattle.model.specs.Calls.{is_answered_stable};
     ghost use Rattle.store_images.specs.Counts.{SameFrame};
     ghost use Rattle.store_workers.specs.Worker.{IsSound, IsHeld};
-    ghost use Rattle.store_workers.specs.WorkerAnswers.{HasReply, after_commit, committed, committing_of};
+    ghost use Rattle.store_workers.specs.WorkerAnswers.{after_commit, committed, committing_of};
     ghost use Rattle.store_workers.specs.WorkerAnswers.{told_of, with_entry};
     ghost use Rattle.store_workers.specs.WorkerAnswers.{with_replies};
     ghost use Rattle.store_workers.specs.WorkerSteps.{EndsBy, side};
     ghost use Rattle.txn.specs.CoreWindow.{KeepsHome, KeepsReads};
 
-    // Commits what the plan ended in. Its reply is told; the copy of it that the entry has is made before.
+    // Commits what the plan ended in. The replies are made before.
     pub(super) fn commit(
         &mut self,
         alloc: Global,
@@ -35,26 +34,30 @@ impl State {
         ensures home { KeepsHome core.old core.new }
         ensures stays { (other : ℕ) → (other ≡ tx → ⊥) → KeepsReads core.old core.new other }
     {
-        let Ok(kept) = done.reply().clone() else {
+        let Ok((told, kept)) = twice(done.reply()) else {
             return self.lack(core, tx);
         };
         done.finished();
         let blocks = Changed::of(&blocks_of_objects(done.written()));
         let answer = core.commit(alloc, tx, done);
-        let committing = self.ended(kept, answer);
+        let committing = self.ended(told, kept, answer);
         Step::Commit(blocks, committing)
     }
 
-    // Goes on by what came of a commit, of a plan with this reply. The receipt has the reply itself.
-    fn ended(&mut self, kept: Reply, answer: Commit<Done>) -> Committing
+    // Goes on by what came of a commit, of a plan with this reply, of which there are two copies.
+    fn ended(&mut self, told: Reply, kept: Reply, answer: Commit<Done>) -> Committing
         requires job { is_some self.old.work.job ≡ true }
-        requires given { HasReply kept answer }
+        requires same { kept ≡ told }
         requires none { (self.old.begun.tx ≡ None) × (self.old.begun.io ≡ None) }
         ensures committing { result ≡ committing_of answer }
-        ensures state { IfSome self.old.work.job (λ job. self.new ≡ after_commit job kept answer self.old) }
+        ensures state { IfSome self.old.work.job (λ job. self.new ≡ after_commit job told answer self.old) }
     {
         match answer {
-            Commit::Committed(receipt) => self.placed(receipt, kept),
+            Commit::Committed(receipt) => {
+                let place = receipt.place();
+                self.committed(place, told, kept);
+                Committing::Committed(place)
+            }
             Commit::Full(tx, _) => {
                 self.go_on(tx, Phase::Planning);
                 Committing::Full
@@ -77,19 +80,6 @@ impl State {
                 Committing::Spent
             }
         }
-    }
-
-    // The procedure was committed, with this receipt, whose reply is told.
-    fn placed(&mut self, receipt: Receipt<Done>, kept: Reply) -> Committing
-        requires job { is_some self.old.work.job ≡ true }
-        requires given { receipt.change.reply ≡ kept }
-        ensures committing { result ≡ committing.Committed receipt.place }
-        ensures state { IfSome self.old.work.job (λ job. self.new ≡ committed job kept receipt.place self.old) }
-    {
-        let place = receipt.place();
-        let told = receipt.into_change().into_reply();
-        self.committed(place, told, kept);
-        Committing::Committed(place)
     }
 
     // The procedure was committed at this place. It is answered at once, or when its place is settled.
@@ -135,4 +125,11 @@ impl State {
         let Job { ctx, call } = job;
         drop(self.work.entry.replace(Entry { ctx, call, reply }));
     }
+}
+
+// Two copies of a reply: one is answered, and one is kept for the history.
+fn twice(reply: &Reply) -> Result<(Reply, Reply), AllocError>
+    ensures { IfOk result (λ both. (both.0 ≡ reply.now) × (both.1 ≡ reply.now)) }
+{
+    Ok((reply.clone()?, reply.clone()?))
 }
