@@ -1,5 +1,5 @@
 -- How many files an image has.
-use Rattle.std.proofs.Common.{◌≡◌, ℕ, zero, suc, ◌+◌, ◌<◌, ◌≤◌, sym, ap, ◌∙◌, refl, Bool, cond, List, [], ◌∷◌, ◌++◌}
+use Rattle.std.proofs.Common.{◌≡◌, ℕ, zero, suc, ◌+◌, ◌<◌, ◌≤◌, sym, ap, ◌∙◌, refl, cond, List, [], ◌∷◌, ◌++◌}
 use Rattle.std.proofs.Common.{count_by, length, take, get_or, is_some, Option, Some, None, Ok, add-one, arith}
 use Rattle.std.specs.Cmp.{nat_cmp_total}
 use Rattle.std.specs.FinMap.{FinMap, get, get-empty, get-insert, len, len-empty, len-insert}

@@ -1,5 +1,5 @@
 -- A file is one by what was seen of its blocks, and back.
-use Rattle.std.proofs.Common.{◌≡◌, ℕ, ◌*◌, ◌/◌, ◌%◌, ◌≤◌, sym, ap, ◌∙◌, refl, subst, Bool, true, false, cond, not}
+use Rattle.std.proofs.Common.{◌≡◌, ℕ, ◌*◌, ◌/◌, ◌%◌, ◌≤◌, sym, ap, ◌∙◌, refl, subst, true, false, cond, not}
 use Rattle.std.proofs.Common.{◌&&◌, ◌||◌, All, IsOk, length, drop, get_or, min, is_none, nat_eq, nat_le, nat_lt, Some, Ok, arith}
 use Rattle.std.specs.List.{list_any}
 use Rattle.std.proofs.lemmas.List.FromFn.{get_or-range_with_len, length-range_with_len}
