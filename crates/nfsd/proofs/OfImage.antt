@@ -1,5 +1,5 @@
 -- What was done to the device of an image's file was done to the image.
-use Rattle.std.proofs.Common.{◌≡◌, ℕ, List, Option, Result, Err}
+use Rattle.std.proofs.Common.{ℕ, List, Option, Result, Err}
 use Rattle.clap.specs.Words.{Text}
 use Rattle.disk.specs.declared.file.FirstContents.{FirstContents}
 use Rattle.disk.specs.Device.{Device}

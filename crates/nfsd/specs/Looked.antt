@@ -36,11 +36,20 @@ word_of Regular = codes "file"
 word_of Directory = codes "dir"
 word_of Link = codes "link"
 
+-- a word, one blank, and what comes behind them
+abbrev pub spaced : List ℕ → List ℕ → List ℕ
+spaced word rest = word ++ (codes " " ++ rest)
+
 -- the line of a file: number, kind, mode by octal digits, owner, group, links, size and blocks, parted by one blank
 abbrev pub line_text : Line → List ℕ
-line_text line = as_line (decimal line.number ++ codes " " ++ word_of line.kind ++ codes " "
-    ++ digits 8 false line.mode ++ codes " " ++ decimal line.uid ++ codes " " ++ decimal line.gid ++ codes " "
-    ++ decimal line.nlink ++ codes " " ++ decimal line.size ++ codes " " ++ decimal line.blocks)
+line_text line = spaced (decimal line.number)
+    (spaced (word_of line.kind)
+    (spaced (digits 8 false line.mode)
+    (spaced (decimal line.uid)
+    (spaced (decimal line.gid)
+    (spaced (decimal line.nlink)
+    (spaced (decimal line.size)
+    (as_line (decimal line.blocks))))))))
 
 abbrev pub lines_text : List Line → List ℕ
 lines_text lines = flat_map line_text lines

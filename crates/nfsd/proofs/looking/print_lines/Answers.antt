@@ -8,7 +8,7 @@ lines-init g c = Appends-nil (g.O.Write.contents c.args.writer.now)
 
 pub lines-preserved : goal.lines-preserved
 lines-preserved g c =
-    one_printed c.args.lines.now c.lines.index c.index-lines-index.result (g.O.Write.contents c.args.writer.now)
+    one_printed c.args.lines.now c.lines.index _ (g.O.Write.contents c.args.writer.now)
     (g.O.Write.contents c.lines.writer) (g.O.Write.contents c.print_line.new.writer) c.lines-test.true
     c.lines.invariant c.in_ok-print_line.ensures.printed
 

@@ -1,4 +1,4 @@
-use Rattle.std.proofs.Common.{◌≡◌, OnOk, refl, subst}
+use Rattle.std.proofs.Common.{OnOk, refl, subst}
 use Rattle.std.specs.Io.KnownBytes.{Appends}
 use Rattle.nfsd.specs.Looked.{lines_text}
 use Rattle.nfsd.proofs.OfDevice.{lines_printed}
