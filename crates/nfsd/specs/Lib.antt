@@ -2,4 +2,3 @@ pub mod Done
 pub mod Faults
 pub mod Lines
 pub mod Looked
-pub mod Scripts

@@ -13,7 +13,6 @@ mod image_files;
 mod lines;
 mod looking;
 mod read_files;
-mod scripts;
 mod streams;
 mod tcp;
 mod trouble;

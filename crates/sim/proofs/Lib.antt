@@ -1,3 +1,0 @@
-mod Printed
-mod Repeated
-mod Replied
