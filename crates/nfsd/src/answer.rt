@@ -10,7 +10,7 @@ use crate::device::{format_device, serve_device};
 use crate::fault::Fault;
 use crate::fault_stream::FaultStream;
 use crate::image_disk::ImageDisk;
-use crate::image_files::{make_image, open_image};
+use crate::locked_files::{make_image, open_image};
 use crate::looking::{check_image, show_image};
 use crate::read_files::SharedFile;
 use crate::streams::{Streams, fill};

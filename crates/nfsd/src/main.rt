@@ -9,7 +9,7 @@ mod device;
 mod fault;
 mod fault_stream;
 mod image_disk;
-mod image_files;
+mod locked_files;
 mod lines;
 mod looking;
 mod read_files;

@@ -1,7 +1,7 @@
 //! The file, or the block device, of an image that is only read.
 ghost use Rattle.std.specs.Prelude.{◌≡◌, [], IfOk};
 
-use crate::image_files::blocks_of_image;
+use crate::locked_files::blocks_of_image;
 use disk::{BlockFile, FileDisk};
 use limits::BLOCK_BYTES;
 use std::fs::{File, Files};

@@ -3,7 +3,7 @@ ghost use Rattle.std.specs.Prelude.{◌≡◌, [], IfOk};
 ghost use Rattle.disk.specs.Crash.{IsAtRest};
 ghost use Rattle.disk.specs.File.{file_device, first_in};
 
-use crate::image_files::open_locked;
+use crate::locked_files::open_locked;
 use disk::{BlockFile, FileDisk};
 use std::fs::{Files, OpenOptions};
 use std::io;
