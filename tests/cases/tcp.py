@@ -124,7 +124,12 @@ def spent(process):
 def are_asleep(process):
     """Whether each thread of a process waits for something."""
     for thread in os.listdir(f"/proc/{process}/task"):
-        with open(f"/proc/{process}/task/{thread}/stat", encoding="utf-8") as file:
-            if file.read().rpartition(")")[2].split()[0] != "S":
-                return False
+        try:
+            with open(f"/proc/{process}/task/{thread}/stat", encoding="utf-8") as file:
+                state = file.read().rpartition(")")[2].split()[0]
+        except (FileNotFoundError, ProcessLookupError):
+            # it has just ended
+            return False
+        if state != "S":
+            return False
     return True
