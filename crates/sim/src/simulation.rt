@@ -1,7 +1,7 @@
 //! A script, command by command.
 ghost use Rattle.std.specs.Prelude.{◌≡◌, [], IfOk, OnOk};
 ghost use Rattle.sim.specs.Simulated.{Does, Ends, HasPoked, IsMade, IsPlayed, IsStopped, Prints};
-ghost use Rattle.sim.specs.Simulated.{acted, moment_after, opened};
+ghost use Rattle.sim.specs.Simulated.{acted, moment_after, next_moment, opened};
 ghost use Rattle.model.specs.Sound.{SoundTime};
 
 use crate::crashing::{crashed, poke};
@@ -20,6 +20,7 @@ use std::io::Write;
 
 /// Runs the commands of a script, and prints what comes of them. A store that can't be made or opened ends it. Output
 /// is a line that isn't printed.
+#[tactic(auto, using(crate::proofs::Printed::it_begins, crate::proofs::Printed::it_goes_on, crate::proofs::Printed::it_ends))]
 pub fn simulate<W: Write>(alloc: Global, script: Vec<Command>, out: &mut W) -> Result<(), SimFault>
     ensures { OnOk result (Prints (W.contents out.old) (W.contents out.new) (IsPlayed script.items)) }
 {
@@ -42,8 +43,20 @@ fn moment_after(command: &Command, moment: Moment) -> Moment
     ensures sound { SoundTime moment → SoundTime result }
 {
     match command {
-        Command::Time(next) if next.nanoseconds < NANOSECONDS => *next,
+        Command::Time(next) => next_moment(*next, moment),
         _ => moment,
+    }
+}
+
+// The next moment, if it has less than a second of nanoseconds.
+fn next_moment(next: Moment, moment: Moment) -> Moment
+    ensures is { result ≡ next_moment next moment }
+    ensures sound { SoundTime moment → SoundTime result }
+{
+    if next.nanoseconds < NANOSECONDS {
+        next
+    } else {
+        moment
     }
 }
 
