@@ -5,12 +5,12 @@ use Rattle.rpc.proofs.Lengths.{word-length}
 use Rattle.rpc.specs.Records.{fragment}
 use Rattle.xdr.specs.Items.{word}
 
-pub mark_there : (record message : List ℕ) → record ≡ fragment true message → 4 ≤ length record
-mark_there record message is =
+pub mark_there : (text message : List ℕ) → text ≡ fragment true message → 4 ≤ length text
+mark_there text message is =
     let long = length-append (word (2 ^ 31 + length message)) message in
     let mark = word-length (2 ^ 31 + length message) in
     rw is (omega arith)
 
-pub behind_mark : (record message : List ℕ) → record ≡ fragment true message → drop 4 record ≡ message
-behind_mark record message is =
+pub behind_mark : (text message : List ℕ) → text ≡ fragment true message → drop 4 text ≡ message
+behind_mark text message is =
     rw is (drop_at (word (2 ^ 31 + length message)) message 4 (word-length (2 ^ 31 + length message)))
