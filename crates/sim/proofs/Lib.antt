@@ -1,3 +1,4 @@
+mod Marks
 mod Printed
 mod Repeated
 mod Replied

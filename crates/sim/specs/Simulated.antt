@@ -131,9 +131,13 @@ Does moment stage (command.Crash choice) later printed = IsStopped choice stage 
 Does moment stage (command.Poke block offset bytes) later printed = HasPoked block offset bytes stage later printed
 Does moment stage command.Show later printed = IsIdle stage later printed
 
--- the moment of what follows: one that has a second of nanoseconds or more is none
+-- a moment that has a second of nanoseconds or more is none
+abbrev pub next_moment : Moment → Moment → Moment
+next_moment next moment = if nat_lt next.nanoseconds NANOSECONDS then next else moment
+
+-- the moment of what follows
 abbrev pub moment_after : Command → Moment → Moment
-moment_after (command.Time next) moment = if nat_lt next.nanoseconds NANOSECONDS then next else moment
+moment_after (command.Time next) moment = next_moment next moment
 moment_after _ moment = moment
 
 -- what is still to be printed at the end of a script

@@ -24,6 +24,7 @@ pub fn one_event(event: OneEvent) -> Event
 }
 
 /// A worker goes on, with each read that is due.
+#[tactic(auto, using(crate::proofs::Repeated::two_more, crate::proofs::Repeated::repeated_none))]
 pub fn drive(events: &mut Vec<Event>, worker: u32) -> Result<(), AllocError>
     ensures { OnOk result (events.new.items ≡ events.old.items ++ drive_events worker) }
 {
@@ -36,6 +37,7 @@ pub fn drive(events: &mut Vec<Event>, worker: u32) -> Result<(), AllocError>
 }
 
 /// The log makes so many device calls: each is taken, made and given back.
+#[tactic(auto, using(crate::proofs::Repeated::three_more, crate::proofs::Repeated::repeated_none))]
 pub fn log(events: &mut Vec<Event>, calls: u32) -> Result<(), AllocError>
     ensures { OnOk result (events.new.items ≡ events.old.items ++ log_events calls) }
 {
@@ -48,6 +50,7 @@ pub fn log(events: &mut Vec<Event>, calls: u32) -> Result<(), AllocError>
 }
 
 /// And so does the installer.
+#[tactic(auto, using(crate::proofs::Repeated::three_more, crate::proofs::Repeated::repeated_none))]
 pub fn install(events: &mut Vec<Event>, calls: u32) -> Result<(), AllocError>
     ensures { OnOk result (events.new.items ≡ events.old.items ++ install_events calls) }
 {

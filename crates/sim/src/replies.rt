@@ -16,6 +16,7 @@ use store::{Answer, Run, Step, Verdict};
 const MARK_BYTES: usize = 4;
 
 /// Prints the replies of a run, each to the message that its worker was handed last before.
+#[tactic(auto, using(crate::proofs::Replied::lines_begin, crate::proofs::Replied::lines_more, crate::proofs::Replied::lines_end, crate::proofs::Printed::prints_nothing))]
 pub fn print_replies<W: Write>(
     alloc: Global,
     out: &mut W,
@@ -63,6 +64,7 @@ fn is_called(made: Option<&Option<Step>>) -> bool
 }
 
 // Prints an answer to a message of a number.
+#[tactic(auto, using(crate::proofs::Marks::mark_there, crate::proofs::Marks::behind_mark))]
 fn print_answer<W: Write>(
     alloc: Global,
     out: &mut W,

@@ -1,7 +1,7 @@
 //! A script, command by command.
 ghost use Rattle.std.specs.Prelude.{◌≡◌, [], IfOk, OnOk};
-ghost use Rattle.sim.specs.Simulated.{Does, Ends, HasPoked, IsMade, IsPlayed, IsStopped, Prints};
-ghost use Rattle.sim.specs.Simulated.{acted, moment_after, opened};
+ghost use Rattle.sim.specs.Simulated.{Does, Ends, HasPoked, IsMade, IsPlayed, IsPokedWhere, IsStopped, Prints};
+ghost use Rattle.sim.specs.Simulated.{acted, is_within, moment_after, next_moment, opened};
 ghost use Rattle.model.specs.Sound.{SoundTime};
 
 use crate::crashing::{crashed, poke};
@@ -11,7 +11,7 @@ use crate::lines::print_format_refused;
 use crate::playing::play;
 use crate::segment::Segment;
 use crate::stage::Stage;
-use disk::{BlockNo, CrashDisk};
+use disk::{BlockNo, CrashDisk, MemDisk};
 use limits::{BLOCK_BYTES, NANOSECONDS};
 use nfs_types::Moment;
 use sim_words::{Action, Choice, Command};
@@ -20,6 +20,7 @@ use std::io::Write;
 
 /// Runs the commands of a script, and prints what comes of them. A store that can't be made or opened ends it. Output
 /// is a line that isn't printed.
+#[tactic(auto, using(crate::proofs::Printed::it_begins, crate::proofs::Printed::it_goes_on, crate::proofs::Printed::it_ends))]
 pub fn simulate<W: Write>(alloc: Global, script: Vec<Command>, out: &mut W) -> Result<(), SimFault>
     ensures { OnOk result (Prints (W.contents out.old) (W.contents out.new) (IsPlayed script.items)) }
 {
@@ -42,8 +43,20 @@ fn moment_after(command: &Command, moment: Moment) -> Moment
     ensures sound { SoundTime moment → SoundTime result }
 {
     match command {
-        Command::Time(next) if next.nanoseconds < NANOSECONDS => *next,
+        Command::Time(next) => next_moment(*next, moment),
         _ => moment,
+    }
+}
+
+// The next moment, if it has less than a second of nanoseconds.
+fn next_moment(next: Moment, moment: Moment) -> Moment
+    ensures is { result ≡ next_moment next moment }
+    ensures sound { SoundTime moment → SoundTime result }
+{
+    if next.nanoseconds < NANOSECONDS {
+        next
+    } else {
+        moment
     }
 }
 
@@ -153,14 +166,36 @@ fn poked(
 {
     match stage {
         Stage::Stopped(mut disk) => {
-            let offset = offset as usize;
-            if block < disk.blocks() && offset + bytes.len() <= BLOCK_BYTES {
-                poke(alloc, &mut disk, BlockNo(block), offset, bytes)?;
-            }
+            poke_within(alloc, &mut disk, block, offset, bytes)?;
             Ok(Stage::Stopped(disk))
         }
         other => Ok(other),
     }
+}
+
+// Bytes of a block are changed, where they lie within a block of the device.
+fn poke_within(
+    alloc: Global,
+    disk: &mut MemDisk,
+    block: u32,
+    offset: u32,
+    bytes: &[u8],
+) -> Result<(), AllocError>
+    ensures { OnOk result (IsPokedWhere (is_within block offset bytes.now disk.old) block offset bytes.now
+        disk.old disk.new) }
+{
+    if is_within(block, offset, bytes, disk) {
+        poke(alloc, disk, BlockNo(block), offset as usize, bytes)
+    } else {
+        Ok(())
+    }
+}
+
+// Whether bytes from an offset on lie within a block of the device.
+fn is_within(block: u32, offset: u32, bytes: &[u8], disk: &MemDisk) -> bool
+    ensures { result ≡ is_within block offset bytes.now disk.now }
+{
+    block < disk.blocks() && offset as usize + bytes.len() <= BLOCK_BYTES
 }
 
 // The script ends: what has happened since the last opening is run.

@@ -1,0 +1,16 @@
+-- A record of one fragment: its mark, and its message behind that.
+use Rattle.std.proofs.Common.{◌≡◌, ◌+◌, ◌≤◌, ◌^◌, ℕ, List, ◌++◌, true, arith, drop, length, length-append}
+use Rattle.std.proofs.lemmas.List.{drop_at}
+use Rattle.rpc.proofs.Lengths.{word-length}
+use Rattle.rpc.specs.Records.{fragment}
+use Rattle.xdr.specs.Items.{word}
+
+pub mark_there : (text message : List ℕ) → text ≡ fragment true message → 4 ≤ length text
+mark_there text message is =
+    let long = length-append (word (2 ^ 31 + length message)) message in
+    let mark = word-length (2 ^ 31 + length message) in
+    rw is (omega arith)
+
+pub behind_mark : (text message : List ℕ) → text ≡ fragment true message → drop 4 text ≡ message
+behind_mark text message is =
+    rw is (drop_at (word (2 ^ 31 + length message)) message 4 (word-length (2 ^ 31 + length message)))
