@@ -139,6 +139,34 @@ def test_a_mode_that_was_not_settled_may_be_lost_or_kept(place):
         same(f"{calls} calls", root_mode(place, setting(calls, "new")), old)
 
 
+def test_the_files_are_told_behind_the_boot_number(place):
+    prints(place, "settled", setting(10, "old", "show"), "open boot 1", SET_REPLY, "open boot 2", NEW_ROOT)
+    for crash, left in ("old", OLD_ROOT), ("new", NEW_ROOT), ("0", OLD_ROOT), ("1", NEW_ROOT):
+        prints(place, f"crash {crash}", setting(3, crash, "show"), "open boot 1", "open boot 2", left)
+    # As the opening finds them: what happens from then on isn't there yet, and the reply comes behind them.
+    lines = image("show", *settled(SET))
+    prints(place, "before a call", lines, "open boot 1", OLD_ROOT, SET_REPLY)
+
+
+def test_files_of_each_kind_are_told(place):
+    made = [*settled(create(b"a")), *settled(write(FIRST_FILE, 10_000, b"hello")),
+            *settled(call(nfs.MKDIR, ROOT, b"d", nfs.new_attributes(mode=0o2710, uid=5, gid=6))),
+            *settled(call(nfs.SYMLINK, ROOT, b"l", NONE, b"target")), *settled(call(nfs.LINK, FIRST_FILE, ROOT, b"b"))]
+    told = ["1 dir 755 0 0 3 4096 1", "2 file 644 0 0 2 10005 1", "3 dir 2710 5 6 2 0 0", "4 link 777 0 0 1 6 1"]
+    found = printed(place, image(*made, "crash old", "open", "show"))
+    same("through the log", found[-5:], ["open boot 2", *told])
+    found = printed(place, image(*made, "crash old", "open", "crash old", "open", "show"))
+    same("at home", found[-5:], ["open boot 3", *told])
+
+
+def test_files_of_an_image_that_is_not_good_are_refused(place):
+    # The kind of the root: 9 is none. The opening doesn't look at it.
+    poked = image("crash old", poke(INODES, 128, b"\x09"), "open", "show", *asked(call(nfs.GETATTR, ROOT)))
+    found = printed(place, poked)
+    same("what is told", found[:3], ["open boot 1", "open boot 2", "show refused 3 Range"])
+    same("a call", nfs.result_of(replies(found)[0][1]), wire.words(nfs.IO))
+
+
 def test_a_script_without_an_end_of_line_and_with_comments(place):
     lines = ["# a comment", "", "   ", *setting(10, "old")]
     with open(place.path("script"), "w", encoding="ascii") as file:
@@ -411,7 +439,7 @@ def test_the_examples(place):
                 same(name, found.pop(0), f"open boot {boot}")
                 # (files are told by lines that begin with a number)
                 told = [it for it in found[: len(part)] if it[:1].isdigit()]
-                same(f"{name}, opening {boot}", told or part, part)
+                same(f"{name}, opening {boot}", told, part)
                 del found[: len(told)]
             elif part is None:
                 # The reply to the MKDIR.

@@ -7,14 +7,19 @@ use Rattle.sim.specs.declared.handed.Handed.{Handed}
 use Rattle.sim_words.specs.declared.command.Action.{Action}
 use Rattle.sim_words.specs.declared.command.Action.TheVariants as act
 
--- the events, the messages among them, and the device calls that fail, counted from the first of the opening
+-- the events, the messages among them, the device calls that fail, counted from the first of the opening, and whether
+-- the files are told
 pub record Happened : Type 0 where
   pub events : List Event
   pub handed : List Handed
   pub fails : List ℕ
+  pub shows : Bool
 
 abbrev pub nothing : Happened
-nothing = record { events = []; handed = []; fails = [] }
+nothing = record { events = []; handed = []; fails = []; shows = false }
+
+abbrev pub with_show : Happened → Happened
+with_show happened = record happened { shows = true }
 
 -- the message of what happens behind so many events, if it is one
 abbrev pub handed_by : ℕ → Action → List Handed
@@ -40,4 +45,5 @@ with_action moment action happened = record {
   events = happened.events ++ events_of moment action;
   handed = happened.handed ++ handed_by (length happened.events) action;
   fails = happened.fails ++ fails_of action;
+  shows = happened.shows;
 }

@@ -16,9 +16,10 @@ use Rattle.store_promise.specs.Transcript.{Report}
 use Rattle.store_promise.specs.declared.fault.OpenFault.{OpenFault}
 use Rattle.store_runs.specs.FormattedRun.{IsNewDevice, IsNotMade}
 use Rattle.sim.specs.Crashing.{IsLeft, IsPoked}
+use Rattle.sim.specs.Files.{HasLooked, Looked, looked_lines}
 use Rattle.sim.specs.Lines.{boot_line, format_refused_line, open_refused_line}
 use Rattle.sim.specs.Replies.{reply_lines}
-use Rattle.sim.specs.Segments.{Happened, nothing, with_action}
+use Rattle.sim.specs.Segments.{Happened, nothing, with_action, with_show}
 use Rattle.sim.specs.declared.stage.Stage.{Stage}
 use Rattle.sim.specs.declared.stage.Stage.TheVariants.{First, Open, Stopped, Refused}
 use Rattle.sim_words.specs.declared.command.Action.{Action}
@@ -49,21 +50,27 @@ pub record IsFailing (fails : List ℕ) (disk failing : MemDisk) : Type 0 where
 
 -- what happened was a run of the store, which keeps its promise and took all events; what it tells is printed
 pub record IsRun (disk : MemDisk) (happened : Happened) (left : MemDisk) (printed : List ℕ) : Type 0 where
+  pub seen : MemDisk
+  pub looked : Looked
   pub before : MemDisk
   pub report : Report
-  pub fails : IsFailing happened.fails disk before
+  pub looks : HasLooked happened.shows disk seen looked
+  pub fails : IsFailing happened.fails seen before
   pub promised : (tree : Tree) (first : ℕ) → IsPromised (Unit {0}) (memory_device before) (memory_device left) tree
       first WORKERS happened.events (Ok report)
   pub all : length report.told.steps ≡ length happened.events
-  pub prints : printed ≡ boot_line report.told.boot
+  pub prints : printed ≡ boot_line report.told.boot ++ looked_lines looked
       ++ reply_lines happened.handed report.told.steps report.told.answers
 
 -- or the image was refused, and that is printed
 pub record IsRefusal (disk : MemDisk) (happened : Happened) (printed : List ℕ) : Type 0 where
+  pub seen : MemDisk
+  pub looked : Looked
   pub before : MemDisk
   pub left : MemDisk
   pub fault : OpenFault
-  pub fails : IsFailing happened.fails disk before
+  pub looks : HasLooked happened.shows disk seen looked
+  pub fails : IsFailing happened.fails seen before
   pub promised : (tree : Tree) (first : ℕ) → IsPromised (Unit {0}) (memory_device before) (memory_device left) tree
       first WORKERS happened.events (Err fault)
   pub prints : printed ≡ open_refused_line fault
@@ -99,6 +106,11 @@ abbrev pub acted : Moment → Action → Stage → Stage
 acted moment action (Open disk happened) = Open disk (with_action moment action happened)
 acted moment action stage = stage
 
+-- the files are told, as the opening finds them
+abbrev pub shown : Stage → Stage
+shown (Open disk happened) = Open disk (with_show happened)
+shown stage = stage
+
 -- all that has happened is run, and then the device stops; an image that is refused ends the script
 abbrev pub IsStopped : Choice → Stage → Stage → List ℕ → Type 0
 IsStopped choice (Open disk happened) later printed =
@@ -129,7 +141,7 @@ Does moment stage command.Open later printed = (later ≡ opened stage) × (prin
 Does moment stage (command.Act action) later printed = (later ≡ acted moment action stage) × (printed ≡ [])
 Does moment stage (command.Crash choice) later printed = IsStopped choice stage later printed
 Does moment stage (command.Poke block offset bytes) later printed = HasPoked block offset bytes stage later printed
-Does moment stage command.Show later printed = IsIdle stage later printed
+Does moment stage command.Show later printed = (later ≡ shown stage) × (printed ≡ [])
 
 -- a moment that has a second of nanoseconds or more is none
 abbrev pub next_moment : Moment → Moment → Moment

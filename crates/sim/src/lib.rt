@@ -4,6 +4,7 @@
 mod crashing;
 mod events;
 mod fault;
+mod files;
 mod handed;
 mod image;
 mod lines;

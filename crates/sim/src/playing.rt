@@ -4,6 +4,7 @@ ghost use Rattle.disk.specs.Memory.{blocks_of, memory_device, past_of, to_fail};
 ghost use Rattle.sim.specs.Simulated.{HasPlayed, Prints, number_behind};
 
 use crate::fault::SimFault;
+use crate::files::{look, print_files};
 use crate::lines::{print_boot, print_open_refused};
 use crate::replies::print_replies;
 use crate::segment::Segment;
@@ -27,7 +28,9 @@ pub fn play<W: Write>(
         events,
         handed,
         fails,
+        shows,
     } = segment;
+    let files = look(alloc, &mut disk, shows);
     let_fail(&mut disk, &fails)?;
     let all = events.len();
     let (disk, ran) = run(alloc, disk, WORKERS as usize, events);
@@ -41,6 +44,7 @@ pub fn play<W: Write>(
                 return Err(SimFault::NoMemory);
             }
             print_boot(out, run.boot)?;
+            print_files(out, &files)?;
             print_replies(alloc, out, &run, &handed)?;
             Ok(Some(disk))
         }

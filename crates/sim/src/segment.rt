@@ -1,6 +1,6 @@
 //! What happens from an opening to a crash or to the end: one call of `run`.
 ghost use Rattle.std.specs.Prelude.{◌≡◌, OnOk};
-ghost use Rattle.sim.specs.Segments.{nothing, with_action};
+ghost use Rattle.sim.specs.Segments.{nothing, with_action, with_show};
 
 use crate::events::{drive, install, log, one_event};
 use crate::handed::Handed;
@@ -10,12 +10,14 @@ use std::alloc::{AllocError, Global};
 use std::marker::Model;
 use store::Event;
 
-/// The events so far, the messages among them, and the device calls that fail, counted from the opening's first.
+/// The events so far, the messages among them, the device calls that fail, counted from the opening's first, and whether
+/// the files are told.
 #[derive(Drop)]
 pub struct Segment {
     pub events: Vec<Event>,
     pub handed: Vec<Handed>,
     pub fails: Vec<u32>,
+    pub shows: bool,
 }
 
 impl Model for Segment {
@@ -23,7 +25,7 @@ impl Model for Segment {
 
     ghost Value = { Happened };
 
-    ghost view = { λ s. record { events = s.events.items; handed = s.handed.items; fails = s.fails.items } };
+    ghost view = { λ s. record { events = s.events.items; handed = s.handed.items; fails = s.fails.items; shows = s.shows } };
 }
 
 impl Segment {
@@ -35,7 +37,15 @@ impl Segment {
             events: Vec::new(alloc),
             handed: Vec::new(alloc),
             fails: Vec::new(alloc),
+            shows: false,
         }
+    }
+
+    /// The files are told.
+    pub fn show(&mut self)
+        ensures { self.new ≡ with_show self.old }
+    {
+        self.shows = true;
     }
 
     /// Something more happens at this moment.

@@ -1,7 +1,7 @@
 //! A script, command by command.
 ghost use Rattle.std.specs.Prelude.{◌≡◌, [], IfOk, OnOk};
 ghost use Rattle.sim.specs.Simulated.{Does, Ends, HasPoked, IsMade, IsPlayed, IsPokedWhere, IsStopped, Prints};
-ghost use Rattle.sim.specs.Simulated.{acted, is_within, moment_after, next_moment, opened};
+ghost use Rattle.sim.specs.Simulated.{acted, is_within, moment_after, next_moment, opened, shown};
 ghost use Rattle.model.specs.Sound.{SoundTime};
 
 use crate::crashing::{crashed, poke};
@@ -83,7 +83,7 @@ fn done<W: Write>(
             offset,
             bytes,
         } => Ok(poked(alloc, block, offset, bytes.as_slice(), stage)?),
-        Command::Show => Ok(stage),
+        Command::Show => Ok(shown(stage)),
     }
 }
 
@@ -132,6 +132,19 @@ fn acted(moment: Moment, action: Action, stage: Stage) -> Result<Stage, AllocErr
             Ok(Stage::Open(disk, segment))
         }
         other => Ok(other),
+    }
+}
+
+// The files are told, as the opening finds them.
+fn shown(stage: Stage) -> Stage
+    ensures { result ≡ shown stage }
+{
+    match stage {
+        Stage::Open(disk, mut segment) => {
+            segment.show();
+            Stage::Open(disk, segment)
+        }
+        other => other,
     }
 }
 
