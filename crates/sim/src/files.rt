@@ -11,18 +11,10 @@ use std::io::Write;
 use store::{Line, OpenFault, show};
 
 /// Looks at the files of an image, where they are to be told.
-pub fn look(
-    alloc: Global,
-    disk: &mut MemDisk,
-    shows: bool,
-) -> Option<Result<Vec<Line>, OpenFault>>
+pub fn look(alloc: Global, disk: &mut MemDisk, shows: bool) -> Option<Result<Vec<Line>, OpenFault>>
     ensures { HasLooked shows disk.old disk.new result }
 {
-    if shows {
-        Some(show(alloc, disk))
-    } else {
-        None
-    }
+    if shows { Some(show(alloc, disk)) } else { None }
 }
 
 /// Prints the files that were found, if they are to be told, or why they can't be told.
