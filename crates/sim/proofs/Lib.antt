@@ -1,3 +1,4 @@
+mod Looked
 mod Marks
 mod Printed
 mod Repeated

@@ -1,10 +1,13 @@
 -- What is printed, one thing behind another.
-use Rattle.std.proofs.Common.{◌≡◌, ◌∙◌, List, ℕ, [], ◌∷◌, ◌++◌, Option, Some, None, ap, sym, append_assoc, append-nil, refl, subst}
+use Rattle.std.proofs.Common.{◌≡◌, ◌∙◌, List, length, arith, inl, inr, ℕ, [], ◌∷◌, ◌++◌, Option, Some, None, ap, sym, append_assoc, append-nil, refl, subst}
 use Rattle.std.specs.Io.KnownBytes.{Appends}
 use Rattle.http_server.proofs.KnownLemmas.{Appends-then}
 use Rattle.nfs_types.specs.declared.ctx.Moment.{Moment}
-use Rattle.sim.specs.Simulated.{Comes, Does, Ends, IsPlayed, Prints, moment_after}
+use Rattle.disk.specs.declared.mem_disk.MemDisk.{MemDisk}
+use Rattle.sim.specs.Segments.{Happened}
+use Rattle.sim.specs.Simulated.{Comes, Does, Ends, HasPlayed, IsPlayed, Prints, moment_after}
 use Rattle.sim.specs.declared.stage.Stage.{Stage}
+use Rattle.sim.specs.declared.stage.Stage.TheVariants.{Open}
 use Rattle.sim_words.specs.declared.command.Command.{Command}
 
 -- nothing was printed
@@ -51,3 +54,18 @@ it_ends start moment first stage all written now then begun (printed, appends, e
   Appends-then written now then begun.printed printed begun.appends appends,
   begun.goes_on printed ends,
 )
+
+-- so it is where no command is left
+pub it_ends_at : (start moment : Moment) (first stage : Stage) (all left : List Command)
+    (written now then : Option (List ℕ)) → length left ≡ 0
+    → IsBegun start moment first stage all left written now → Prints now then (Ends stage)
+    → Prints written then (Comes start first all)
+it_ends_at start moment first stage all [] written now then none begun ends =
+    it_ends start moment first stage all written now then begun ends
+it_ends_at start moment first stage all (it ∷ left) written now then none begun ends = absurd (omega (arith, none))
+
+-- what a run prints, or a refusal, is the end of what an open store prints
+pub play_ends : (disk : MemDisk) (happened : Happened) (left : Option MemDisk) (printed : List ℕ)
+    → HasPlayed disk happened left printed → Ends (Open disk happened) printed
+play_ends disk happened (Some left) printed run = inl (left, run)
+play_ends disk happened None printed refusal = inr refusal

@@ -1,5 +1,5 @@
 -- The files of an image as lines.
-use Rattle.std.specs.Prelude.{◌≡◌, ℕ, Bool, true, false, List, [], ◌∷◌, ◌++◌, Option, Some, None, Result, Ok, Err, ⊥}
+use Rattle.std.specs.Prelude.{◌≡◌, ℕ, Bool, true, false, List, [], ◌∷◌, ◌++◌, Option, Some, None, Result, Ok, Err}
 use Rattle.std.specs.Prelude.{Vec, codes, flat_map}
 use Rattle.std.specs.Fmt.{decimal, digits}
 use Rattle.std.specs.declared.alloc.Global.{Global}

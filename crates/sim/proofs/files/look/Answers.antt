@@ -1,0 +1,5 @@
+use Rattle.std.proofs.Common.{true}
+use Rattle.sim.proofs.files.look.Goals as goal
+
+pub returns-then-shows : goal.returns-then-shows
+returns-then-shows c = rw c.if-shows.true (record { reads = c.show.ensures.reads; shown = c.show.ensures.shown tt })
