@@ -1,5 +1,5 @@
 -- A record of one fragment: its mark, and its message behind that.
-use Rattle.std.proofs.Common.{◌≡◌, ◌∙◌, ◌+◌, ◌-◌, ◌≤◌, ◌^◌, ℕ, List, ◌++◌, true, arith, drop, take, length, length-append}
+use Rattle.std.proofs.Common.{◌≡◌, ◌∙◌, ◌+◌, ◌-◌, ◌≤◌, ◌^◌, ℕ, List, true, arith, drop, take, length, length-append}
 use Rattle.std.proofs.lemmas.List.{drop_at, length-drop, take_all}
 use Rattle.rpc.proofs.Lengths.{word-length}
 use Rattle.rpc.specs.Records.{fragment}

@@ -43,4 +43,3 @@ pub lines_end : (written now : Option (List ℕ)) (handed : List Handed) (steps 
 lines_end written now handed steps answers index all printed =
     subst (λ (some : List Answer). Appends written now (reply_lines handed steps some))
     (take_all index answers all) printed
-

@@ -1,6 +1,6 @@
 -- What comes of a script: what is printed, command by command.
 use Rattle.std.specs.Prelude.{◌≡◌, ◌⊎◌, ◌+◌, ◌-◌, ◌^◌, ℕ, Bool, ◌&&◌, true, false, List, [], ◌∷◌, ◌++◌, map, min}
-use Rattle.std.specs.Prelude.{length, nat_lt, nat_le, if◌then◌else◌, Result, Ok, Err, Option, Some, None}
+use Rattle.std.specs.Prelude.{length, nat_lt, nat_le, if◌then◌else◌, Ok, Err, Option, Some, None}
 use Rattle.std.specs.Io.KnownBytes.{Appends}
 use Rattle.disk.specs.Memory.{blocks_of, memory_device, past_of, to_fail}
 use Rattle.disk.specs.declared.mem_disk.MemDisk.{MemDisk}

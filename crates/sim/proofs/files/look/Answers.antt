@@ -1,4 +1,3 @@
-use Rattle.std.proofs.Common.{true}
 use Rattle.sim.proofs.files.look.Goals as goal
 
 pub returns-then-shows : goal.returns-then-shows

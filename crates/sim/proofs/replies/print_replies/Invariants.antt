@@ -1,4 +1,4 @@
-use Rattle.std.proofs.Common.{drop, take}
+use Rattle.std.proofs.Common.{take}
 use Rattle.std.specs.Io.KnownBytes.{Appends}
 use Rattle.sim.specs.Replies.{reply_lines}
 use Rattle.sim.proofs.replies.print_replies.Given as goal

@@ -5,5 +5,13 @@ use Rattle.sim.proofs.Printed.{prints_nothing}
 use Rattle.sim.proofs.simulation.made.Goals as goal
 
 pub returns-in-Ok : goal.returns-in-Ok
-returns-in-Ok g c = ([], prints_nothing _, rw c.in-First.is (inl (c.in-Ok.disk, c.in-Ok.ensures.made,
-    ap (λ (happened : Happened). Open c.in-Ok.disk happened) c.new.ensures, refl)))
+returns-in-Ok g c = (
+  [],
+  prints_nothing _,
+  rw c.in-First.is (inl (
+    c.in-Ok.disk,
+    c.in-Ok.ensures.made,
+    ap (λ (happened : Happened). Open c.in-Ok.disk happened) c.new.ensures,
+    refl,
+  )),
+)

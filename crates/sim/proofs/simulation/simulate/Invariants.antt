@@ -1,4 +1,3 @@
-use Rattle.std.proofs.Common.{◌≡◌, ◌++◌, List}
 use Rattle.std.specs.Vec.Iter.{into_iter_items}
 use Rattle.model.specs.Sound.{SoundTime}
 use Rattle.sim.specs.declared.stage.Stage.TheVariants.{First}
