@@ -4,10 +4,10 @@
 mod crashing;
 mod events;
 mod fault;
-mod files;
 mod handed;
 mod image;
 mod lines;
+mod looking;
 mod playing;
 mod replies;
 mod segment;

@@ -4,8 +4,8 @@ ghost use Rattle.disk.specs.Memory.{blocks_of, memory_device, past_of, to_fail};
 ghost use Rattle.sim.specs.Simulated.{HasPlayed, Prints, number_behind};
 
 use crate::fault::SimFault;
-use crate::files::{look, print_files};
 use crate::lines::{print_boot, print_open_refused};
+use crate::looking::{look, print_files};
 use crate::replies::print_replies;
 use crate::segment::Segment;
 use disk::MemDisk;

@@ -2,7 +2,7 @@ use Rattle.std.proofs.Common.{append_assoc, rules}
 use Rattle.std.specs.Io.KnownBytes.{Appends}
 use Rattle.std.specs.Prelude.{OnOk}
 use Rattle.sim.specs.Files.{file_line}
-use Rattle.sim.proofs.files.print_line.Goals as goal
+use Rattle.sim.proofs.looking.print_line.Goals as goal
 
 pub returns : goal.returns
 returns g c =

@@ -1,5 +1,5 @@
 use Rattle.sim.proofs.Looked.{files_more}
-use Rattle.sim.proofs.files.print_lines.Goals as goal
+use Rattle.sim.proofs.looking.print_lines.Goals as goal
 
 pub lines-preserved : goal.lines-preserved
 lines-preserved g c =
