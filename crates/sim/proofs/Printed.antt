@@ -1,6 +1,7 @@
 -- What is printed, one thing behind another.
-use Rattle.std.proofs.Common.{◌≡◌, List, length, arith, inl, inr, ℕ, [], ◌∷◌, ◌++◌, Option, Some, None, sym, append_assoc, append-nil, refl, subst}
+use Rattle.std.proofs.Common.{◌≡◌, List, length, arith, inl, inr, ℕ, [], ◌∷◌, ◌++◌, Option, Some, None, sym, append_assoc, refl, subst}
 use Rattle.std.specs.Io.KnownBytes.{Appends}
+use Rattle.std.proofs.KnownBytes.{Appends-nil}
 use Rattle.http_server.proofs.KnownLemmas.{Appends-then}
 use Rattle.nfs_types.specs.declared.ctx.Moment.{Moment}
 use Rattle.disk.specs.declared.mem_disk.MemDisk.{MemDisk}
@@ -9,11 +10,6 @@ use Rattle.sim.specs.Simulated.{Comes, Does, Ends, HasPlayed, Prints, moment_aft
 use Rattle.sim.specs.declared.stage.Stage.{Stage}
 use Rattle.sim.specs.declared.stage.Stage.TheVariants.{Open}
 use Rattle.sim_words.specs.declared.command.Command.{Command}
-
--- nothing was printed
-pub prints_nothing : (written : Option (List ℕ)) → Appends written written []
-prints_nothing None = tt
-prints_nothing (Some bytes) = sym (append-nil bytes)
 
 -- something was printed that this is the beginning of: more of it is printed by the commands that are left
 pub record IsBegun (start moment : Moment) (outset stage : Stage) (all left : List Command)
@@ -26,7 +22,7 @@ pub it_begins : (moment : Moment) (stage : Stage) (all : List Command) (written 
     → IsBegun moment moment stage stage all all written written
 it_begins moment stage all written = record {
   printed = [];
-  appends = prints_nothing written;
+  appends = Appends-nil written;
   goes_on = λ more comes. comes;
 }
 

@@ -1,6 +1,7 @@
 -- The lines of answers, one behind another.
 use Rattle.std.proofs.Common.{Option, ◌≡◌, ◌∙◌, ◌+◌, ◌<◌, ◌≤◌, ℕ, List, [], ◌∷◌, ◌++◌, ap, sym, take, length, flat_map, append-nil, subst}
 use Rattle.std.specs.Io.KnownBytes.{Appends}
+use Rattle.std.proofs.KnownBytes.{Appends-nil}
 use Rattle.std.proofs.Math.ListN.{get_or}
 use Rattle.std.proofs.lemmas.List.{take_all, take_more}
 use Rattle.std.proofs.lemmas.Grind.{flat_map-append}
@@ -9,7 +10,6 @@ use Rattle.store_promise.specs.declared.events.Step.{Step}
 use Rattle.store_promise.specs.declared.transcript.Answer.{Answer}
 use Rattle.sim.specs.Replies.{answer_line, number_of, reply_lines}
 use Rattle.sim.specs.declared.handed.Handed.{Handed}
-use Rattle.sim.proofs.Printed.{prints_nothing}
 
 -- the bytes of one more
 pub flat_map_more : {X : Type 0} (f : X → List ℕ) (xs : List X) (index : ℕ) (d : X) → index < length xs
@@ -21,7 +21,7 @@ flat_map_more f xs index d there = ap (flat_map f) (take_more xs index d there)
 -- the lines of no answer are printed at first
 pub lines_begin : (written : Option (List ℕ)) (handed : List Handed) (steps : List (Option Step)) (answers : List Answer)
     → Appends written written (reply_lines handed steps (take 0 answers))
-lines_begin written handed steps answers = prints_nothing written
+lines_begin written handed steps answers = Appends-nil written
 
 -- and then one more
 pub lines_more : (written now then : Option (List ℕ)) (handed : List Handed) (steps : List (Option Step))

@@ -16,7 +16,7 @@ use store::{Answer, Run, Step, Verdict};
 const MARK_BYTES: usize = 4;
 
 /// Prints the replies of a run, each to the message that its worker was handed last before.
-#[tactic(auto, using(crate::proofs::Replied::lines_begin, crate::proofs::Replied::lines_more, crate::proofs::Replied::lines_end, crate::proofs::Printed::prints_nothing))]
+#[tactic(auto, using(crate::proofs::Replied::lines_begin, crate::proofs::Replied::lines_more, crate::proofs::Replied::lines_end))]
 pub fn print_replies<W: Write>(
     alloc: Global,
     out: &mut W,
