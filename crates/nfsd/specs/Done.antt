@@ -1,5 +1,5 @@
 -- What the program does for its arguments: what it prints, and which fault it tells.
-use Rattle.std.specs.Prelude.{◌≡◌, ℕ, ◌-◌, ◌≤◌, List, ◌++◌, [], ◌∷◌, Option, Some, None, Result, Ok, Err, OnOk, IfSome, ◌⊎◌, codes}
+use Rattle.std.specs.Prelude.{◌≡◌, ℕ, ◌-◌, ◌≤◌, List, ◌++◌, [], ◌∷◌, Option, Some, None, Result, Ok, Err, OnOk, IfSome, ◌⊎◌, codes, false}
 use Rattle.std.specs.Fmt.{decimal}
 use Rattle.std.specs.Io.KnownBytes.{Appends}
 use Rattle.std.specs.declared.io.Error.{Error}
