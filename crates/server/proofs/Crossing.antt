@@ -164,13 +164,11 @@ module _ (L G I : RattleType) (w : Whole.Ghosts G.Denot) (w' : Whole.Ghosts I.De
         ),
       ))
 
-  shared_sync : IsSync (Shared.the_row L G I w w' l l' l'')
-  shared_sync =
-      recorded_sync (Shared.the_field L G I w w' l l' l'').row _ _ (Shared.the_type L G I w w' l l' l'').to_one
-      (struct_sync (Declared.shape (Shared.the_type L G I w w' l l' l'')) (
-        search (locked_send, crosses, sendable) depth 60 fits 20000,
-        tt,
-      ))
+  shared_sync : IsSync (Shared.the_field L G I w w' l l' l'').row
+  shared_sync = struct_sync (Declared.shape (Shared.the_type L G I w w' l l' l'')) (
+    search (locked_send, crosses, sendable) depth 60 fits 20000,
+    tt,
+  )
 
   pub hall_sync : (P S : RattleType) → IsSend P → IsSend S → IsSync (Hall.the_row L G I P S w w' l l' l'')
   hall_sync P S p s =
