@@ -94,8 +94,8 @@ def is_refused(command, ran):
 
 
 def assert_most_refused(count, refusals):
-    """Few allocations can be done without: those of room that is only asked for ahead."""
-    is_so(f"of {count} allocations {refusals} were missed", count > 20 and refusals >= count - 8)
+    """Few allocations can be done without: those of room that is only asked for ahead, as for a list that is gathered."""
+    is_so(f"of {count} allocations {refusals} were missed", count > 20 and refusals >= count - 9)
 
 
 def test_each_allocation_of_format_that_fails_leaves_the_old_image(place):

@@ -11,6 +11,8 @@ OPTIONS = {
     "format": {"--blocks": "1024 1048576 16384", "--inodes": "32 65536 4096", "--time": "0 4294967295"},
     "once": {"--time": "0 4294967295"},
     "serve": {"--listen": "127.0.0.1:2049", "--workers": "1 64 4", "--connections": "0 4294967295"},
+    "check": {},
+    "show": {},
 }
 
 
@@ -81,12 +83,14 @@ def test_each_option_may_stand_anywhere_and_has_its_default(place):
 
 # Arguments behind the program's name that ask for nothing, and numbers that are none of 32 bits.
 SENSELESS = [
-    [], ["--help"], ["--version"], ["help"], ["check"], ["check", "image"], ["sim", "script"],
+    [], ["--help"], ["--version"], ["help"],
+    ["check"], ["check", "image", "other"], ["check", "image", "--time", "1"], ["show"], ["show", "--help"],
     ["serve"], ["serve", "image"], ["serve", "--listen", "127.0.0.1:0"], ["serve", "image", "--listen"],
     ["serve", "image", "--listen", "127.0.0.1:0", "--time", "1"], ["format"], ["format", "--help"],
     ["format", "image", "other"], ["format", "image", "--workers", "1"], ["format", "image", "--blocks", "many"],
     ["once"], ["once", "image"], ["once", "--time", "1"], ["once", "image", "--time"],
     ["once", "image", "--time", "1", "--time", "2"],
+    ["sim", "script"],
 ]
 NO_NUMBERS = ["", "x", "-1", "1.5", "0x10", "4294967296", "18446744073709551616"]
 

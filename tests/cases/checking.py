@@ -360,6 +360,10 @@ class Spoiled:
         self.image = images.Image(images.several(), blocks=1030, boot=2**40)
         self.whole = contents(self.image.write(place.path("image")))
 
+    def fault_of(self, image):
+        """What is asked: this reader, or in its place another."""
+        return fault_of(image)
+
     def number(self, *names):
         return self.image.root.below(*names).number
 
@@ -406,12 +410,12 @@ def eight(number):
 def assert_faults(it, fault, rows):
     """Each of these changes alone makes an image of this fault."""
     for what, changes in rows.items():
-        same(f"{fault}: {what}", fault_of(it.with_bytes(*changes)), fault)
+        same(f"{fault}: {what}", it.fault_of(it.with_bytes(*changes)), fault)
 
 
-def test_the_faults_of_block_0_and_of_the_log(place):
-    it = Spoiled(place)
-    same("the whole image", fault_of(it.whole), None)
+def test_the_faults_of_block_0_and_of_the_log(place, spoiled=Spoiled):
+    it = spoiled(place)
+    same("the whole image", it.fault_of(it.whole), None)
     assert_faults(it, MAGIC, {f"byte {at}": [(at, b"\xff")] for at in range(8)})
     assert_faults(it, VERSION, {f"version {number}": [(8, four(number))] for number in (0, 2, 256, 2**24)})
     assert_faults(it, RANGE, {
@@ -426,11 +430,11 @@ def test_the_faults_of_block_0_and_of_the_log(place):
         "the last one": [(4095, b"\1")],
         "the last boot number": [(24, b"\xff" * 8)],
     })
-    same("the last boot number but one", fault_of(it.with_bytes((24, eight(2**64 - 2)))), None)
+    same("the last boot number but one", it.fault_of(it.with_bytes((24, eight(2**64 - 2)))), None)
     for size in BLOCK_BYTES * 1029, len(it.whole) - 1, len(it.whole) + BLOCK_BYTES:
-        same(f"a file of {size} bytes", fault_of(it.whole.ljust(size, b"\0")[:size]), RANGE)
+        same(f"a file of {size} bytes", it.fault_of(it.whole.ljust(size, b"\0")[:size]), RANGE)
     for size in 0, 7, BLOCK_BYTES - 1:
-        same(f"a file of {size} bytes", fault_of(it.whole[:size]), MAGIC)
+        same(f"a file of {size} bytes", it.fault_of(it.whole[:size]), MAGIC)
     end, start, home = BLOCK_BYTES * images.LOG_HEADER, BLOCK_BYTES * images.START, BLOCK_BYTES * images.LOG_HEADER + 8
     assert_faults(it, LOG, {
         "an end behind the start": [(start, eight(1))],
@@ -442,11 +446,11 @@ def test_the_faults_of_block_0_and_of_the_log(place):
     })
     # Position 511 lies in the first slot again; what no position uses isn't looked at.
     used = [(start, eight(511)), (end, eight(512)), (home, eight(1029)), (home + 8, b"\xff" * 4080)]
-    same("one position", fault_of(it.with_bytes(*used)), None)
+    same("one position", it.fault_of(it.with_bytes(*used)), None)
 
 
-def test_the_faults_that_one_file_shows_by_itself(place):
-    it = Spoiled(place)
+def test_the_faults_that_one_file_shows_by_itself(place, spoiled=Spoiled):
+    it = spoiled(place)
     hello, below, full, link = it.inode(b"hello"), it.inode(b"below"), it.inode(b"full"), it.inode(b"\xff\1")
     far, free = it.block(8, b"last byte"), BLOCK_BYTES * it.image.table + INODE_BYTES * 40
     data, slot = it.image.data, it.slot(b"hello")
@@ -494,8 +498,8 @@ def test_the_faults_that_one_file_shows_by_itself(place):
     })
 
 
-def test_the_faults_of_owners_and_bitmaps(place):
-    it = Spoiled(place)
+def test_the_faults_of_owners_and_bitmaps(place, spoiled=Spoiled):
+    it = spoiled(place)
     hello, border, far = it.inode(b"hello"), it.inode(b"border"), it.block(8, b"last byte")
     one, other = it.numbers(b"hello")[:2]
     assert_faults(it, SHARED, {
@@ -522,8 +526,8 @@ def test_the_faults_of_owners_and_bitmaps(place):
     })
 
 
-def test_the_faults_of_the_tree(place):
-    it = Spoiled(place)
+def test_the_faults_of_the_tree(place, spoiled=Spoiled):
+    it = spoiled(place)
     hello, below, deep, link = it.inode(b"hello"), it.inode(b"below"), it.inode(b"below", b"deep"), it.inode(b"\xff\1")
     root, slot = it.inode(), it.slot(b"hello")
     inode_0 = BLOCK_BYTES * it.image.table
@@ -563,9 +567,9 @@ def test_the_faults_of_the_tree(place):
     assert_faults(it, TREE, {"directories that aren't reached": lost})
 
 
-def test_of_several_faults_the_first_is_told(place):
+def test_of_several_faults_the_first_is_told(place, spoiled=Spoiled):
     """Also where what shows it lies behind the others."""
-    it = Spoiled(place)
+    it = spoiled(place)
     changes = [
         (MAGIC, (0, b"x")),
         (VERSION, (8, b"\2")),
@@ -581,9 +585,9 @@ def test_of_several_faults_the_first_is_told(place):
     ]
     for at, (fault, change) in enumerate(changes):
         for behind in range(at, len(changes)):
-            found = fault_of(it.with_bytes(change, changes[behind][1]))
+            found = it.fault_of(it.with_bytes(change, changes[behind][1]))
             same(f"{fault} before {changes[behind][0]}, changes {at} and {behind}", found, fault)
-        same(f"{fault} before all behind it", fault_of(it.with_bytes(*(change for _, change in changes[at:]))), fault)
+        same(f"{fault} before all behind it", it.fault_of(it.with_bytes(*(change for _, change in changes[at:]))), fault)
 
 
 def test_the_log_counts_where_it_lies_over_a_fault(place):

@@ -389,7 +389,7 @@ def test_a_device_that_fails_is_told_to_each_client_and_at_the_end(place):
         client.refuse(nfs.IO, nfs.GETATTR, ROOT)
         same("NULL", wire.record(client.reply(wire.null_call(9))), wire.null_reply(9))
         client.close()
-    server.end(1, b"nfsd: 6 Device\n")
+    server.end_broken(rb"a write of the image failed: File too large \(os error 27\)")
     place.attributes(image, NEW_MODE, MADE, "the next server")
 
 

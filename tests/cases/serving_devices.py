@@ -8,7 +8,7 @@ import threading
 from cases import nfs, wire
 from cases.allocations import library
 from cases.conversing import ROOT, ROOT_USER
-from cases.running import MADE, Skipped, expect, is_so, same, told, wait_until
+from cases.running import MADE, Skipped, expect, is_so, read_exactly, same, told, wait_until
 from cases.serving_kills import CLIENTS, Worker, assert_kept, moments_of, tree_of
 from cases.tcp import Server, next_reply
 
@@ -192,7 +192,7 @@ def until_refused(worker, moments):
     worker.client.close()
 
 
-def assert_fails_under_load(place, sign):
+def assert_fails_under_load(place, sign, cause):
     image, signs = place.image(), Signs(place)
     server = Server(place, image, connections=CLIENTS, **signs.given)
     moments, seed = moments_of()
@@ -214,7 +214,7 @@ def assert_fails_under_load(place, sign):
         it.join()
     if failed:
         raise failed[0]
-    server.end(1, b"nfsd: 6 Device\n")
+    server.end_broken(cause)
     # The next one, on a device that is whole again, finds all that was answered.
     found = tree_of(place, image)
     for it in workers:
@@ -222,11 +222,29 @@ def assert_fails_under_load(place, sign):
 
 
 def test_a_device_that_fails_under_load_loses_nothing_that_was_answered(place):
-    assert_fails_under_load(place, "fail")
+    assert_fails_under_load(place, "fail", rb"a (write|sync) of the image failed: Input/output error \(os error 5\)")
 
 
 def test_a_full_disk_under_load_loses_nothing_that_was_answered(place):
-    assert_fails_under_load(place, "full")
+    assert_fails_under_load(place, "full", rb"a write of the image failed: No space left on device \(os error 28\)")
+
+
+def test_a_broken_store_is_told_at_once(place):
+    signs = Signs(place)
+    server = Server(place, place.image(), connections=1, **signs.given)
+    client = server.client()
+    signs.set("fail")
+    client.refuse(nfs.IO, nfs.SETATTR, ROOT, nfs.new_attributes(mode=0o700), None)
+    # The server still runs: one line was told, and no other comes until it ends.
+    line = b""
+    while not line.endswith(b"\n"):
+        line += read_exactly(server.ran.stderr, 1, f"a line behind {line!r}")
+    is_so(f"the line is {line}", line.endswith(b": a write of the image failed: Input/output error (os error 5)\n"))
+    for it in (nfs.GETATTR, nfs.GETATTR):
+        client.refuse(nfs.IO, it, ROOT)
+    is_so("a second line was told", not select.select([server.ran.stderr], [], [], 0)[0])
+    client.close()
+    server.end(1, b"nfsd: 6 Device\n")
 
 
 class LoopDevice:

@@ -1,10 +1,12 @@
 """A server over TCP, and clients of it."""
 
+import os
+import re
 import socket
 import struct
 
 from cases import conversing, wire
-from cases.running import SECONDS, is_so, read_exactly, same
+from cases.running import SECONDS, is_so, read_exactly, same, wait_until
 
 MOUNT_PROGRAM, MNT, UMNT = 100005, 1, 3
 LOCAL = "127.0.0.1"
@@ -51,6 +53,20 @@ class Server:
         """It ends by itself, with this status."""
         output, told = self.ran.communicate(timeout=SECONDS)
         same("what the server printed, told and ended with", (output, told, self.ran.returncode), (b"", errors, status))
+
+    def end_broken(self, pattern):
+        """It ends by itself with the fault of a device, behind a line with the time that has this pattern."""
+        output, errors = self.ran.communicate(timeout=SECONDS)
+        same("what the server printed and ended with", (output, self.ran.returncode), (b"", 1))
+        line, _, rest = errors.partition(b"\n")
+        date = rb"[A-Z][a-z]{2}, \d\d [A-Z][a-z]{2} \d{4} \d\d:\d\d:\d\d GMT"
+        is_so(f"what it told at once: {line}", re.fullmatch(rb"nfsd: " + date + rb": " + pattern, line) is not None)
+        same("what it told at the end", rest, b"nfsd: 6 Device\n")
+
+    def wait_until_idle(self):
+        """Waits until each of its threads waits: with no call under way none of them goes on by itself."""
+        # (none may have been between two waits at two looks in a row)
+        wait_until("a server whose threads all wait", lambda: all(are_asleep(self.ran.pid) for _ in range(3)))
 
     def kill(self):
         self.ran.kill()
@@ -103,3 +119,17 @@ def spent(process):
     with open(f"/proc/{process}/stat", encoding="utf-8") as file:
         fields = file.read().rpartition(")")[2].split()
     return int(fields[11]) + int(fields[12])
+
+
+def are_asleep(process):
+    """Whether each thread of a process waits for something."""
+    for thread in os.listdir(f"/proc/{process}/task"):
+        try:
+            with open(f"/proc/{process}/task/{thread}/stat", encoding="utf-8") as file:
+                state = file.read().rpartition(")")[2].split()[0]
+        except (FileNotFoundError, ProcessLookupError):
+            # it has just ended
+            return False
+        if state != "S":
+            return False
+    return True

@@ -2,6 +2,7 @@
 ghost use Rattle.std.specs.Prelude.{◌≡◌, IsFalse, IsTrue};
 ghost use Rattle.log_seats.specs.OneCall.{MakesOne};
 ghost use Rattle.log_seats.specs.Steps.{InstComesBack, InstGoesOut, LogComesBack, LogGoesOut, comes_back, goes_out};
+ghost use Rattle.txn.specs.Answering.{OfSome};
 ghost use Rattle.wal.specs.Sides.{call_is_made, may_call};
 ghost use Rattle.wal_law.specs.Calls.{InstCallIsMade, LogCallIsMade};
 ghost use Rattle.wal_law.specs.Installer.{may_install};
@@ -15,7 +16,7 @@ use txn::{Change, Core};
 /// there was. One that doesn't lie on the disk has failed.
 pub fn make_one<C: Change, D: CrashDisk>(side: Side, core: &mut Core<C>, disk: &mut D) -> bool
     ensures may { result ≡ may_call side core.old.log }
-    ensures one { IsTrue result → MakesOne (goes_out side) (call_is_made side) (comes_back side) C.is_plan core.old
+    ensures one { IsTrue result → MakesOne (goes_out side) (call_is_made side) (comes_back side) (OfSome C.is_plan) core.old
         (D.device disk.old) core.new (D.device disk.new) }
     ensures none { IsFalse result → (core.new ≡ core.old) × (D.device disk.new ≡ D.device disk.old) }
     ensures blocks { core.new.log.blocks ≡ core.old.log.blocks }
@@ -38,7 +39,7 @@ pub fn make_one<C: Change, D: CrashDisk>(side: Side, core: &mut Core<C>, disk: &
 /// The logger's next, where there is one.
 pub fn log_one<C: Change, D: CrashDisk>(core: &mut Core<C>, disk: &mut D) -> bool
     ensures may { result ≡ may_log core.old.log }
-    ensures one { IsTrue result → MakesOne LogGoesOut LogCallIsMade LogComesBack C.is_plan core.old
+    ensures one { IsTrue result → MakesOne LogGoesOut LogCallIsMade LogComesBack (OfSome C.is_plan) core.old
         (D.device disk.old) core.new (D.device disk.new) }
     ensures none { IsFalse result → (core.new ≡ core.old) × (D.device disk.new ≡ D.device disk.old) }
     ensures blocks { core.new.log.blocks ≡ core.old.log.blocks }
@@ -52,7 +53,7 @@ pub fn log_one<C: Change, D: CrashDisk>(core: &mut Core<C>, disk: &mut D) -> boo
 /// The installer's next, where there is one.
 pub fn install_one<C: Change, D: CrashDisk>(core: &mut Core<C>, disk: &mut D) -> bool
     ensures may { result ≡ may_install core.old.log }
-    ensures one { IsTrue result → MakesOne InstGoesOut InstCallIsMade InstComesBack C.is_plan core.old
+    ensures one { IsTrue result → MakesOne InstGoesOut InstCallIsMade InstComesBack (OfSome C.is_plan) core.old
         (D.device disk.old) core.new (D.device disk.new) }
     ensures none { IsFalse result → (core.new ≡ core.old) × (D.device disk.new ≡ D.device disk.old) }
     ensures blocks { core.new.log.blocks ≡ core.old.log.blocks }

@@ -1,1 +1,4 @@
 pub mod Obeyed
+pub mod OfDevice
+pub mod OfImage
+pub mod Printed

@@ -1,28 +1,31 @@
 -- What follows from what the program did.
 use Rattle.std.proofs.Common.{◌≡◌, ◌∙◌, ℕ, ◌-◌, ◌⊎◌, ap, inl, inr, List, Option, Ok, Err, arith, refl, subst}
 use Rattle.std.proofs.Common.{Result, Some, sym}
-use Rattle.std.specs.Prelude.{IfErr, OnOk}
+use Rattle.std.specs.Prelude.{IfErr, IfOk, OnOk}
 use Rattle.std.specs.Io.KnownBytes.{Appends}
 use Rattle.clap.specs.Words.{Text}
 use Rattle.disk.specs.declared.file.FirstContents.{FirstContents}
 use Rattle.disk.specs.Device.{Device}
 use Rattle.nfsd_words.specs.declared.Args.{Args}
-use Rattle.nfsd_words.specs.declared.Args.TheVariants.{Format, Once, Serve}
+use Rattle.nfsd_words.specs.declared.Args.TheVariants.{Check, Format, Once, Serve, Show}
 use Rattle.nfsd_words.specs.Words.{HasMeaning, WordsAsk}
 use Rattle.layout.specs.Geometry.{data_at}
 use Rattle.store_images.specs.Formatting.{HasFormatted}
 use Rattle.nfs_types.specs.declared.ctx.Moment.{Moment}
-use Rattle.session.specs.Serving.{Client, HasServed}
+use Rattle.session.specs.Serving.{Client, HasServed, client_of}
 use Rattle.session.specs.declared.serving.SessionFault.{SessionFault}
 use Rattle.store_images.specs.Opening.{HasOpened, Opened}
+use Rattle.pool.specs.declared.ending.Ended.{Ended}
 use Rattle.server.specs.declared.serving.ServeFault.{ServeFault}
 use Rattle.server.specs.declared.serving.ServeFault.TheVariants as server
 use Rattle.nfsd.specs.declared.fault.Fault.{Fault}
 use Rattle.nfsd.specs.declared.fault.Fault.TheVariants as fault
-use Rattle.nfsd.specs.Done.{Answers, AreAsked, DoesCommand, FormatsDevice, IsAnnounced, IsWithoutMemory, Obeys, Outcome}
+use Rattle.nfsd.specs.Done.{Answers, AreAsked, DoesCommand, FormatsDevice, IsWithoutMemory, Obeys, Outcome}
 use Rattle.nfsd.specs.Done.{ServesClients, ServesDevice, TellsOutcome, Told, device_of, formatted_line}
-use Rattle.nfsd.specs.Done.{listening_line, moment_at, outcome_of_server}
+use Rattle.nfsd.specs.Done.{moment_at, outcome_of_server}
 use Rattle.nfsd.specs.Faults.{status_of_outcome}
+use Rattle.nfsd.specs.Lines.{IsAnnouncedBy}
+use Rattle.nfsd.specs.Looked.{ChecksImage, ShowsImage}
 
 -- the command that was asked for was done, so the arguments were obeyed
 pub obeys_command : (first : FirstContents) (words : List Text) (args : Args) (client : Client)
@@ -44,7 +47,16 @@ obeys_command first words (Serve image listen workers connections) client (Err f
     does = absurd does.2
 obeys_command first words (Serve image listen workers connections) client (Err (fault.Words e)) device later asks
     does = absurd does.2
+obeys_command first words (Check image) client (Err fault.NotText) device later asks does = absurd does.1.5
+obeys_command first words (Check image) client (Err fault.Memory) device later asks does = absurd does.1.5
+obeys_command first words (Check image) client (Err (fault.Words e)) device later asks does = absurd does.1.5
+obeys_command first words (Show image) client (Err fault.NotText) device later asks does = absurd does.1.5
+obeys_command first words (Show image) client (Err fault.Memory) device later asks does = absurd does.1.5
+obeys_command first words (Show image) client (Err (fault.Words e)) device later asks does = absurd does.1.5
 obeys_command first words args client outcome device later asks does = (args, asks, does)
+
+same_client : (client later : Client) → later.unread ≡ client.unread → later.written ≡ client.written → later ≡ client
+same_client client later unread written = λ i. record { unread = unread i; written = written i }
 
 -- a device was made an image, and the line of its counts was printed or wasn't
 pub prints : (old new : Device) (inodes time count : ℕ) (written written' : Option (List ℕ)) (outcome : Outcome)
@@ -83,29 +95,28 @@ serves old new time client later opened store moment result outcome opens at ser
     go (Ok count) served = (opened, store, count, opens, served, left)
     go (Err why) served = (opened, store, opens, served, left)
 
--- a device was opened, but where it listens wasn't printed
-pub unannounced : (old : Device) (written written' : Option (List ℕ)) (opened : Opened) (why : Fault)
-    (device : Option Device) → HasOpened old (Ok opened) → why ≡ fault.Print
-    → ServesClients old written (Err why) device written'
-unannounced old written written' opened why device opens is =
-    subst (λ (f : Fault). ServesClients old written (Err f) device written') (sym is) (opened, opens)
-
--- a device was opened, where it listens was printed, and what comes of it is what came of its server
+-- a device was opened, and what comes of it is what came of its server, which printed where it listens as that tells
 pub listens : (old : Device) (written written' : Option (List ℕ)) (opened : Opened) (address : List ℕ)
-    (ended : Result (Unit {0}) ServeFault) (outcome : Outcome) (device : Option Device)
-    → HasOpened old (Ok opened) → Appends written written' (listening_line address)
+    (ended : Result Ended ServeFault) (outcome : Outcome) (device : Option Device)
+    → HasOpened old (Ok opened) → IsAnnouncedBy written address ended written'
+    → IfOk ended (λ core. core.core.boot ≡ opened.core.boot)
     → outcome ≡ outcome_of_server ended → ServesClients old written outcome device written'
-listens old written written' opened address ended outcome device opens printed is =
-    subst (λ (o : Outcome). ServesClients old written o device written') (sym is) (go ended)
+listens old written written' opened address ended outcome device opens printed boot is =
+    subst (λ (o : Outcome). ServesClients old written o device written') (sym is) (go ended printed boot)
   where
-    shown : IsAnnounced old written written'
-    shown = (opened, opens, address, printed)
-
-    go : (ended : Result (Unit {0}) ServeFault)
+    go : (ended : Result Ended ServeFault) → IsAnnouncedBy written address ended written'
+        → IfOk ended (λ core. core.core.boot ≡ opened.core.boot)
         → ServesClients old written (outcome_of_server ended) device written'
-    go (Ok done) = shown
-    go (Err server.Memory) = shown
-    go (Err server.Device) = shown
+    go (Ok core) line boot = (
+      opened,
+      opens,
+      address,
+      line,
+      record { core = core.core; boot_is = boot; settled = core.settled; sound = core.sound },
+    )
+    go (Err server.Memory) same boot = (opened, opens, same)
+    go (Err server.Output) whatever boot = (opened, opens)
+    go (Err server.Device) line boot = (opened, opens, address, line)
 
 -- the device of the image's file was formatted, so the command was done
 pub formats_command : (first : FirstContents) (image : _) (blocks : Option ℕ) (size inodes time : ℕ) (new : Device)
@@ -137,6 +148,23 @@ listens_command first image listen workers connections size client (Err (fault.A
     serves = absurd serves
 listens_command first image listen workers connections size client outcome device later unread serves =
     (size, unread, serves)
+
+-- an image's file was looked at, so the command was done
+pub checks_command : (first : FirstContents) (image : _) (client : Client) (outcome : Outcome) (device : Option Device)
+    (later : Client) → later.unread ≡ client.unread
+    → ChecksImage first image.now client.written outcome device later.written
+    → DoesCommand first (Check image) client outcome device later
+checks_command first image client (Err (fault.File trouble)) device later unread checks =
+    (same_client client later unread checks.0, checks.1, inl checks.2)
+checks_command first image client outcome device later unread checks = (unread, checks)
+
+pub shows_command : (first : FirstContents) (image : _) (client : Client) (outcome : Outcome) (device : Option Device)
+    (later : Client) → later.unread ≡ client.unread
+    → ShowsImage first image.now client.written outcome device later.written
+    → DoesCommand first (Show image) client outcome device later
+shows_command first image client (Err (fault.File trouble)) device later unread shows =
+    (same_client client later unread shows.0, shows.1, inl shows.2)
+shows_command first image client outcome device later unread shows = (unread, shows)
 
 -- with status 2 the arguments have no meaning
 obeys_two : (first : FirstContents) (words : List Text) (client : Client) (outcome : Outcome)

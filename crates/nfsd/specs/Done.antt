@@ -1,17 +1,18 @@
 -- What the program does for its arguments: what it prints, and which fault it tells.
-use Rattle.std.specs.Prelude.{◌≡◌, ℕ, ◌-◌, ◌≤◌, List, ◌++◌, [], ◌∷◌, Option, Some, None, Result, Ok, Err, OnOk, IfSome, ◌⊎◌, codes}
+use Rattle.std.specs.Prelude.{◌≡◌, ℕ, ◌-◌, ◌≤◌, List, ◌++◌, [], ◌∷◌, Option, Some, None, Result, Ok, Err, OnOk, IfSome, ◌⊎◌, codes, false}
 use Rattle.std.specs.Fmt.{decimal}
 use Rattle.std.specs.Io.KnownBytes.{Appends}
 use Rattle.std.specs.declared.io.Error.{Error}
 use Rattle.clap.specs.Words.{Text}
 use Rattle.limits.specs.declared.TheConstants.{MOST_BLOCKS}
 use Rattle.disk.specs.declared.file.FirstContents.{FirstContents}
-use Rattle.disk.specs.declared.file_disk.FileDisk.{FileDisk}
 use Rattle.disk.specs.Device.{Device}
 use Rattle.disk.specs.File.{file_device, first_in}
+use Rattle.wal_law.specs.Log.{settled_place}
+use Rattle.txn_law.specs.Core.{CoreState}
 use Rattle.nfs_types.specs.declared.ctx.Moment.{Moment}
 use Rattle.nfsd_words.specs.declared.Args.{Args}
-use Rattle.nfsd_words.specs.declared.Args.TheVariants.{Format, Once, Serve}
+use Rattle.nfsd_words.specs.declared.Args.TheVariants.{Check, Format, Once, Serve, Show}
 use Rattle.nfsd_words.specs.Words.{HasMeaning, WordsAsk}
 use Rattle.layout.specs.Geometry.{data_at}
 use Rattle.store_images.specs.Formatting.{HasFormatted}
@@ -22,7 +23,11 @@ use Rattle.server.specs.declared.serving.ServeFault.TheVariants as server
 use Rattle.session.specs.declared.serving.SessionFault.TheVariants as session
 use Rattle.nfsd.specs.declared.fault.Fault.{Fault}
 use Rattle.nfsd.specs.declared.fault.Fault.TheVariants as fault
+use Rattle.nfsd.specs.declared.image_disk.ImageDisk.{ImageDisk}
+use Rattle.nfsd.specs.declared.image_disk.ImageDisk.TheVariants.{Plain, Watched}
 use Rattle.nfsd.specs.Faults.{IsAbout, as_line, fault_line, status_of_outcome}
+use Rattle.nfsd.specs.Lines.{listening_line}
+use Rattle.nfsd.specs.Looked.{ChecksImage, ShowsImage}
 
 -- what came of the program: it is done, or there is a fault
 abbrev pub Outcome : Type 0
@@ -62,19 +67,26 @@ ServesDevice old time client (Err (fault.Open why)) new later = HasOpened old (E
     × (later ≡ client)
 ServesDevice old time client (Err other) new later = ⊥
 
--- `listening ADDRESS`
-abbrev pub listening_line : List ℕ → List ℕ
-listening_line address = as_line (codes "listening " ++ address)
-
 -- a device was opened as a store, and where it listens was printed
 abbrev pub IsAnnounced : Device → Option (List ℕ) → Option (List ℕ) → Type 0
 IsAnnounced old written written' = (opened : Opened) × HasOpened old (Ok opened)
     × (address : List ℕ) × Appends written written' (listening_line address)
 
--- `serve` of a device: it was opened as a store, where it listens was printed, and its clients were served; or
--- it was opened and that couldn't be printed; or it was refused, and nothing was printed
+-- each commit of a core that came of this store is settled
+pub record HasEnded (opened : Opened) : Type 0 where
+  pub core : CoreState
+  pub boot_is : core.boot ≡ opened.core.boot
+  pub settled : settled_place core.log ≡ core.log.places
+  pub sound : core.log.broken ≡ false
+
+-- `serve` of a device: it was opened as a store, where it listens was printed, its clients were served, and all is
+-- settled; or that device failed; or it was opened and that couldn't be printed, or no memory was left to begin with, and nothing was printed; or it was
+-- refused, and nothing was printed
 abbrev pub ServesClients : Device → Option (List ℕ) → Outcome → Option Device → Option (List ℕ) → Type 0
-ServesClients old written (Ok done) device written' = IsAnnounced old written written'
+ServesClients old written (Ok done) device written' = (opened : Opened) × HasOpened old (Ok opened)
+    × (address : List ℕ) × Appends written written' (listening_line address) × HasEnded opened
+ServesClients old written (Err (fault.Session session.NoMemory)) device written' = (opened : Opened)
+    × HasOpened old (Ok opened) × (written' ≡ written)
 ServesClients old written (Err (fault.Session why)) device written' = IsAnnounced old written written'
 ServesClients old written (Err fault.Print) device written' = (opened : Opened) × HasOpened old (Ok opened)
 ServesClients old written (Err (fault.Open why)) device written' = (new : Device) × (device ≡ Some new)
@@ -82,9 +94,10 @@ ServesClients old written (Err (fault.Open why)) device written' = (new : Device
 ServesClients old written (Err other) device written' = ⊥
 
 -- what comes of a server by how it ended
-abbrev pub outcome_of_server : Result (Unit {0}) ServeFault → Outcome
-outcome_of_server (Ok done) = Ok done
+abbrev pub outcome_of_server : {T : Type 0} → Result T ServeFault → Outcome
+outcome_of_server (Ok done) = Ok tt
 outcome_of_server (Err server.Memory) = Err (fault.Session session.NoMemory)
+outcome_of_server (Err server.Output) = Err fault.Print
 outcome_of_server (Err server.Device) = Err (fault.Session session.Device)
 
 -- the device of so many blocks of a file that held this when it was opened, before any call of it
@@ -92,9 +105,11 @@ abbrev pub device_of : FirstContents → ℕ → Device
 device_of first size = file_device (first_in first.blocks.items) size []
 
 -- the device that is handed back
-abbrev pub device_in : {F : Type 0} → Option (FileDisk F) → Option Device
+abbrev pub device_in : {F W : Type 0} → Option (ImageDisk F W) → Option Device
 device_in None = None
-device_in (Some disk) =
+device_in (Some (Plain disk)) =
+    Some (file_device (first_in disk.first.blocks.items) disk.blocks disk.file.calls.items)
+device_in (Some (Watched disk)) =
     Some (file_device (first_in disk.first.blocks.items) disk.blocks disk.file.calls.items)
 
 -- so many blocks are as many as are asked for, or no more than the most of an image, where no number is
@@ -102,15 +117,17 @@ abbrev pub AreAsked : Option ℕ → ℕ → Type 0
 AreAsked None size = size ≤ MOST_BLOCKS
 AreAsked (Some asked) size = size ≡ asked
 
--- the image of a command
+-- the image of a command, or its script
 abbrev pub image_of : Args → Text
 image_of (Format image blocks inodes time) = image.now
 image_of (Once image time) = image.now
 image_of (Serve image listen workers connections) = image.now
+image_of (Check image) = image.now
+image_of (Show image) = image.now
 
 -- The command that is asked for was done to the device of a file that held this, this came of it, and the device
--- is handed back as that left it, but for a device that was served from; or there is no device, and the fault is
--- that of the image's file, of what closed streams are filled from, or of the address.
+-- is handed back as that left it, but for a device that was served from; or a script was played; or there is no
+-- device, and the fault is that of the image's file, of what closed streams are filled from, or of the address.
 abbrev pub DoesCommand : FirstContents → Args → Client → Outcome → Option Device → Client → Type 0
 DoesCommand first args client (Err (fault.File trouble)) device later = (later ≡ client) × (device ≡ None)
     × (IsAbout trouble (image_of args) ⊎ IsAbout trouble (codes "/dev/null"))
@@ -124,6 +141,10 @@ DoesCommand first (Serve image listen workers connections) client (Err (fault.Ad
 DoesCommand first (Serve image listen workers connections) client outcome device later = (size : ℕ)
     × (later.unread ≡ client.unread)
     × ServesClients (device_of first size) client.written outcome device later.written
+DoesCommand first (Check image) client outcome device later = (later.unread ≡ client.unread)
+    × ChecksImage first image.now client.written outcome device later.written
+DoesCommand first (Show image) client outcome device later = (later.unread ≡ client.unread)
+    × ShowsImage first image.now client.written outcome device later.written
 
 -- The arguments were obeyed: the command that they ask for was done to a file that held this, or they have no
 -- meaning, or there was no memory to read them.

@@ -1,5 +1,6 @@
 -- What the program prints of a fault, and the status that it ends with.
 use Rattle.std.specs.Prelude.{◌≡◌, ℕ, List, [], ◌∷◌, ◌++◌, Option, None, Some, IfSome, Result, Ok, Err, codes, string_bytes}
+use Rattle.std.specs.Fmt.{decimal}
 use Rattle.std.specs.IoError.{error_kind}
 use Rattle.std.specs.declared.io.Error as io
 use Rattle.std.specs.declared.io.ErrorKind.TheVariants as io_kind
@@ -12,6 +13,9 @@ use Rattle.store_images.specs.declared.formatting.FormatFault.{FormatFault}
 use Rattle.store_images.specs.declared.formatting.FormatFault.TheVariants as format
 use Rattle.store_promise.specs.declared.fault.OpenFault.{OpenFault}
 use Rattle.store_promise.specs.declared.fault.OpenFault.TheVariants as opening
+use Rattle.image_check.specs.declared.fault.CheckFault.{CheckFault}
+use Rattle.image_check.specs.declared.fault.CheckFault.TheVariants as checking
+use Rattle.image_check.specs.declared.fault.Unlinked.{Unlinked}
 use Rattle.nfsd.specs.declared.fault.Fault.{Fault}
 use Rattle.nfsd.specs.declared.fault.Fault.TheVariants as fault
 use Rattle.nfsd.specs.declared.trouble.Reason.{Reason}
@@ -37,6 +41,28 @@ open_line opening.Range = as_line (codes "nfsd: 3 Range")
 open_line opening.Log = as_line (codes "nfsd: 4 Log")
 open_line opening.Device = as_line (codes "nfsd: 5 Device")
 open_line opening.NoMemory = as_line (codes "nfsd: 6 NoMemory")
+
+-- why an image isn't good, or can't be checked
+abbrev pub check_line : CheckFault → List ℕ
+check_line checking.Magic = as_line (codes "nfsd: 1 Magic")
+check_line checking.Version = as_line (codes "nfsd: 2 Version")
+check_line checking.Range = as_line (codes "nfsd: 3 Range")
+check_line checking.Log = as_line (codes "nfsd: 4 Log")
+check_line checking.Device = as_line (codes "nfsd: 5 Device")
+check_line checking.NoMemory = as_line (codes "nfsd: 6 NoMemory")
+check_line checking.Shared = as_line (codes "nfsd: 7 Shared")
+check_line checking.Bitmap = as_line (codes "nfsd: 8 Bitmap")
+check_line (checking.Tree it) = as_line (codes "nfsd: 9 Tree")
+
+-- `nfsd: inode N: links L, named M times`
+abbrev pub unlinked_line : Unlinked → List ℕ
+unlinked_line it = as_line (codes "nfsd: inode " ++ decimal it.inode ++ codes ": links " ++ decimal it.links
+    ++ codes ", named " ++ decimal it.named ++ codes " times")
+
+-- the second line of such a fault, where a file is known that isn't named as often as it has links
+abbrev pub second_line : CheckFault → List ℕ
+second_line (checking.Tree (Some it)) = unlinked_line it
+second_line other = []
 
 -- why a stream isn't served to its end
 abbrev pub session_line : SessionFault → List ℕ
@@ -113,6 +139,7 @@ fault_line (fault.Words error) = None
 fault_line (fault.File trouble) = Some (as_line (codes "nfsd: file") ++ trouble_line trouble)
 fault_line (fault.Format why) = Some (format_line why)
 fault_line (fault.Open why) = Some (open_line why)
+fault_line (fault.Check why) = Some (check_line why ++ second_line why)
 fault_line (fault.Session why) = Some (session_line why)
 fault_line fault.Print = Some (as_line (codes "nfsd: output"))
 fault_line (fault.Address trouble) = Some (as_line (codes "nfsd: address") ++ trouble_line trouble)

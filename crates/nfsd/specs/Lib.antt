@@ -1,2 +1,4 @@
 pub mod Done
 pub mod Faults
+pub mod Lines
+pub mod Looked

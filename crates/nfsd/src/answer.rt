@@ -9,19 +9,24 @@ ghost use Rattle.nfsd.specs.Faults.{status_of_outcome};
 use crate::device::{format_device, serve_device};
 use crate::fault::Fault;
 use crate::fault_stream::FaultStream;
-use crate::image_files::{make_image, open_for_threads, open_image};
+use crate::image_disk::ImageDisk;
+use crate::locked_files::{make_image, open_image};
+use crate::looking::{check_image, show_image};
+use crate::read_files::SharedFile;
 use crate::streams::{Streams, fill};
 use crate::tcp::{listen_at, serve_clients};
 use crate::trouble::Trouble;
-use disk::{BlockFile, FileDisk, FirstContents};
+use crate::watched_image::open_for_threads;
+use disk::{BlockFile, FirstContents};
 use nfsd_words::{Args, words};
 use session::Input;
 use std::fs::Files;
-use std::io::{Read, Write};
+use std::io::{Eprint, Read, Write};
 use std::net::{Net, TcpListener, TcpStream};
 use std::sync::Wait;
 use std::thread::Threads;
 use std::time::Clock;
+use watched_files::{Alarm, WatchedFile};
 
 /// Tells a fault on `faults`, where that can be done, and gives the exit status.
 pub fn conclude<E: Write>(faults: &mut FaultStream<E>, outcome: &Result<(), Fault>) -> u8
@@ -39,15 +44,16 @@ pub fn conclude<E: Write>(faults: &mut FaultStream<E>, outcome: &Result<(), Faul
 /// Does what the arguments ask for, of which the first is the program's name, tells a fault on `faults`, and
 /// gives the exit status: 0 where it is done, 2 where the arguments have no meaning, and else 1. `first` is
 /// what the image's file holds when it is opened: no code reads it, and the clauses hold of each. The device of
-/// the image is handed back as the command left it.
-pub fn answer<R, I, O, E>(
+/// the image is handed back as the command left it. Of a write or a sync of a server's image that fails `alarm` tells.
+pub fn answer<'a, R, I, O, E>(
     rt: &R,
+    alarm: &'a Alarm<'a, R>,
     line: &[&str],
     first: FirstContents,
     reader: &mut Input<I>,
     writer: &mut O,
     faults: &mut FaultStream<E>,
-) -> (u8, Option<FileDisk<R::File>>)
+) -> (u8, Option<ImageDisk<R::File, WatchedFile<'a, R::File, R>>>)
 where
     R: Files
         + Streams
@@ -56,8 +62,9 @@ where
         + Threads
         + Wait
         + Clock
+        + Eprint
         + Sync,
-    R::File: BlockFile + Send + Sync,
+    R::File: BlockFile + SharedFile + Send + Sync,
     I: Read,
     O: Write,
     E: Write,
@@ -71,19 +78,23 @@ where
         ⊎ IsWithoutMemory faults.old.told.items (E.contents faults.old.stream) result.0
         faults.new.told.items (E.contents faults.new.stream) }
 {
-    let (disk, outcome) = obey(rt, line, first, reader, writer);
+    let (disk, outcome) = obey(rt, alarm, line, first, reader, writer);
     (conclude(faults, &outcome), disk)
 }
 
 // Does what the arguments ask for. No image is opened before each standard stream's descriptor is taken.
 #[tactic(auto, using(crate::proofs::Obeyed::obeys_command))]
-fn obey<R, I, O>(
+fn obey<'a, R, I, O>(
     rt: &R,
+    alarm: &'a Alarm<'a, R>,
     line: &[&str],
     first: FirstContents,
     reader: &mut Input<I>,
     writer: &mut O,
-) -> (Option<FileDisk<R::File>>, Result<(), Fault>)
+) -> (
+    Option<ImageDisk<R::File, WatchedFile<'a, R::File, R>>>,
+    Result<(), Fault>,
+)
 where
     R: Files
         + Streams
@@ -92,8 +103,9 @@ where
         + Threads
         + Wait
         + Clock
+        + Eprint
         + Sync,
-    R::File: BlockFile + Send + Sync,
+    R::File: BlockFile + SharedFile + Send + Sync,
     I: Read,
     O: Write,
     ensures { Obeys first (map (λ word. word.now) line.now)
@@ -111,18 +123,22 @@ where
             return (None, Err(Fault::File(trouble)));
         }
     };
-    command(rt, args, first, reader, writer)
+    command(rt, alarm, args, first, reader, writer)
 }
 
 // Does a command to the device of the image's file, and hands it back. A refusal to format leaves a file with its
 // new length.
-fn command<R, I, O>(
+fn command<'a, R, I, O>(
     rt: &R,
+    alarm: &'a Alarm<'a, R>,
     args: Args<'_>,
     first: FirstContents,
     reader: &mut Input<I>,
     writer: &mut O,
-) -> (Option<FileDisk<R::File>>, Result<(), Fault>)
+) -> (
+    Option<ImageDisk<R::File, WatchedFile<'a, R::File, R>>>,
+    Result<(), Fault>,
+)
 where
     R: Files
         + AllocGlobal
@@ -130,8 +146,9 @@ where
         + Threads
         + Wait
         + Clock
+        + Eprint
         + Sync,
-    R::File: BlockFile + Send + Sync,
+    R::File: BlockFile + SharedFile + Send + Sync,
     I: Read,
     O: Write,
     ensures { DoesCommand first args.entry
@@ -154,7 +171,7 @@ where
             };
             let mut disk = made.beginning_with(first);
             let outcome = format_device(rt.alloc(), &mut disk, inodes, time, writer);
-            (Some(disk), outcome)
+            (Some(ImageDisk::Plain(disk)), outcome)
         }
         Args::Once { image, time } => {
             let opened = match open_image(rt, image) {
@@ -166,7 +183,7 @@ where
             };
             let disk = opened.beginning_with(first);
             let (disk, outcome) = serve_device(rt.alloc(), disk, time, reader, writer);
-            (Some(disk), outcome)
+            (Some(ImageDisk::Plain(disk)), outcome)
         }
         Args::Serve {
             image,
@@ -178,7 +195,7 @@ where
                 Ok(listening) => listening,
                 Err(trouble) => return (None, Err(Fault::Address(trouble))),
             };
-            let opened = match open_for_threads(rt, image) {
+            let opened = match open_for_threads(rt, image, alarm) {
                 Ok(opened) => opened,
                 Err(error) => {
                     let trouble = Trouble::of_file(rt.alloc(), image, &error);
@@ -189,5 +206,7 @@ where
             let alloc = rt.alloc();
             serve_clients(rt, alloc, disk, &listening, workers, connections, writer)
         }
+        Args::Check { image } => check_image(rt, image, first, writer),
+        Args::Show { image } => show_image(rt, image, first, writer),
     }
 }

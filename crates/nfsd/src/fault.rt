@@ -2,12 +2,12 @@
 ghost use Rattle.std.specs.Prelude.{◌≡◌};
 ghost use Rattle.nfsd.specs.Faults.{fault_of_reading, fault_of_words, status_of};
 
-use crate::lines::{format_line, open_line, session_line};
+use crate::lines::{check_line, format_line, open_line, session_line};
 use crate::trouble::Trouble;
 use clap::error::ErrorKind;
 use session::SessionFault;
 use std::{fmt, io};
-use store::{FormatFault, OpenFault};
+use store::{CheckFault, FormatFault, OpenFault};
 
 /// Why the program didn't do what its arguments ask for. Its `Display` is the text for the user.
 #[derive(Debug, Drop)]
@@ -23,8 +23,10 @@ pub enum Fault {
     File(Option<Trouble>),
     /// The image can't be made.
     Format(FormatFault),
-    /// The image can't be opened.
+    /// The image can't be opened, or its files can't be shown.
     Open(OpenFault),
+    /// The image isn't good, or can't be checked.
+    Check(CheckFault),
     /// The records of the input weren't all answered.
     Session(SessionFault),
     /// The line of the answer can't be printed.
@@ -82,6 +84,12 @@ impl fmt::Display for Fault {
             }
             Fault::Format(fault) => f.write_str(format_line(*fault)),
             Fault::Open(fault) => f.write_str(open_line(*fault)),
+            Fault::Check(CheckFault::Tree(Some(it))) => write!(
+                f,
+                "nfsd: 9 Tree\nnfsd: inode {}: links {}, named {} times\n",
+                it.inode, it.links, it.named
+            ),
+            Fault::Check(fault) => f.write_str(check_line(*fault)),
             Fault::Session(fault) => f.write_str(session_line(*fault)),
             Fault::Print => f.write_str("nfsd: output\n"),
             Fault::Address(None) => f.write_str("nfsd: address\n"),

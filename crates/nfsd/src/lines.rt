@@ -1,10 +1,10 @@
 //! The lines that tell a fault: its number and its name.
 ghost use Rattle.std.specs.Prelude.{◌≡◌};
-ghost use Rattle.nfsd.specs.Faults.{format_line as line_of_format, open_line as line_of_open};
-ghost use Rattle.nfsd.specs.Faults.{session_line as line_of_session};
+ghost use Rattle.nfsd.specs.Faults.{check_line as line_of_check, format_line as line_of_format};
+ghost use Rattle.nfsd.specs.Faults.{open_line as line_of_open, session_line as line_of_session};
 
 use session::SessionFault;
-use store::{FormatFault, OpenFault};
+use store::{CheckFault, FormatFault, OpenFault};
 
 /// Why an image isn't made.
 pub fn format_line(fault: FormatFault) -> &'static str
@@ -29,6 +29,23 @@ pub fn open_line(fault: OpenFault) -> &'static str
         OpenFault::Log => "nfsd: 4 Log\n",
         OpenFault::Device => "nfsd: 5 Device\n",
         OpenFault::NoMemory => "nfsd: 6 NoMemory\n",
+    }
+}
+
+/// Why an image isn't good, or can't be checked.
+pub fn check_line(fault: CheckFault) -> &'static str
+    ensures { result.now ≡ line_of_check fault }
+{
+    match fault {
+        CheckFault::Magic => "nfsd: 1 Magic\n",
+        CheckFault::Version => "nfsd: 2 Version\n",
+        CheckFault::Range => "nfsd: 3 Range\n",
+        CheckFault::Log => "nfsd: 4 Log\n",
+        CheckFault::Device => "nfsd: 5 Device\n",
+        CheckFault::NoMemory => "nfsd: 6 NoMemory\n",
+        CheckFault::Shared => "nfsd: 7 Shared\n",
+        CheckFault::Bitmap => "nfsd: 8 Bitmap\n",
+        CheckFault::Tree(_) => "nfsd: 9 Tree\n",
     }
 }
 

@@ -1,33 +1,41 @@
-//! The program: makes images, and serves one client over the standard input and output, or many over TCP.
+//! The program: makes images, serves one client over the standard input and output, or many over TCP, and tells whether an
+//! image is good and which files it has.
 #![tactic(auto)]
 
+mod announcement;
 mod answer;
 mod arguments;
 mod device;
 mod fault;
 mod fault_stream;
-mod image_files;
+mod image_disk;
 mod lines;
+mod locked_files;
+mod looking;
+mod read_files;
 mod streams;
 mod tcp;
 mod trouble;
+mod watched_image;
 
 use crate::answer::{answer, conclude};
 use crate::arguments::arguments;
 use crate::fault::Fault;
 use crate::fault_stream::FaultStream;
+use crate::read_files::SharedFile;
 use crate::streams::Streams;
 use disk::{BlockFile, FirstContents};
 use session::Input;
 use std::alloc::AllocError;
 use std::env::Env;
 use std::fs::Files;
-use std::io::{Read, Write};
+use std::io::{Eprint, Read, Write};
 use std::net::{Net, TcpListener, TcpStream};
 use std::process::ExitCode;
 use std::sync::Wait;
 use std::thread::Threads;
 use std::time::Clock;
+use watched_files::Alarm;
 
 fn main(rt: HostRuntime) -> ExitCode {
     let input = Input::new(rt.reader());
@@ -45,13 +53,15 @@ where
         + Threads
         + Wait
         + Clock
+        + Eprint
         + Sync,
-    R::File: BlockFile + Send + Sync,
+    R::File: BlockFile + SharedFile + Send + Sync,
     I: Read + Drop,
     O: Write + Drop,
     E: Write + Drop,
 {
     let mut faults = FaultStream::new(errors);
+    let alarm = Alarm::new(rt);
     let given = match arguments(rt) {
         Ok(given) => given,
         Err(fault) => return conclude(&mut faults, &Err(fault)),
@@ -65,6 +75,7 @@ where
         Ok(line) => {
             let (status, _disk) = answer(
                 rt,
+                &alarm,
                 line.as_slice(),
                 FirstContents::whatever(),
                 &mut input,

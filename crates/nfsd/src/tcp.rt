@@ -1,14 +1,16 @@
 //! What the program does to a device whose files it serves over TCP.
-ghost use Rattle.std.specs.Prelude.{◌≡◌, IfErr, IfOk, OnOk};
-ghost use Rattle.std.specs.Io.KnownBytes.{Appends};
+ghost use Rattle.std.specs.Prelude.{◌≡◌, IfErr, IfOk, string_bytes};
 ghost use Rattle.disk.specs.File.{file_device, first_in};
-ghost use Rattle.nfsd.specs.Done.{ServesClients, device_in, listening_line, outcome_of_server};
+ghost use Rattle.nfsd.specs.Done.{ServesClients, device_in, outcome_of_server};
+ghost use Rattle.nfsd.specs.Lines.{IsAnnouncedBy};
 ghost use Rattle.nfsd.specs.Faults.{IsAbout};
 
+use crate::announcement::Announcement;
 use crate::fault::Fault;
+use crate::image_disk::ImageDisk;
 use crate::trouble::Trouble;
 use disk::{BlockFile, FileDisk};
-use server::{ServeFault, serve_store};
+use server::{Ended, ServeFault, serve_store};
 use session::SessionFault;
 use std::alloc::Global;
 use std::io::Write;
@@ -16,6 +18,7 @@ use std::net::{Net, TcpListener, TcpStream};
 use std::sync::Wait;
 use std::thread::Threads;
 use std::time::Clock;
+use store_images::Store;
 
 /// What listens at an address, and the address that it got, as text.
 #[derive(Drop)]
@@ -44,9 +47,9 @@ where
     }
 }
 
-/// Opens a device as a store, prints where it listens, and serves so many connections, or without end where
-/// that is 0. A device that is refused is handed back.
-pub fn serve_clients<F, R, O>(
+/// Opens a device as a store, prints where it listens once it can serve, and serves so many connections, or without end
+/// where that is 0. A device that is refused is handed back.
+pub fn serve_clients<P, F, R, O>(
     rt: &R,
     alloc: Global,
     disk: FileDisk<F>,
@@ -54,8 +57,9 @@ pub fn serve_clients<F, R, O>(
     workers: u32,
     connections: u32,
     writer: &mut O,
-) -> (Option<FileDisk<F>>, Result<(), Fault>)
+) -> (Option<ImageDisk<P, F>>, Result<(), Fault>)
 where
+    P: BlockFile,
     F: BlockFile + Send + Sync,
     R: Threads + Wait + Clock + Sync,
     O: Write,
@@ -64,33 +68,53 @@ where
 {
     let store = match store::open(alloc, disk) {
         Ok(store) => store,
-        Err((disk, fault)) => return (Some(disk), Err(Fault::Open(fault))),
+        Err((disk, fault)) => return (Some(ImageDisk::Watched(disk)), Err(Fault::Open(fault))),
     };
-    if let Err(fault) = announce(writer, listening.address.as_str()) {
-        let _disk = store::close(store);
-        return (None, Err(fault));
-    }
-    let listener = &listening.listener;
-    let ended = serve_store(rt, alloc, store, listener, workers, connections);
+    let ended = serve_announced(rt, alloc, store, listening, workers, connections, writer);
     (None, outcome_of(ended))
 }
 
-// Prints where it listens.
-fn announce<O: Write>(writer: &mut O, address: &str) -> Result<(), Fault>
-    ensures printed { OnOk result
-        (Appends (O.contents writer.old) (O.contents writer.new) (listening_line address.now)) }
-    ensures print { IfErr result (λ fault. fault ≡ Fault.Print) }
+// Serves from a store, and prints where it listens once it can serve.
+fn serve_announced<F, R, O>(
+    rt: &R,
+    alloc: Global,
+    store: Store<FileDisk<F>>,
+    listening: &Listening,
+    workers: u32,
+    connections: u32,
+    writer: &mut O,
+) -> Result<Ended, ServeFault>
+where
+    F: BlockFile + Send + Sync,
+    R: Threads + Wait + Clock + Sync,
+    O: Write,
+    ensures boot { IfOk result (λ ended. ended.core.boot ≡ store.core.boot) }
+    ensures told { IsAnnouncedBy (O.contents writer.old) (string_bytes listening.now.address) result
+        (O.contents writer.new) }
 {
-    writeln!(writer, "listening {address}").or(Err(Fault::Print))
+    let address = listening.address.as_str();
+    let announcement = Announcement { writer, address };
+    let listener = &listening.listener;
+    let (_, ended) = serve_store(
+        rt,
+        alloc,
+        store,
+        listener,
+        workers,
+        connections,
+        announcement,
+    );
+    ended
 }
 
 // What comes of a server by how it ended.
-fn outcome_of(ended: Result<(), ServeFault>) -> Result<(), Fault>
+fn outcome_of(ended: Result<Ended, ServeFault>) -> Result<(), Fault>
     ensures { result ≡ outcome_of_server ended }
 {
     match ended {
-        Ok(()) => Ok(()),
+        Ok(_) => Ok(()),
         Err(ServeFault::Memory) => Err(Fault::Session(SessionFault::NoMemory)),
+        Err(ServeFault::Output) => Err(Fault::Print),
         Err(ServeFault::Device) => Err(Fault::Session(SessionFault::Device)),
     }
 }

@@ -1,5 +1,5 @@
 -- What the getters of a parse give, as the rows that it found say.
-use Rattle.std.proofs.Common.{◌≡◌, ◌∙◌, ℕ, ◌^◌, ◌<◌, List, [], Option, Some, None, Result, ap, sym, subst, refl}
+use Rattle.std.proofs.Common.{◌≡◌, ◌∙◌, ℕ, ◌^◌, ◌<◌, List, [], ◌∷◌, Option, Some, None, Result, ap, sym, subst, refl, T, nat_eq}
 use Rattle.std.specs.Prelude.{IfNone, codes, option_map}
 use Rattle.std.specs.Borrow.{Bor}
 use Rattle.std.specs.Str.Parse.{ExplainsUnsignedError, HasUnsignedDigitsIfOk, ParsesUnsigned}
@@ -10,7 +10,7 @@ use Rattle.clap.proofs.WalkLemmas.{first_value-rows, one_text-rows}
 use Rattle.clap.specs.declared.ArgMatches.{ArgMatches}
 use Rattle.clap.specs.declared.error.kind.ErrorKind.{ErrorKind}
 use Rattle.nfsd_words.specs.declared.Args.{Args}
-use Rattle.nfsd_words.specs.declared.Args.TheVariants.{Format, Once, Serve}
+use Rattle.nfsd_words.specs.declared.Args.TheVariants.{Check, Format, Once, Serve, Show}
 use Rattle.nfsd_words.specs.Words.{Asks, IsNumber, IsNumberOrNone}
 
 -- a text that `get_str` gave stands first in its row
@@ -76,12 +76,26 @@ pub number_or_none_found : (m : ArgMatches) (id : Text) (r : Option ℕ)
 number_or_none_found m id None none value = λ n. no_number_found m id None n value refl
 number_or_none_found m id (Some n) none value = number_found m id (Some n) n none value refl
 
+-- a word begins with this character
+abbrev pub BeginsWith : ℕ → List ℕ → Type 0
+BeginsWith c [] = ⊥
+BeginsWith c (first ∷ rest) = T (nat_eq first c)
+
+-- the commands have names of their own
+pub once_is_no_show : ¬ (codes "once" ≡ codes "show")
+once_is_no_show same = subst (BeginsWith 111) same tt
+
+pub serve_is_no_check : ¬ (codes "serve" ≡ codes "check")
+serve_is_no_check same = subst (BeginsWith 115) same tt
+
 -- without a text of its image a command asks for nothing
 pub no_image : (name : Text) (found : List Row) → ((x : Text) → first_of (codes "IMAGE") found ≡ Some x → ⊥)
     → (args : Args) → ¬ Asks name found args
 no_image name found none (Format image blocks inodes time) asks = none image.now asks.1
 no_image name found none (Once image time) asks = none image.now asks.1
 no_image name found none (Serve image listen workers connections) asks = none image.now asks.1
+no_image name found none (Check image) asks = none image.now asks.1
+no_image name found none (Show image) asks = none image.now asks.1
 
 -- `format` asks for nothing without a number of its time
 pub no_time_made : (found : List Row) → ((n : ℕ) → IsNumber found (codes "time") n → ⊥)
@@ -90,6 +104,8 @@ no_time_made found none (Format image blocks inodes time) asks = none time asks.
 no_time_made found none (Once image time) asks = let other : codes "format" ≡ codes "once" = asks.0 in cc
 no_time_made found none (Serve image listen workers connections) asks =
     let other : codes "format" ≡ codes "serve" = asks.0 in cc
+no_time_made found none (Check image) asks = let other : codes "format" ≡ codes "check" = asks.0 in cc
+no_time_made found none (Show image) asks = let other : codes "format" ≡ codes "show" = asks.0 in cc
 
 -- `once` asks for nothing without a number of its time
 pub no_time_of_calls : (found : List Row) → ((n : ℕ) → IsNumber found (codes "time") n → ⊥)
@@ -99,6 +115,8 @@ no_time_of_calls found none (Format image blocks inodes time) asks =
 no_time_of_calls found none (Once image time) asks = none time asks.2
 no_time_of_calls found none (Serve image listen workers connections) asks =
     let other : codes "once" ≡ codes "serve" = asks.0 in cc
+no_time_of_calls found none (Check image) asks = let other : codes "once" ≡ codes "check" = asks.0 in cc
+no_time_of_calls found none (Show image) asks = absurd (once_is_no_show asks.0)
 
 -- `format` asks for nothing without a number of its inodes
 pub no_inodes : (found : List Row) → ((n : ℕ) → IsNumber found (codes "inodes") n → ⊥)
@@ -107,6 +125,8 @@ no_inodes found none (Format image blocks inodes time) asks = none inodes asks.3
 no_inodes found none (Once image time) asks = let other : codes "format" ≡ codes "once" = asks.0 in cc
 no_inodes found none (Serve image listen workers connections) asks =
     let other : codes "format" ≡ codes "serve" = asks.0 in cc
+no_inodes found none (Check image) asks = let other : codes "format" ≡ codes "check" = asks.0 in cc
+no_inodes found none (Show image) asks = let other : codes "format" ≡ codes "show" = asks.0 in cc
 
 -- `serve` asks for nothing without a text of its address
 pub no_listen : (found : List Row) → ((x : Text) → first_of (codes "listen") found ≡ Some x → ⊥)
@@ -115,6 +135,8 @@ no_listen found none (Format image blocks inodes time) asks =
     let other : codes "serve" ≡ codes "format" = asks.0 in cc
 no_listen found none (Once image time) asks = let other : codes "serve" ≡ codes "once" = asks.0 in cc
 no_listen found none (Serve image listen workers connections) asks = none listen.now asks.2
+no_listen found none (Check image) asks = absurd (serve_is_no_check asks.0)
+no_listen found none (Show image) asks = let other : codes "serve" ≡ codes "show" = asks.0 in cc
 
 -- `serve` asks for nothing without a number of its workers
 pub no_workers : (found : List Row) → ((n : ℕ) → IsNumber found (codes "workers") n → ⊥)
@@ -123,6 +145,8 @@ no_workers found none (Format image blocks inodes time) asks =
     let other : codes "serve" ≡ codes "format" = asks.0 in cc
 no_workers found none (Once image time) asks = let other : codes "serve" ≡ codes "once" = asks.0 in cc
 no_workers found none (Serve image listen workers connections) asks = none workers asks.3
+no_workers found none (Check image) asks = absurd (serve_is_no_check asks.0)
+no_workers found none (Show image) asks = let other : codes "serve" ≡ codes "show" = asks.0 in cc
 
 -- `serve` asks for nothing without a number of its connections
 pub no_connections : (found : List Row) → ((n : ℕ) → IsNumber found (codes "connections") n → ⊥)
@@ -131,6 +155,8 @@ no_connections found none (Format image blocks inodes time) asks =
     let other : codes "serve" ≡ codes "format" = asks.0 in cc
 no_connections found none (Once image time) asks = let other : codes "serve" ≡ codes "once" = asks.0 in cc
 no_connections found none (Serve image listen workers connections) asks = none connections asks.4
+no_connections found none (Check image) asks = absurd (serve_is_no_check asks.0)
+no_connections found none (Show image) asks = let other : codes "serve" ≡ codes "show" = asks.0 in cc
 
 -- a fact stands where there is no value
 pub if_none : {A : Type 0} {P : Type 0} (r : Option A) → P → IfNone r P

@@ -6,7 +6,7 @@ use Rattle.clap.specs.Words.{App, Row, Rule, Text, fault_of, first_of, new_app, 
 use Rattle.clap.specs.Words.{subcommand_of, with_rule, with_subcommand}
 use Rattle.clap.specs.declared.builder.ValueParser.TheVariants as value_parser
 use Rattle.nfsd_words.specs.declared.Args.{Args}
-use Rattle.nfsd_words.specs.declared.Args.TheVariants.{Format, Once, Serve}
+use Rattle.nfsd_words.specs.declared.Args.TheVariants.{Check, Format, Once, Serve, Show}
 
 -- the image, an argument that must be there
 abbrev pub image_rule : Rule
@@ -62,6 +62,14 @@ serve_command = with_rule
     (with_rule first_of_serve (workers_rule (codes "workers") (codes "4")))
     (default_rule (codes "connections") (codes "0"))
 
+-- `check IMAGE`
+abbrev pub check_command : App
+check_command = with_rule (new_app (codes "check")) image_rule
+
+-- `show IMAGE`
+abbrev pub show_command : App
+show_command = with_rule (new_app (codes "show")) image_rule
+
 -- the program before its commands, one of which must be there; it has a version
 abbrev pub bare_program : App
 bare_program = record (new_app (codes "nfsd")) {
@@ -76,9 +84,17 @@ first_of_program = with_subcommand bare_program format_command.top
 abbrev pub second_of_program : App
 second_of_program = with_subcommand first_of_program once_command.top
 
+-- the program with the first three of them
+abbrev pub third_of_program : App
+third_of_program = with_subcommand second_of_program serve_command.top
+
+-- the program with the first four of them
+abbrev pub fourth_of_program : App
+fourth_of_program = with_subcommand third_of_program check_command.top
+
 -- the program's commands, one of which must be there
 abbrev pub whole_program : App
-whole_program = with_subcommand second_of_program serve_command.top
+whole_program = with_subcommand fourth_of_program show_command.top
 
 -- the option of this name has this number of 32 bits, given or by default
 abbrev pub IsNumber : List Row → Text → ℕ → Type 0
@@ -103,6 +119,8 @@ Asks name found (Serve image listen workers connections) = (name ≡ codes "serv
     × (first_of (codes "IMAGE") found ≡ Some image.now)
     × (first_of (codes "listen") found ≡ Some listen.now)
     × IsNumber found (codes "workers") workers × IsNumber found (codes "connections") connections
+Asks name found (Check image) = (name ≡ codes "check") × (first_of (codes "IMAGE") found ≡ Some image.now)
+Asks name found (Show image) = (name ≡ codes "show") × (first_of (codes "IMAGE") found ≡ Some image.now)
 
 -- the command that was met, if one was, asks for this
 abbrev pub IsAsked : Option (Text × List Row) → Args → Type 0

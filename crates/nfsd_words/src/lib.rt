@@ -6,10 +6,11 @@ ghost use Rattle.clap.specs.Words.{HasKind, app_of, fault_of, found_of, kind_of,
 ghost use Rattle.clap.specs.Words.{rule_of, subcommand_rows_of};
 ghost use Rattle.clap.specs.declared.Command.TheViews.{out-Command};
 ghost use Rattle.nfsd_words.specs.declared.Args.{Args as Asked};
-ghost use Rattle.nfsd_words.specs.Words.{Asks, HasMeaning, IsAsked, WordsAsk, default_rule, first_of_format};
-ghost use Rattle.nfsd_words.specs.Words.{first_of_program, first_of_serve, format_command, image_rule};
-ghost use Rattle.nfsd_words.specs.Words.{number_rule, once_command, required_rule, second_of_program};
-ghost use Rattle.nfsd_words.specs.Words.{serve_command, text_rule, whole_program};
+ghost use Rattle.nfsd_words.specs.Words.{Asks, HasMeaning, IsAsked, WordsAsk, check_command, default_rule};
+ghost use Rattle.nfsd_words.specs.Words.{first_of_format, first_of_program, first_of_serve};
+ghost use Rattle.nfsd_words.specs.Words.{format_command, fourth_of_program, image_rule, number_rule, once_command};
+ghost use Rattle.nfsd_words.specs.Words.{required_rule, second_of_program, serve_command, show_command, text_rule};
+ghost use Rattle.nfsd_words.specs.Words.{third_of_program, whole_program};
 
 use clap::error::ErrorKind;
 use clap::{Arg, ArgMatches, Command, Error, value_parser};
@@ -22,6 +23,8 @@ const VERSION: &str = "0.1.0";
 const NEW_FILE: &str = "The file, which is made where there is none, or the block device";
 
 const OLD_FILE: &str = "The file or block device, which no other server may have at the same time";
+
+const READ_FILE: &str = "The file or block device, which no server may have at the same time";
 
 const BLOCKS: &str =
     "Its blocks of 4096 bytes, from 1024 to 1048576; without it 16384, or all of a block device";
@@ -62,6 +65,14 @@ pub enum Args<'a> {
         workers: u32,
         connections: u32,
     },
+    /// Tells whether an image is good.
+    Check {
+        image: &'a str,
+    },
+    /// Tells what files an image has.
+    Show {
+        image: &'a str,
+    },
 }
 
 /// Reads the arguments of a command line, of which the first is the program's name. A value that should have
@@ -91,7 +102,13 @@ fn asked<'a>(matches: &ArgMatches<'a>) -> Option<Args<'a>>
     if let Some(given) = matches.subcommand_matches("once") {
         return asked_once(given);
     }
-    asked_serve(matches.subcommand_matches("serve")?)
+    if let Some(given) = matches.subcommand_matches("serve") {
+        return asked_serve(given);
+    }
+    if let Some(given) = matches.subcommand_matches("check") {
+        return asked_check(given);
+    }
+    asked_show(matches.subcommand_matches("show")?)
 }
 
 fn asked_format<'a>(given: &ArgMatches<'a>) -> Option<Args<'a>>
@@ -131,8 +148,40 @@ fn asked_serve<'a>(given: &ArgMatches<'a>) -> Option<Args<'a>>
     })
 }
 
+fn asked_check<'a>(given: &ArgMatches<'a>) -> Option<Args<'a>>
+    ensures asked { IfSome result (Asks (codes "check") (rows_of (found_of given.now))) }
+    ensures senseless { IfNone result ((args : Asked)
+        → ¬ Asks (codes "check") (rows_of (found_of given.now)) args) }
+{
+    Some(Args::Check {
+        image: given.get_str("IMAGE")?,
+    })
+}
+
+fn asked_show<'a>(given: &ArgMatches<'a>) -> Option<Args<'a>>
+    ensures asked { IfSome result (Asks (codes "show") (rows_of (found_of given.now))) }
+    ensures senseless { IfNone result ((args : Asked)
+        → ¬ Asks (codes "show") (rows_of (found_of given.now)) args) }
+{
+    Some(Args::Show {
+        image: given.get_str("IMAGE")?,
+    })
+}
+
 fn program<'a>(alloc: Global) -> Result<Command<'a>, AllocError>
     ensures { IfOk result (λ command. app_of command ≡ whole_program) }
+{
+    program_up_to_check(alloc)?.subcommand(show_words(alloc)?)
+}
+
+fn program_up_to_check<'a>(alloc: Global) -> Result<Command<'a>, AllocError>
+    ensures { IfOk result (λ command. app_of command ≡ fourth_of_program) }
+{
+    program_up_to_serve(alloc)?.subcommand(check_words(alloc)?)
+}
+
+fn program_up_to_serve<'a>(alloc: Global) -> Result<Command<'a>, AllocError>
+    ensures { IfOk result (λ command. app_of command ≡ third_of_program) }
 {
     program_up_to_once(alloc)?.subcommand(serve_words(alloc)?)
 }
@@ -203,6 +252,26 @@ fn serve_up_to_listen<'a>(alloc: Global) -> Result<Command<'a>, AllocError>
         .about("Answers the calls of clients that come over TCP")
         .arg(image(alloc, OLD_FILE))?
         .arg(text(alloc, "listen", LISTEN))
+}
+
+fn check_words<'a>(alloc: Global) -> Result<Command<'a>, AllocError>
+    ensures app { IfOk result (λ command. app_of command ≡ check_command) }
+    ensures local { IfOk result (λ command. (out-Command command).has_globals ≡ false) }
+{
+    Command::new(alloc, "check")
+        .about("Tells whether an image is good, or what is wrong with it. It only reads")
+        .arg(image(alloc, READ_FILE))
+}
+
+fn show_words<'a>(alloc: Global) -> Result<Command<'a>, AllocError>
+    ensures app { IfOk result (λ command. app_of command ≡ show_command) }
+    ensures local { IfOk result (λ command. (out-Command command).has_globals ≡ false) }
+{
+    Command::new(alloc, "show")
+        .about(
+            "Prints a line for each file of an image: number, kind, mode, owner, group, links, size, blocks. It only reads",
+        )
+        .arg(image(alloc, READ_FILE))
 }
 
 fn text<'a>(alloc: Global, name: &'a str, help: &'a str) -> Arg<'a>

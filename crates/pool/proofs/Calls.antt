@@ -57,7 +57,7 @@ module _ (old new : CoreState) where
 
   committed : (tx : ℕ) (done : Outcome) (answer : Commit Outcome)
       → IsCommit old tx (planned_of done) done answer new → HandsOutNone old new
-  committed tx done (commit.Committed place) is = by old _ new is.only refl refl refl
+  committed tx done (commit.Committed receipt) is = by old _ new is.only refl refl refl
   committed tx done (commit.Full back same_change) is = same old new is.0.core
   committed tx done (commit.Foreign back same_change) is = same old new is.0.core
   committed tx done (commit.NoMemory back same_change) is = same old new is.0.core

@@ -50,7 +50,7 @@ module _ (old new : CoreState) where
   committed : (tx : ℕ) (done : Outcome) (answer : Commit Outcome)
       → IsCommit old tx (planned_of done) done answer new
       → places new ≡ places old + grown (told_commit (committing_of answer))
-  committed tx done (commit.Committed place) is = is.places
+  committed tx done (commit.Committed receipt) is = is.places
   committed tx done (commit.Full back same_change) is = same old new is.0.core
   committed tx done (commit.Foreign back same_change) is = same old new is.0.core
   committed tx done (commit.NoMemory back same_change) is = same old new is.0.core

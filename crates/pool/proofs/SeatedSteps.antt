@@ -40,7 +40,7 @@ use Rattle.store_workers.specs.declared.workers.parts.Phase.TheVariants.{Reading
 use Rattle.store_workers.specs.declared.workers.parts.Phase.TheVariants.{Refused, Again, Waiting}
 use Rattle.store_workers.specs.declared.workers.parts.State.{State}
 use Rattle.txn.specs.Fetch.{Fetch}
-use Rattle.txn.specs.Outcomes.{IsClaimed, IsCommit, IsWanted}
+use Rattle.txn.specs.Outcomes.{IsClaimed, IsCommit, IsWanted, TakesPlace}
 use Rattle.txn.specs.declared.outcomes.Claim.{Claim}
 use Rattle.txn.specs.declared.outcomes.Claim.TheVariants as claim
 use Rattle.txn.specs.declared.outcomes.Commit.{Commit}
@@ -163,7 +163,7 @@ module _ (job : Job) (old new : Side) (none : old.worker.work.answer ≡ None) w
     same_job : next.job ≡ mine
     same_job = some_inj (sym next.job_is ∙ mine_is)
 
-    module _ (place : Seq) (is : IsCommit old.core tx (planned_of done) done (commit.Committed place) new.core) where
+    module _ (place : Seq) (is : TakesPlace old.core tx (planned_of done) place.0 new.core) where
       for_job : IsCommittedFor job place done.reply
       for_job = record {
         ctx = next.job.ctx;
@@ -204,7 +204,7 @@ module _ (job : Job) (old new : Side) (none : old.worker.work.answer ≡ None) w
 
     commits_by : (answer : Commit Outcome) → IsCommit old.core tx (planned_of done) done answer new.core
         → Leaves job (after_commit mine done.reply answer planned)
-    commits_by (commit.Committed place) is = placed place is (is_answered_stable mine.call) refl
+    commits_by (commit.Committed receipt) is = placed receipt.place is (is_answered_stable mine.call) refl
     commits_by (commit.Full back same) is = stays _ none call
     commits_by (commit.Foreign back same) is = stays _ none call
     commits_by (commit.NoMemory back same) is = stays _ none call

@@ -2,6 +2,7 @@
 #![tactic(auto)]
 
 mod beginning;
+mod ending;
 mod locked;
 mod seat;
 mod shared;
@@ -10,10 +11,11 @@ mod told;
 mod work;
 
 pub use beginning::{Ledgers, Pool, begin};
+pub use ending::{Ended, Unsettled, end};
 pub use locked::Locked;
 pub use log_seats::Caller;
 pub use pool_calls::{Gate, IoSeat, NoGate, Point, Turn, Whole};
-pub use pool_jobs::{Answer, Bearer, Connections, Job, Received, receive};
+pub use pool_jobs::{Answer, Bearer, Connections, Job, Received, Stream};
 pub use seat::Seat;
 pub use shared::{Look, Shared};
 pub use steps::{installer_io, installer_step, logger_io, logger_step, worker_io, worker_step};

@@ -117,7 +117,9 @@ impl<L: Ledger, G: Whole, I: Whole> Shared<L, G, I> {
     }
 
     /// The core, out of the lock.
-    pub fn into_core(self) -> Core<Done> {
+    pub fn into_core(self) -> Core<Done>
+        ensures { result.boot ≡ G.boot }
+    {
         let Locked {
             core,
             commits: _,

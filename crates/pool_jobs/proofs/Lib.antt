@@ -1,1 +1,2 @@
 pub mod Judgements
+mod Cuts

@@ -1,5 +1,5 @@
 //! The connections that are open.
-ghost use Rattle.std.specs.Prelude.{◌≡◌, ◌+◌, ◌<◌, ◌^◌, Some, IfErr, IfNone, IfOk, IfSome, OnErr};
+ghost use Rattle.std.specs.Prelude.{◌≡◌, ◌+◌, ◌<◌, ◌^◌, Some, IfErr, IfNone, IfOk, IfSome, OnErr, option_copied};
 ghost use Rattle.slab.specs.Slab.{get, slab_len};
 
 use slab::Slab;
@@ -50,6 +50,20 @@ impl<T> Connections<T> {
         let key = self.open.insert(Bearer { number, peer })?;
         self.accepted = number;
         Ok((key, number))
+    }
+
+    /// Each connection's key is below this.
+    pub fn keys(&self) -> usize
+        ensures { result ≡ self.now.open.capacity }
+    {
+        self.open.capacity()
+    }
+
+    /// The connection of this key, with its number.
+    pub fn at(&self, key: usize) -> Option<&Bearer<T>>
+        ensures { option_copied result ≡ get self.now.open key }
+    {
+        self.open.get(key)
     }
 
     /// The connection that bears both the key and the number, else None.

@@ -5,8 +5,10 @@ mod answer;
 mod connections;
 mod job;
 mod receiving;
+mod stream;
 
 pub use answer::Answer;
 pub use connections::{Bearer, Connections};
 pub use job::Job;
-pub use receiving::{Received, receive};
+pub use receiving::Received;
+pub use stream::Stream;

@@ -27,7 +27,7 @@ pub enum Received {
 
 /// Receives a message, a whole record of the connection of this key and number.
 #[tactic(auto, using(crate::proofs::Judgements::closed, crate::proofs::Judgements::refused, crate::proofs::Judgements::called))]
-pub fn receive(alloc: Global, key: usize, number: u64, message: &Bytes) -> Received
+pub(crate) fn receive(alloc: Global, key: usize, number: u64, message: &Bytes) -> Received
     ensures { IsReceived key number message.now result }
 {
     are_bytes(message);

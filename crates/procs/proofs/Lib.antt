@@ -5,3 +5,5 @@ pub mod FewAsked
 pub mod FewClaimed
 pub mod RefusedThere
 pub mod ChangesOf
+mod Finishes
+mod NoPlan

@@ -5,4 +5,5 @@ pub mod Asks
 pub mod MostAsked
 pub mod Planned
 pub mod Refused
+pub mod FileBytes
 pub mod Finished

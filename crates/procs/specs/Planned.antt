@@ -11,6 +11,7 @@ use Rattle.inode.specs.declared.snap.Snap.{Snap}
 use Rattle.procs.specs.Asks.{Asks, Claims}
 use Rattle.procs.specs.Finished.{ChangesFew, EndsFrom}
 use Rattle.inode.specs.Snap.{is_claimed, is_seen}
+use Rattle.procs.specs.Outcome.{IsMadeFor}
 use Rattle.procs.specs.Steps.{IsStepOf}
 
 -- A plan asks for something new that plans may ask for, each object for its call alone, or is done with what was read,
@@ -21,6 +22,13 @@ IsPlanFor snap (plan.Need addr mode) = (is_seen addr snap.objects.items ≡ fals
 IsPlanFor snap (plan.Claim block) = (is_claimed block snap.claims.items ≡ false) × Claims snap.geometry block
 IsPlanFor snap (plan.Done done) = EndsFrom snap done × ChangesFew CHANGED_BLOCKS done
 IsPlanFor snap plan.NoMemory = Unit {0}
+
+-- a plan is done only with what was worked out for this call
+abbrev pub IsPlanOf : Ctx → Call → Plan → Type 0
+IsPlanOf ctx call (plan.Done done) = IsMadeFor ctx call done
+IsPlanOf ctx call (plan.Need addr mode) = Unit {0}
+IsPlanOf ctx call (plan.Claim block) = Unit {0}
+IsPlanOf ctx call plan.NoMemory = Unit {0}
 
 -- a plan is done only with what is a step
 abbrev pub IsStepPlan : Geometry → Ctx → Call → Plan → Type 0

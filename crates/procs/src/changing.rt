@@ -4,6 +4,7 @@ ghost use Rattle.inode.specs.Snap.{IsNew};
 ghost use Rattle.procs_steps.specs.Kinds.{changes};
 ghost use Rattle.procs.specs.Asks.{IsAsked};
 ghost use Rattle.procs.specs.Finished.{EndsFrom};
+ghost use Rattle.procs.specs.Outcome.{IsMadeFor};
 ghost use Rattle.procs.specs.Steps.{IsStepOf, NoneStandFor};
 
 use crate::draft::Draft;
@@ -24,6 +25,7 @@ fn are_told(boot: u64, transaction: u64)
 /// A call that changes files (RFC 1813, section 3.3).
 pub(crate) fn change_call(alloc: Global, ctx: &Ctx, call: &Call, snap: &Snap) -> Result<Draft, Stop>
     requires { changes call.now ≡ true }
+    ensures made { IfOk result (λ done. IsMadeFor ctx.now call.now done) }
     ensures ok { IfOk result (λ done. EndsFrom snap.now done) }
     ensures step { IfOk result (λ done. IsStepOf snap.now.geometry ctx.now call.now done) }
     ensures err { IfErr result (λ stop. IsNew snap.now stop) }
@@ -35,7 +37,7 @@ pub(crate) fn change_call(alloc: Global, ctx: &Ctx, call: &Call, snap: &Snap) ->
     match change(alloc, &mut files, ctx, call) {
         Ok(Some(reply)) => {
             let written = files.into_draft().into_written();
-            Ok(Draft::new(snap, reply, written)?)
+            Ok(Draft::new(ctx, call, snap, reply, written)?)
         }
         Ok(None) => unreachable!(),
         Err(stop) => Err(stop),

@@ -3,7 +3,7 @@ ghost use Rattle.std.specs.Prelude.{◌≡◌, ◌≤◌, length};
 ghost use Rattle.limits.specs.declared.TheConstants.{CHANGED_BLOCKS};
 ghost use Rattle.txn.specs.Group.{blocks_of};
 ghost use Rattle.layout.specs.Geometry.{IsLawful};
-ghost use Rattle.procs.specs.Finished.{HasPlan, IsFinished};
+ghost use Rattle.procs.specs.Finished.{IsAnsweredPlan, IsFinished};
 
 use crate::draft::Draft;
 use nfs_types::Reply;
@@ -11,7 +11,8 @@ use std::marker::Model;
 use txn::{Change, Object};
 
 /// A finished plan: the reply, the objects that were read for it, those that it writes, and the counts of the
-/// image that it was worked out for. Its type keeps that these are what the plan of some call ended in.
+/// image that it was worked out for. Its type keeps that these are what the plan of its call ended in, which is kept
+/// for proofs alone.
 #[derive(Drop)]
 pub struct Done {
     draft: Draft,
@@ -37,7 +38,7 @@ impl Done {
         Done { draft }
     }
 
-    /// It is what the plan of some call ended in.
+    /// It is what the plan of its call ended in.
     pub fn finished(&self)
         ensures { IsFinished self.now }
     {
@@ -50,6 +51,13 @@ impl Done {
     {
         &self.draft.reply
     }
+
+    /// The reply, by itself.
+    pub fn into_reply(self) -> Reply
+        ensures { result ≡ self.reply }
+    {
+        self.draft.reply
+    }
 }
 
 impl Change for Done {
@@ -60,7 +68,11 @@ impl Change for Done {
       inodes = done.inodes;
     } };
 
-    ghost is_plan = { HasPlan };
+    type Answer = Reply;
+
+    ghost answers = { λ done. done.reply };
+
+    ghost is_plan = { IsAnsweredPlan };
 
     ghost are_counts = { IsLawful };
 

@@ -4,15 +4,18 @@ ghost use Rattle.limits.specs.declared.TheConstants.{CHANGED_BLOCKS};
 ghost use Rattle.txn.specs.Group.{blocks_of};
 
 use inode::Snap;
-use nfs_types::Reply;
+use nfs_types::{Call, Ctx, Reply};
 use std::alloc::AllocError;
 use std::marker::Model;
+use std::snapshot::Snapshot;
 use txn::Object;
 
-/// What was worked out for a call, before it is known whose call it was. It writes no more blocks than a
-/// transaction changes.
+/// What was worked out for a call, which is kept for proofs alone. It writes no more blocks than a transaction
+/// changes.
 #[derive(Drop)]
 pub(crate) struct Draft {
+    ctx: Snapshot<Ctx>,
+    asked: Snapshot<Call>,
     pub(crate) reply: Reply,
     pub(crate) read: Vec<Object>,
     pub(crate) written: Vec<Object>,
@@ -29,6 +32,8 @@ impl Model for Draft {
     ghost Value = { Outcome };
 
     ghost view = { λ draft. record {
+      ctx = draft.ctx.value;
+      asked = draft.asked.value;
       reply = draft.reply;
       read = draft.read.items;
       written = draft.written.items;
@@ -40,16 +45,25 @@ impl Model for Draft {
 }
 
 impl Draft {
-    ghost use Rattle.procs.specs.Outcome.{IsDoneFor};
+    ghost use Rattle.procs.specs.Outcome.{IsDoneFor, IsMadeFor};
 
     /// What comes of a call, worked out from all that was read.
-    pub(crate) fn new(snap: &Snap, reply: Reply, written: Vec<Object>) -> Result<Draft, AllocError>
+    pub(crate) fn new(
+        ctx: &Ctx,
+        call: &Call,
+        snap: &Snap,
+        reply: Reply,
+        written: Vec<Object>,
+    ) -> Result<Draft, AllocError>
         requires { length (blocks_of written.items) ≤ CHANGED_BLOCKS }
+        ensures made { IfOk result (λ done. IsMadeFor ctx.now call.now done) }
         ensures snap { IfOk result (λ done. IsDoneFor snap.now done) }
         ensures reply { IfOk result (λ done. done.reply ≡ reply) }
         ensures written { IfOk result (λ done. done.written ≡ written.items) }
     {
         Ok(Draft {
+            ctx: Snapshot::of(ctx),
+            asked: Snapshot::of(call),
             reply,
             read: snap.objects.clone()?,
             written,

@@ -5,6 +5,7 @@ mod asks;
 mod changing;
 mod done;
 mod draft;
+mod ends;
 mod next;
 mod reading;
 mod refused;
@@ -17,6 +18,7 @@ pub use asks::{
     what_is_read_was_asked_for,
 };
 pub use done::Done;
+pub use ends::{a_reply_that_no_step_has_is_no_plan, other_bytes_than_the_files_are_no_plan};
 pub use inode::Snap;
 pub use next::Plan;
 pub use refused::refused_reply;

@@ -4,7 +4,7 @@ ghost use Rattle.inode.specs.Snap.{IsNew};
 ghost use Rattle.procs_steps.specs.Kinds.{tells};
 ghost use Rattle.procs.specs.Asks.{IsAsked};
 ghost use Rattle.procs.specs.Finished.{EndsFrom};
-ghost use Rattle.procs.specs.Outcome.{IsDoneFor};
+ghost use Rattle.procs.specs.Outcome.{IsDoneFor, IsMadeFor};
 ghost use Rattle.procs.specs.Steps.{IsStepOf, NoneStandFor};
 
 use crate::draft::Draft;
@@ -15,17 +15,25 @@ use procs_steps::tell;
 use std::alloc::{AllocError, Global};
 
 /// What is done without a write.
-pub(crate) fn told(alloc: Global, snap: &Snap, reply: Reply) -> Result<Draft, AllocError>
+pub(crate) fn told(
+    alloc: Global,
+    ctx: &Ctx,
+    call: &Call,
+    snap: &Snap,
+    reply: Reply,
+) -> Result<Draft, AllocError>
+    ensures made { IfOk result (λ done. IsMadeFor ctx.now call.now done) }
     ensures done { IfOk result (λ done. IsDoneFor snap.now done) }
     ensures reply { IfOk result (λ done. done.reply ≡ reply) }
     ensures written { IfOk result (λ done. done.written ≡ []) }
 {
-    Draft::new(snap, reply, Vec::new(alloc))
+    Draft::new(ctx, call, snap, reply, Vec::new(alloc))
 }
 
 /// A call that only tells something, or refuses to make a special file (RFC 1813, section 3.3).
 pub(crate) fn tell_call(alloc: Global, ctx: &Ctx, call: &Call, snap: &Snap) -> Result<Draft, Stop>
     requires { tells call.now ≡ true }
+    ensures made { IfOk result (λ done. IsMadeFor ctx.now call.now done) }
     ensures ok { IfOk result (λ done. EndsFrom snap.now done) }
     ensures step { IfOk result (λ done. IsStepOf snap.now.geometry ctx.now call.now done) }
     ensures err { IfErr result (λ stop. IsNew snap.now stop) }
@@ -35,7 +43,7 @@ pub(crate) fn tell_call(alloc: Global, ctx: &Ctx, call: &Call, snap: &Snap) -> R
     let files = BlockFiles::new(alloc, snap);
     match tell(alloc, &files, ctx, call) {
         Ok(answer) => match answer {
-            Some(reply) => Ok(told(alloc, snap, reply)?),
+            Some(reply) => Ok(told(alloc, ctx, call, snap, reply)?),
             None => unreachable!(),
         },
         Err(stop) => Err(stop),

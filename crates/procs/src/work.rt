@@ -4,8 +4,10 @@ ghost use Rattle.model.specs.Calls.{begins_transaction};
 ghost use Rattle.inode.specs.Snap.{IsNew};
 ghost use Rattle.procs.specs.Asks.{IsAsked};
 ghost use Rattle.procs.specs.Finished.{EndsFrom};
-ghost use Rattle.procs.specs.Planned.{IsPlanFor, IsStepPlan};
+ghost use Rattle.procs.specs.Outcome.{IsMadeFor};
+ghost use Rattle.procs.specs.Planned.{IsPlanFor, IsPlanOf, IsStepPlan};
 ghost use Rattle.procs.specs.Refused.{IsDoneWith, IsIoWhereRefused, NoneRead, NoneRefusedIn};
+ghost use Rattle.procs.specs.SoundCalls.{SoundCall};
 ghost use Rattle.procs.specs.Steps.{IsStepOf, NoneStandFor};
 
 use crate::changing::change_call;
@@ -24,6 +26,7 @@ use std::alloc::Global;
 // What comes of a call that is served, or what stands in its way, by the one body of its procedure.
 fn answer(alloc: Global, ctx: &Ctx, call: &Call, snap: &Snap) -> Result<Draft, Stop>
     requires { begins_transaction call.now ≡ true }
+    ensures made { IfOk result (λ done. IsMadeFor ctx.now call.now done) }
     ensures ok { IfOk result (λ done. EndsFrom snap.now done) }
     ensures step { IfOk result (λ done. IsStepOf snap.now.geometry ctx.now call.now done) }
     ensures err { IfErr result (λ stop. IsNew snap.now stop) }
@@ -60,6 +63,7 @@ fn answer(alloc: Global, ctx: &Ctx, call: &Call, snap: &Snap) -> Result<Draft, S
 // read, it doesn't refuse this file.
 fn answer_behind(alloc: Global, ctx: &Ctx, call: &Call, snap: &Snap) -> Result<Draft, Stop>
     requires { begins_transaction call.now ≡ true }
+    ensures made { IfOk result (λ done. IsMadeFor ctx.now call.now done) }
     ensures ok { IfOk result (λ done. EndsFrom snap.now done) }
     ensures step { IfOk result (λ done. IsStepOf snap.now.geometry ctx.now call.now done) }
     ensures err { IfErr result (λ stop. IsNew snap.now stop) }
@@ -80,6 +84,7 @@ fn answer_behind(alloc: Global, ctx: &Ctx, call: &Call, snap: &Snap) -> Result<D
 // read.
 fn work(alloc: Global, ctx: &Ctx, call: &Call, snap: &Snap) -> Result<Draft, Stop>
     requires { begins_transaction call.now ≡ true }
+    ensures made { IfOk result (λ done. IsMadeFor ctx.now call.now done) }
     ensures ok { IfOk result (λ done. EndsFrom snap.now done) }
     ensures step { IfOk result (λ done. IsStepOf snap.now.geometry ctx.now call.now done) }
     ensures err { IfErr result (λ stop. IsNew snap.now stop) }
@@ -101,12 +106,15 @@ fn work(alloc: Global, ctx: &Ctx, call: &Call, snap: &Snap) -> Result<Draft, Sto
 
 // A call is done.
 fn finish(ctx: &Ctx, call: &Call, snap: &Snap, draft: Draft) -> Plan
+    requires sound { SoundCall ctx.now.credential ctx.now.moment call.now }
     requires served { begins_transaction call.now ≡ true }
+    requires made { IsMadeFor ctx.now call.now draft }
     requires ends { EndsFrom snap.now draft }
     requires step { IsStepOf snap.now.geometry ctx.now call.now draft }
     ensures plan { IsPlanFor snap.now result }
     ensures step { IsStepPlan snap.now.geometry ctx.now call.now result }
     ensures done { IsDoneWith draft result }
+    ensures made { IsPlanOf ctx.now call.now result }
 {
     draft.few();
     Plan::Done(Done::new(draft))
@@ -117,8 +125,10 @@ fn finish(ctx: &Ctx, call: &Call, snap: &Snap, draft: Draft) -> Plan
 /// nothing told and nothing written. Where blocks stand for a tree what comes of the call is a step of the sequential
 /// server, so that it is never IO there.
 pub fn plan(alloc: Global, ctx: &Ctx, call: &Call, snap: &Snap) -> Plan
-    requires { begins_transaction call.now ≡ true }
+    requires served { begins_transaction call.now ≡ true }
+    requires sound { SoundCall ctx.now.credential ctx.now.moment call.now }
     ensures plan { IsPlanFor snap.now result }
+    ensures made { IsPlanOf ctx.now call.now result }
     ensures step { IsStepPlan snap.now.geometry ctx.now call.now result }
     ensures io { IsIoWhereRefused call.now snap.now result }
 {
@@ -127,7 +137,7 @@ pub fn plan(alloc: Global, ctx: &Ctx, call: &Call, snap: &Snap) -> Plan
         Err(Stop::Need(addr)) => Plan::Need(addr, Mode::Exclusive),
         Err(Stop::Claim(block)) => Plan::Claim(block),
         Err(Stop::NoMemory) => Plan::NoMemory,
-        Err(Stop::Io) => match told(alloc, snap, refused_reply(call, Status::Io)) {
+        Err(Stop::Io) => match told(alloc, ctx, call, snap, refused_reply(call, Status::Io)) {
             Ok(done) => finish(ctx, call, snap, done),
             Err(_) => Plan::NoMemory,
         },

@@ -7,3 +7,4 @@ pub mod RecordLaws
 pub mod EachCut
 pub mod Stages
 pub mod Held
+pub mod CutsOff

@@ -3,6 +3,7 @@ use denote.RattleType.{RattleType}
 use denote.Param.Send.{IsSend, IsSync, recorded_send, recorded_sync, sendable, struct_send, struct_sync}
 use denote.Struct.Declared
 use Rattle.std.proofs.Crossing.{crosses}
+use Rattle.std.proofs.sync.ledger.Book.TheSendSync as book
 use Rattle.std.proofs.sync.ledger.Share.TheSendSync as share
 use Rattle.std.specs.contracts.alloc.Global
 use Rattle.std.specs.contracts.impls.GlobalAllocator.TheImpl
@@ -10,7 +11,15 @@ use Rattle.std.specs.contracts.sync.Arc
 use Rattle.std.specs.declared.sync.ledger.Ledger
 use Rattle.crossbeam_channel.proofs.channel.Receiver.TheSendSync as receiver
 use Rattle.crossbeam_channel.proofs.channel.Sender.TheSendSync as sender
+use Rattle.http_server.proofs.log.Log.TheSendSync as logs
 use Rattle.inode.proofs.snap.Snap.TheSendSync as snap
+use Rattle.locks.proofs.table.Table.TheSendSync as table
+use Rattle.objects.proofs.residency.Residency.TheSendSync as residency
+use Rattle.wal.proofs.memory.Wal.TheSendSync as wal
+use Rattle.nfs_types.specs.contracts.reply.Reply
+use Rattle.procs.specs.contracts.done.Done
+use Rattle.procs.specs.contracts.done.DoneChange.TheImpl as change
+use Rattle.txn.specs.contracts.transactions.Core
 use Rattle.nfs_types.proofs.call.Call.TheSendSync as call
 use Rattle.nfs_types.proofs.ctx.Credential.TheSendSync as credential
 use Rattle.nfs_types.proofs.ctx.Ctx.TheSendSync as ctx
@@ -23,10 +32,10 @@ use Rattle.txn.proofs.tx.Tx.TheSendSync as tx
 use Rattle.pool.proofs.Answer.TheSendSync as answer
 use Rattle.pool.proofs.told.Told.TheSendSync as told
 use Rattle.pool.proofs.Caller.TheSendSync as callers
-use Rattle.pool.proofs.shared.Shared.TheSendSync as shared
 use Rattle.pool.specs.contracts.Connections
 use Rattle.pool.specs.contracts.IoSeat
 use Rattle.pool.specs.contracts.Job
+use Rattle.pool.specs.contracts.locked.Locked
 use Rattle.pool.specs.contracts.seat.Seat
 use Rattle.pool.specs.contracts.shared.Shared
 use Rattle.pool.specs.declared.Whole
@@ -72,6 +81,10 @@ worker_send = struct_send (Declared.shape Worker.the_type) (
   ) depth 60 fits 20000,
   tt,
 )
+
+core_send : IsSend (Core.the_row Done.the_row Reply.the_row change.ghosts)
+core_send =
+    search (wal.the_send, table.the_send, residency.the_send, logs.the_send, crosses, sendable) depth 100 fits 100000
 
 seat_send : (L : RattleType) (l : Ledger.Ghosts L.Denot) → IsSend (Seat.the_row L l)
 seat_send L l =
@@ -140,8 +153,22 @@ io_seat_send G w l =
 
 module _ (L G I : RattleType) (w : Whole.Ghosts G.Denot) (w' : Whole.Ghosts I.Denot)
     (l : Ledger.Ghosts L.Denot) (l' : Ledger.Ghosts G.Denot) (l'' : Ledger.Ghosts I.Denot) where
-  shared_sync : IsSync (Shared.the_row L G I w w' l l' l'')
-  shared_sync = search (shared.the_sync, sendable) depth 60
+  locked_send : IsSend (Locked.the_row L G I w w' l l' l'')
+  locked_send =
+      recorded_send (Locked.the_field L G I w w' l l' l'').row _ _ (Locked.the_type L G I w w' l l' l'').to_one
+      (struct_send (Declared.shape (Locked.the_type L G I w w' l l' l'')) (
+        search (core_send, crosses, sendable) depth 60 fits 20000,
+        (
+          search (book.the_send, sendable) depth 60,
+          (search (book.the_send, sendable) depth 60, (search (book.the_send, sendable) depth 60, tt)),
+        ),
+      ))
+
+  shared_sync : IsSync (Shared.the_field L G I w w' l l' l'').row
+  shared_sync = struct_sync (Declared.shape (Shared.the_type L G I w w' l l' l'')) (
+    search (locked_send, crosses, sendable) depth 60 fits 20000,
+    tt,
+  )
 
   pub hall_sync : (P S : RattleType) → IsSend P → IsSend S → IsSync (Hall.the_row L G I P S w w' l l' l'')
   hall_sync P S p s =
@@ -153,7 +180,7 @@ module _ (L G I : RattleType) (w : Whole.Ghosts G.Denot) (w' : Whole.Ghosts I.De
       (struct_sync (Declared.shape (Hall.the_type L G I P S w w' l l' l'')) (
         search (crosses, sendable) depth 20,
         (
-          search (shared_sync, shared.the_sync, shared.the_field_sync, crosses, sendable) depth 20,
+          search (shared_sync, crosses, sendable) depth 20,
           (
             search (seat, crosses, sendable) depth 20,
             (

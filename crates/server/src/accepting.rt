@@ -4,9 +4,10 @@ ghost use Rattle.std.specs.Thread.{IsSend, IsSync};
 use crate::connection::Connection;
 use crate::hall::Hall;
 use crate::reading::read_all;
-use crate::sizes::{ACCEPT_SLEEP_MILLISECONDS, MOST_CONNECTIONS};
+use crate::sizes::{ACCEPT_SLEEP_MILLISECONDS, MOST_CONNECTIONS, SILENT_SECONDS};
 use disk::Source;
-use pool::Whole;
+use pool::{Connections, Whole};
+use server_parts::{Silent, steady_second};
 use std::alloc::Global;
 use std::net::{TcpListener, TcpStream};
 use std::sync::ledger::Ledger;
@@ -79,17 +80,17 @@ where
     );
 }
 
-// Lets a connection in, where not too many are open.
-fn let_in<L: Ledger, G: Whole, I: Whole, P, S, R: Wait>(
+// Lets a connection in, where not too many are open, or one of them gives it its place.
+fn let_in<L: Ledger, G: Whole, I: Whole, P, S, R: Wait + Clock>(
     rt: &R,
     hall: &Hall<L, G, I, P, S>,
     stream: TcpStream,
 ) -> Option<Guest> {
     let mut open = hall.signs.open.lock(rt);
-    if open.count() >= MOST_CONNECTIONS {
+    if open.count() >= MOST_CONNECTIONS && !make_place(rt, &mut *open) {
         return None;
     }
-    let connection = Arc::new(hall.alloc, Connection::new(hall.alloc, stream)).ok()?;
+    let connection = Arc::new(hall.alloc, Connection::new(rt, hall.alloc, stream)).ok()?;
     let writer = Arc::try_clone(&connection).ok()?;
     let listed = Arc::try_clone(&connection).ok()?;
     let (key, number) = open.accept(listed).ok()?;
@@ -99,6 +100,52 @@ fn let_in<L: Ledger, G: Whole, I: Whole, P, S, R: Wait>(
         key,
         number,
     })
+}
+
+// Ends the connection that has been silent longest, where that is long enough. Whether there was one.
+fn make_place<R: Wait + Clock>(rt: &R, open: &mut Connections<Arc<Connection, Global>>) -> bool {
+    let second = steady_second(rt);
+    for _ in 0..MOST_CONNECTIONS {
+        let Some(silent) = longest_silent(rt, open, second) else {
+            return false;
+        };
+        let Some(connection) = open.find(silent.key, silent.number) else {
+            return false;
+        };
+        if connection.outgoing.give_place(rt, second, SILENT_SECONDS) {
+            connection.close();
+            drop(open.close(silent.key, silent.number));
+            return true;
+        }
+        if silent.seconds <= SILENT_SECONDS {
+            return false;
+        }
+        // Something has come of it meanwhile.
+    }
+    false
+}
+
+// The connection that has been silent longest at this second, if one is silent.
+fn longest_silent<R: Wait>(
+    rt: &R,
+    open: &Connections<Arc<Connection, Global>>,
+    second: u64,
+) -> Option<Silent> {
+    let mut longest = None;
+    for key in 0..open.keys() {
+        let Some(bearer) = open.at(key) else {
+            continue;
+        };
+        if let Some(seconds) = bearer.peer.outgoing.silent(rt, second) {
+            let silent = Silent {
+                key,
+                number: bearer.number,
+                seconds,
+            };
+            longest = Some(silent.or_longer(longest));
+        }
+    }
+    longest
 }
 
 // Ends a connection for which there is no thread.

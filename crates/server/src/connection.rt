@@ -4,7 +4,7 @@ use server_parts::Outgoing;
 use std::alloc::Global;
 use std::net::{Shutdown, TcpStream};
 use std::sync::Wait;
-use std::time::Duration;
+use std::time::{Clock, Duration};
 
 /// A connection: its stream, and the replies that wait to be written to it.
 #[derive(Drop)]
@@ -16,23 +16,23 @@ pub struct Connection {
 impl Connection {
     /// A connection over a stream, which sends each write at once, and on which a write and a read that wait too
     /// long fail.
-    pub fn new(alloc: Global, stream: TcpStream) -> Connection {
+    pub fn new<R: Clock>(rt: &R, alloc: Global, stream: TcpStream) -> Connection {
         let _ = stream.set_nodelay(true);
         let _ = stream.set_write_timeout(Some(Duration::from_secs(WRITE_SECONDS)));
         let _ = stream.set_read_timeout(Some(Duration::from_secs(IDLE_SECONDS)));
         Connection {
             stream,
-            outgoing: Outgoing::new(alloc),
+            outgoing: Outgoing::new(rt, alloc),
         }
     }
 
     /// Writes replies, or leaves them to the thread that writes. False where no more can be written.
-    pub fn write<R: Wait>(&self, rt: &R, alloc: Global, replies: &[u8]) -> bool {
+    pub fn write<R: Wait + Clock>(&self, rt: &R, alloc: Global, replies: &[u8]) -> bool {
         self.outgoing.write(rt, &mut &self.stream, replies, alloc)
     }
 
     /// Writes what other threads answer, until the connection ends.
-    pub fn write_all<R: Wait>(&self, rt: &R, alloc: Global) {
+    pub fn write_all<R: Wait + Clock>(&self, rt: &R, alloc: Global) {
         self.outgoing.write_all(rt, &mut &self.stream, alloc);
         // Who reads learns of it where a write failed.
         self.close();

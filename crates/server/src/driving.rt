@@ -22,6 +22,16 @@ enum Driven {
     Empty,
 }
 
+/// What came of driving a seat to its answer.
+#[derive(Drop)]
+pub enum Seen {
+    Answered(Answer),
+    /// Its change waits to be settled: it is parked, and the finisher answers it.
+    Parked,
+    /// It had no call, so none is answered.
+    Nothing,
+}
+
 /// What came of calls that were driven in a row.
 #[derive(Clone, Copy)]
 pub struct Row {
@@ -33,14 +43,13 @@ pub struct Row {
     pub is_crowded: bool,
 }
 
-/// Hands a free seat a job, and drives it to its answer. None where its change waits to be settled: then it is
-/// parked, and the finisher answers it.
+/// Hands a free seat a job, and drives it to its answer, or parks it.
 pub fn answer_in<L: Ledger, G: Whole, I: Whole, P, S: Source, R: Wait + Clock>(
     rt: &R,
     hall: &Hall<L, G, I, P, S>,
     key: SeatKey,
     job: Job,
-) -> Option<Answer> {
+) -> Seen {
     hand(rt, hall, &key, job);
     see_through(rt, hall, key)
 }
@@ -141,33 +150,33 @@ fn seat_for_next<L: Ledger, G: Whole, I: Whole, P, S, R: Wait>(
     }
 }
 
-/// Drives a seat to its answer, and frees it. None where its change waits to be settled: then it is parked.
+/// Drives a seat to its answer, and frees it; or parks it, where its change waits to be settled.
 pub fn see_through<L: Ledger, G: Whole, I: Whole, P, S: Source, R: Wait + Clock>(
     rt: &R,
     hall: &Hall<L, G, I, P, S>,
     key: SeatKey,
-) -> Option<Answer> {
+) -> Seen {
     let mut key = key;
     for _ in rt.forever() {
         match go_on(rt, hall, &key) {
             Driven::Answered(answer) => {
                 hall.signs.free.put(rt, key);
-                return Some(answer);
+                return Seen::Answered(answer);
             }
             Driven::Waits(place) => {
                 let parked = Parked { place, seat: key };
                 match hall.signs.parking.park(rt, parked) {
-                    Ok(()) => return None,
+                    Ok(()) => return Seen::Parked,
                     Err(back) => key = back,
                 }
             }
             Driven::Empty => {
                 hall.signs.free.put(rt, key);
-                return None;
+                return Seen::Nothing;
             }
         }
     }
-    None
+    Seen::Nothing
 }
 
 // Drives a seat until it answers or waits to be settled.

@@ -112,6 +112,13 @@ impl Signs {
         }
     }
 
+    /// Ends the connection with this key and number, as one of its calls that were handed on isn't answered.
+    pub fn let_go<R: Wait>(&self, rt: &R, key: usize, number: u64) {
+        if let Some(connection) = self.connection(rt, key, number) {
+            connection.outgoing.answer(rt, None);
+        }
+    }
+
     /// The connection with this key and number, where it is open.
     pub fn connection<R: Wait>(
         &self,

@@ -2,6 +2,7 @@
 #![tactic(auto)]
 
 mod accepting;
+mod announcing;
 mod batch;
 mod beginning;
 mod connection;
@@ -15,6 +16,8 @@ mod serving;
 mod sizes;
 mod working;
 
+pub use announcing::Announcer;
 pub use beginning::serve_store;
 pub use hall::Sides;
+pub use pool::Ended;
 pub use serving::{ServeFault, serve};

@@ -3,13 +3,11 @@ ghost use Rattle.std.specs.Prelude.{◌≤◌, IfOk, length};
 
 use crate::batch::Batch;
 use crate::connection::Connection;
-use crate::driving::{drive_batch, see_through, wait_while_crowded};
+use crate::driving::{Seen, drive_batch, see_through, wait_while_crowded};
 use crate::hall::Hall;
 use crate::sizes::{MOST_WAITING_BYTES, REPLY_BATCH_BYTES, STREAM_PIECE_BYTES};
-use bytes::Bytes;
 use disk::Source;
-use pool::{Answer, Received, Whole, receive};
-use rpc::Records;
+use pool::{Answer, Received, Stream, Whole};
 use server_parts::SeatKey;
 use std::alloc::Global;
 use std::io::{ErrorKind, Read};
@@ -66,7 +64,7 @@ fn read_pieces<L: Ledger, G: Whole, I: Whole, P, S: Source, R: Wait + Clock>(
     let Ok(mut batch) = Batch::new(hall.alloc) else {
         return true;
     };
-    let mut records = Records::new(hall.alloc);
+    let mut stream = Stream::new(hall.alloc, desk.key, desk.number);
     for _ in rt.forever() {
         if !desk
             .connection
@@ -75,16 +73,19 @@ fn read_pieces<L: Ledger, G: Whole, I: Whole, P, S: Source, R: Wait + Clock>(
         {
             return false;
         }
-        let Ok(count) = read_piece(desk.connection, piece.as_mut_slice()) else {
+        desk.connection.outgoing.listen(rt);
+        let taken = read_piece(desk.connection, piece.as_mut_slice());
+        desk.connection.outgoing.hear(rt);
+        let Ok(count) = taken else {
             return false;
         };
         if count == 0 {
             return true;
         }
-        if records.feed(&piece.as_slice()[..count]).is_err() {
+        if stream.feed(&piece, count).is_err() {
             return true;
         }
-        if !serve_records(rt, hall, desk, &mut records, &mut batch) {
+        if !serve_records(rt, hall, desk, &mut stream, &mut batch) {
             return true;
         }
     }
@@ -113,12 +114,12 @@ fn serve_records<L: Ledger, G: Whole, I: Whole, P, S: Source, R: Wait + Clock>(
     rt: &R,
     hall: &Hall<L, G, I, P, S>,
     desk: &Desk<'_>,
-    records: &mut Records,
+    stream: &mut Stream,
     batch: &mut Batch,
 ) -> bool {
     let mut replies = Vec::new(hall.alloc);
     for _ in rt.forever() {
-        let gathered = gather(rt, hall, desk, records, batch, &mut replies);
+        let gathered = gather(rt, hall, desk, stream, batch, &mut replies);
         let is_well = answer_batch(rt, hall, desk, batch, &mut replies);
         let goes_on = is_well && gathered != Gathered::Closes;
         let is_over = !goes_on || gathered == Gathered::All;
@@ -150,7 +151,7 @@ fn gather<L: Ledger, G: Whole, I: Whole, P, S, R: Wait>(
     rt: &R,
     hall: &Hall<L, G, I, P, S>,
     desk: &Desk<'_>,
-    records: &mut Records,
+    stream: &mut Stream,
     batch: &mut Batch,
     replies: &mut Vec<u8>,
 ) -> Gathered {
@@ -165,13 +166,13 @@ fn gather<L: Ledger, G: Whole, I: Whole, P, S, R: Wait>(
         if batch.is_full() || replies.len() >= REPLY_BATCH_BYTES {
             return Gathered::Batch;
         }
-        let Ok(next) = records.next() else {
+        let Ok(next) = stream.next(hall.alloc) else {
             return Gathered::Closes;
         };
-        let Some(record) = next else {
+        let Some(received) = next else {
             return Gathered::All;
         };
-        if !take_record(hall.alloc, desk, &record, batch, replies) {
+        if !take_record(hall.alloc, received, batch, replies) {
             return Gathered::Closes;
         }
     }
@@ -182,12 +183,11 @@ fn gather<L: Ledger, G: Whole, I: Whole, P, S, R: Wait>(
 // to end.
 fn take_record(
     alloc: Global,
-    desk: &Desk<'_>,
-    record: &Bytes,
+    received: Received,
     batch: &mut Batch,
     replies: &mut Vec<u8>,
 ) -> bool {
-    match receive(alloc, desk.key, desk.number, record) {
+    match received {
         Received::Closed => false,
         Received::Answered(answer) => put(alloc, &answer, replies),
         Received::Job(job) => batch.jobs.push_back(job).is_ok(),
@@ -252,13 +252,17 @@ fn answer_row<L: Ledger, G: Whole, I: Whole, P, S: Source, R: Wait + Clock>(
         None => is_well,
         Some(job) => {
             desk.connection.outgoing.hand_on(rt);
-            hall.signs.jobs.put(rt, job) && is_well
+            let is_put = hall.signs.jobs.put(rt, job);
+            if !is_put {
+                desk.connection.outgoing.take_back(rt);
+            }
+            is_put && is_well
         }
     }
 }
 
 // Drives a seat, whose call counts as handed on, to its answer, and puts the reply. Where its change waits to be
-// settled it is parked. False where memory is refused for the reply.
+// settled it is parked. False where memory is refused for the reply, or no call is there to be answered.
 fn drive_on<L: Ledger, G: Whole, I: Whole, P, S: Source, R: Wait + Clock>(
     rt: &R,
     hall: &Hall<L, G, I, P, S>,
@@ -267,16 +271,20 @@ fn drive_on<L: Ledger, G: Whole, I: Whole, P, S: Source, R: Wait + Clock>(
     replies: &mut Vec<u8>,
 ) -> bool {
     match see_through(rt, hall, key) {
-        None => true,
-        Some(answer) => {
+        Seen::Parked => true,
+        Seen::Answered(answer) => {
             desk.connection.outgoing.take_back(rt);
             put(hall.alloc, &answer, replies)
+        }
+        Seen::Nothing => {
+            desk.connection.outgoing.take_back(rt);
+            false
         }
     }
 }
 
 // Writes the replies, if there are any. False where no more can be written.
-fn write<R: Wait>(rt: &R, alloc: Global, desk: &Desk<'_>, replies: &mut Vec<u8>) -> bool {
+fn write<R: Wait + Clock>(rt: &R, alloc: Global, desk: &Desk<'_>, replies: &mut Vec<u8>) -> bool {
     if replies.is_empty() {
         return true;
     }

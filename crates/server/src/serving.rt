@@ -1,15 +1,18 @@
 //! The server: how it begins and ends.
+ghost use Rattle.std.specs.Prelude.{◌≡◌, IfErr, IfOk, Ok};
 ghost use Rattle.std.specs.Thread.{IsSend, IsSync};
+ghost use Rattle.server.specs.Announcing.{Announces};
 
 use crate::accepting::accept_all;
+use crate::announcing::Announcer;
 use crate::hall::{Devices, Hall, Sides, Signs};
 use crate::installing::install_all;
 use crate::logging::log_all;
 use crate::sizes::MOST_JOB_THREADS;
 use crate::working::{finish_all, work_all};
 use disk::{Port, Source};
-use pool::{Pool, Whole};
-use std::alloc::{AllocError, Global};
+use pool::{Ended, Pool, Unsettled, Whole, end};
+use std::alloc::Global;
 use std::net::TcpListener;
 use std::sync::Wait;
 use std::sync::ledger::Ledger;
@@ -22,19 +25,23 @@ use std::time::Clock;
 pub enum ServeFault {
     /// No memory, or no thread, was left to begin with.
     Memory,
+    /// That it can serve couldn't be told.
+    Output,
     /// A write or a barrier of the device failed, so not all is settled.
     Device,
 }
 
-/// Serves so many connections, or without end where that is 0, and then settles all.
-pub fn serve<L, G, I, P, S, R>(
+/// Serves so many connections, or without end where that is 0, and then settles all, and gives the core back. It is
+/// announced once memory and threads are there; where that fails no client is served.
+pub fn serve<L, G, I, P, S, R, A>(
     rt: &R,
     alloc: Global,
     pool: Pool<L, G, I>,
     sides: Sides<P, S>,
     listener: &TcpListener,
     connections: u32,
-) -> Result<(), ServeFault>
+    announcer: A,
+) -> (A, Result<Ended, ServeFault>)
 where
     L: Ledger + Send + Sync,
     G: Whole + Send + Sync,
@@ -42,60 +49,46 @@ where
     P: Port + Send + Drop,
     S: Source + Send + Drop,
     R: Threads + Wait + Clock + Sync,
+    A: Announcer + Drop,
+    ensures told { Announces A.tells announcer result.1 result.0 }
+    ensures boot { IfOk result.1 (λ ended. ended.core.boot ≡ G.boot) }
 {
     let settled = pool.shared.look(rt).settled.0;
     let signs = Signs::new(alloc, pool.seats.len(), settled);
     let devices = Devices::new(alloc, sides);
     let (Ok(signs), Ok(devices)) = (signs, devices) else {
-        dissolve(rt, pool);
-        return Err(ServeFault::Memory);
+        drop(end(rt, pool));
+        return (announcer, Err(ServeFault::Memory));
     };
     let hall = Hall::new(alloc, pool, devices, signs);
-    let outcome = match run(rt, &hall, listener, connections) {
-        Ok(()) => outcome_of(rt, &hall),
-        Err(_) => Err(ServeFault::Memory),
-    };
-    dissolve(rt, hall.into_pool());
-    outcome
-}
-
-// Whether all is settled.
-fn outcome_of<L: Ledger, G: Whole, I: Whole, P, S, R: Wait>(
-    rt: &R,
-    hall: &Hall<L, G, I, P, S>,
-) -> Result<(), ServeFault> {
-    let look = hall.shared.look(rt);
-    if look.is_settled && !look.broken {
-        Ok(())
-    } else {
-        Err(ServeFault::Device)
+    let (announcer, ran) = run(rt, &hall, listener, connections, announcer);
+    let ended = all_settled(end(rt, hall.into_pool()));
+    match ran {
+        Ok(()) => (announcer, ended),
+        Err(fault) => (announcer, Err(fault)),
     }
 }
 
-// Gives back what the seats have.
-fn dissolve<L: Ledger, G: Whole, I: Whole, R: Wait>(rt: &R, pool: Pool<L, G, I>) {
-    let Pool {
-        shared,
-        seats,
-        logger,
-        installer,
-    } = pool;
-    let mut seats = seats;
-    while let Some(seat) = seats.pop() {
-        shared.leave(rt, seat.into_inner());
+// The core with all settled, or that the device failed.
+fn all_settled(ended: Result<Ended, Unsettled>) -> Result<Ended, ServeFault>
+    ensures same { IfOk result (λ core. ended ≡ Ok core) }
+    ensures fault { IfErr result (λ fault. fault ≡ ServeFault.Device) }
+{
+    match ended {
+        Ok(core) => Ok(core),
+        Err(Unsettled) => Err(ServeFault::Device),
     }
-    seats.destroy_empty();
-    shared.leave_log(rt, logger);
-    shared.leave_install(rt, installer);
 }
 
-// Runs the threads, until so many connections have ended and all is settled.
-fn run<L, G, I, P, S, R>(
+// Runs the threads, until so many connections have ended and all is settled. No connection is accepted before that it
+// can serve was told: then each thread is there, and the memory to begin with.
+fn run<L, G, I, P, S, R, A>(
     rt: &R,
     hall: &Hall<L, G, I, P, S>,
     listener: &TcpListener,
     connections: u32,
-) -> Result<(), AllocError>
+    announcer: A,
+) -> (A, Result<(), ServeFault>)
 where
     L: Ledger + Send + Sync,
     G: Whole + Send + Sync,
@@ -103,15 +96,20 @@ where
     P: Port + Send + Drop,
     S: Source + Send + Drop,
     R: Threads + Wait + Clock + Sync,
+    A: Announcer + Drop,
+    ensures { Announces A.tells announcer result.1 result.0 }
 {
     let threads = hall.seats.len().min(MOST_JOB_THREADS);
-    let mut working = Vec::with_capacity(hall.alloc, threads)?;
+    let Ok(mut working) = Vec::with_capacity(hall.alloc, threads) else {
+        return (announcer, Err(ServeFault::Memory));
+    };
     thread::scope(
         thread::scope_env(),
         rt,
-        |scope| -> Result<(), AllocError>
+        move |scope| -> (A, Result<(), ServeFault>)
             requires { IsSend L.row × IsSync L.row × IsSend G.row × IsSync G.row × IsSend I.row × IsSync I.row
                 × IsSend P.row × IsSend S.row × IsSync R.row }
+            ensures { Announces A.tells announcer result.1 result.0 }
         {
             let logger = scope.spawn(move || log_all(rt, hall)).ok();
             let installer = scope.spawn(move || install_all(rt, hall)).ok();
@@ -124,7 +122,8 @@ where
                     Err(_) => all = false,
                 }
             }
-            if all {
+            let (announcer, begun) = announce(announcer, all);
+            if begun.is_ok() {
                 accept_all(rt, hall, listener, connections);
             }
             // No job comes any more. Those that wait are done first, and then each seat is freed by who has it.
@@ -137,9 +136,22 @@ where
             join(rt, finisher);
             hall.signs.to_install.end(rt);
             join(rt, installer);
-            if all { Ok(()) } else { Err(AllocError) }
+            (announcer, begun)
         },
     )
+}
+
+// Tells that the server can serve, where all of its threads are there.
+fn announce<A: Announcer>(announcer: A, all: bool) -> (A, Result<(), ServeFault>)
+    ensures { Announces A.tells announcer result.1 result.0 }
+{
+    if !all {
+        return (announcer, Err(ServeFault::Memory));
+    }
+    match announcer.announce() {
+        (announcer, true) => (announcer, Ok(())),
+        (announcer, false) => (announcer, Err(ServeFault::Output)),
+    }
 }
 
 // Waits for threads to end.

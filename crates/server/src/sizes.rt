@@ -1,7 +1,9 @@
 //! The numbers of the server's threads that are choices, and that no other crate knows.
 
-/// The most connections that are open: a further one is closed at once.
+/// The most connections that are open: a further one is closed at once, where none of them gives it its place.
 pub const MOST_CONNECTIONS: usize = 64;
+/// A connection that has been silent for longer gives its place to a new one.
+pub const SILENT_SECONDS: u64 = 60;
 /// The most jobs that wait for a worker.
 pub const MOST_JOBS: usize = 256;
 /// The most threads that take jobs off their queue.

@@ -1,5 +1,5 @@
 //! The threads that take jobs off their queue, and the one that answers what is settled.
-use crate::driving::{answer_in, see_through};
+use crate::driving::{Seen, answer_in, see_through};
 use crate::hall::Hall;
 use disk::Source;
 use pool::Whole;
@@ -16,9 +16,12 @@ pub fn work_all<L: Ledger, G: Whole, I: Whole, P, S: Source, R: Wait + Clock>(
         let Some(job) = hall.signs.jobs.take(rt) else {
             break;
         };
+        let (peer, number) = (job.key, job.number);
         let key = hall.signs.free.take(rt);
-        if let Some(answer) = answer_in(rt, hall, key, job) {
-            hall.signs.deliver(rt, hall.alloc, &answer);
+        match answer_in(rt, hall, key, job) {
+            Seen::Answered(answer) => hall.signs.deliver(rt, hall.alloc, &answer),
+            Seen::Parked => {}
+            Seen::Nothing => hall.signs.let_go(rt, peer, number),
         }
     }
 }
@@ -32,8 +35,10 @@ pub fn finish_all<L: Ledger, G: Whole, I: Whole, P, S: Source, R: Wait + Clock>(
         let Some(key) = hall.signs.parking.take(rt) else {
             break;
         };
-        if let Some(answer) = see_through(rt, hall, key) {
-            hall.signs.deliver(rt, hall.alloc, &answer);
+        match see_through(rt, hall, key) {
+            Seen::Answered(answer) => hall.signs.deliver(rt, hall.alloc, &answer),
+            // (a seat that was parked has a call)
+            Seen::Parked | Seen::Nothing => {}
         }
     }
 }

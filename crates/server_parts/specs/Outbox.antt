@@ -22,3 +22,11 @@ IsDone outbox = (outbox.shut ≡ true)
 abbrev pub IsForWriter : Outbox → Type 0
 IsForWriter outbox = ((outbox.ended ≡ true) ⊎ (outbox.shut ≡ true))
     ⊎ ((outbox.replies.writing ≡ false) × (outbox.replies.pending.items ≢ []))
+
+-- its thread waits for bytes, each call is answered and each reply written, and more can be
+pub record IsSilent (outbox : Outbox) : Type 0 where
+  pub listens : outbox.silence.listens ≡ true
+  pub goes_on : outbox.shut ≡ false
+  pub answered : outbox.due ≡ 0
+  pub sent : outbox.replies.pending.items ≡ []
+  pub unwritten : outbox.replies.writing ≡ false

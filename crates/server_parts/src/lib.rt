@@ -11,6 +11,7 @@ mod parking;
 mod rack;
 mod replies;
 mod rounds;
+mod silence;
 mod unheard;
 mod waiting;
 
@@ -23,5 +24,6 @@ pub use parking::Parking;
 pub use rack::{Rack, SeatKey};
 pub use replies::Replies;
 pub use rounds::Rounds;
+pub use silence::{Silence, Silent, steady_second};
 pub use unheard::{Rung, Unheard};
 pub use waiting::{Next, Parked, Waiting};

@@ -1,7 +1,7 @@
 //! What a connection still has to be sent.
-ghost use Rattle.std.specs.Prelude.{◌≡◌, ◌≢◌, ◌↔◌, ◌⊎◌, ◌+◌, ◌-◌, ◌^◌, ◌≤◌, ◌||◌, [], true, false, not, min, IsTrue, IfSome, IfNone, length};
+ghost use Rattle.std.specs.Prelude.{◌≡◌, ◌≢◌, ◌↔◌, ◌⊎◌, ◌+◌, ◌-◌, ◌^◌, ◌<◌, ◌≤◌, ◌||◌, [], true, false, not, max, min, IsTrue, IfSome, IfNone, length};
 
-use crate::Replies;
+use crate::{Replies, Silence};
 use std::alloc::Global;
 
 /// What becomes of bytes that a thread would write.
@@ -15,7 +15,7 @@ pub enum Offer {
     Shut,
 }
 
-/// The replies of a connection that wait to be written, and what its end waits for besides.
+/// The replies of a connection that wait to be written, what its end waits for besides, and how long it has been silent.
 #[derive(Drop)]
 pub struct Outbox {
     replies: Replies,
@@ -25,24 +25,27 @@ pub struct Outbox {
     shut: bool,
     // Whether no call comes any more.
     ended: bool,
+    silence: Silence,
     pub ghost let_go: { shut ≡ true → replies.pending.items ≡ [] },
 }
 
 impl Outbox {
-    ghost use Rattle.server_parts.specs.Outbox.{IsLeft, IsDone, IsForWriter};
+    ghost use Rattle.server_parts.specs.Outbox.{IsLeft, IsDone, IsForWriter, IsSilent};
 
-    /// Nothing waits.
-    pub fn new(alloc: Global) -> Outbox
+    /// Nothing waits, of a connection that came at this second.
+    pub fn new(alloc: Global, second: u64) -> Outbox
         ensures pending { result.replies.pending.items ≡ [] }
         ensures writing { result.replies.writing ≡ false }
         ensures due { result.due ≡ 0 }
         ensures goes_on { (result.shut ≡ false) × (result.ended ≡ false) }
+        ensures silence { result.silence ≡ record { last = second; listens = false } }
     {
         Outbox {
             replies: Replies::new(alloc),
             due: 0,
             shut: false,
             ended: false,
+            silence: Silence::new(second),
         }
     }
 
@@ -198,5 +201,65 @@ impl Outbox {
     {
         self.shut = true;
         self.replies.forget();
+    }
+
+    /// Notes that the connection's thread waits for bytes.
+    pub fn listen(&mut self)
+        ensures { self.new ≡ record self.old { silence = record self.old.silence { listens = true } } }
+    {
+        self.silence.listen();
+    }
+
+    /// Notes that bytes came at this second, or that none are waited for any more.
+    pub fn hear(&mut self, second: u64)
+        ensures { self.new ≡ record self.old {
+          silence = record {
+            last = max self.old.silence.last second;
+            listens = false;
+          };
+        } }
+    {
+        self.silence.hear(second);
+    }
+
+    /// Notes that replies were written at this second.
+    pub fn tell(&mut self, second: u64)
+        ensures { self.new ≡ record self.old {
+          silence = record self.old.silence {
+            last = max self.old.silence.last second;
+          };
+        } }
+    {
+        self.silence.tell(second);
+    }
+
+    /// For how many seconds the connection has been silent: its thread waits for bytes, each call is answered and each
+    /// reply written, and more can be.
+    pub fn silent(&self, second: u64) -> Option<u64>
+        ensures since { IfSome result (λ seconds. IsSilent self.now × (seconds ≡ second - self.now.silence.last)) }
+        ensures none { IfNone result (IsSilent self.now → ⊥) }
+    {
+        if self.shut || !self.is_done() {
+            return None;
+        }
+        self.silence.lasts(second)
+    }
+
+    /// Ends a connection that has been silent for more than so many seconds, so that another can have its place: no
+    /// more is written, and no call comes. Whether it has been; else nothing changes.
+    pub fn give_place(&mut self, second: u64, most: u64) -> bool
+        ensures given { (result ≡ true) ↔ (IsSilent self.old × (most < second - self.old.silence.last)) }
+        ensures ends { result ≡ true → (self.new.shut ≡ true) × (self.new.ended ≡ true)
+            × (self.new.replies.pending.items ≡ []) × (self.new.replies.writing ≡ false) }
+        ensures stays { result ≡ false → self.new ≡ self.old }
+    {
+        match self.silent(second) {
+            Some(seconds) if seconds > most => {
+                self.shut();
+                self.end();
+                true
+            }
+            _ => false,
+        }
     }
 }

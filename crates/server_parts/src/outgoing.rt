@@ -1,8 +1,9 @@
 //! The replies of a connection, shared by the threads that answer its calls.
-use crate::{Offer, Outbox};
+use crate::{Offer, Outbox, steady_second};
 use std::alloc::Global;
 use std::io::Write;
 use std::sync::{Condvar, Mutex, Wait};
+use std::time::Clock;
 
 /// The replies of a connection. Who answers a call puts its reply here. One thread writes at a time, outside
 /// the lock: so a client that doesn't read holds up no more than that.
@@ -16,10 +17,10 @@ pub struct Outgoing {
 }
 
 impl Outgoing {
-    /// Nothing waits.
-    pub fn new(alloc: Global) -> Outgoing {
+    /// Nothing waits, of a connection that has just come.
+    pub fn new<R: Clock>(rt: &R, alloc: Global) -> Outgoing {
         Outgoing {
-            outbox: Mutex::new(Outbox::new(alloc)),
+            outbox: Mutex::new(Outbox::new(alloc, steady_second(rt))),
             to_write: Condvar::new(),
             written: Condvar::new(),
         }
@@ -49,7 +50,7 @@ impl Outgoing {
     }
 
     /// Writes replies, or leaves them to the thread that writes. False where no more can be written.
-    pub fn write<R: Wait, W: Write>(
+    pub fn write<R: Wait + Clock, W: Write>(
         &self,
         rt: &R,
         out: &mut W,
@@ -74,7 +75,7 @@ impl Outgoing {
 
     // Writes what waits, until nothing does. The calling thread is the one that writes, and `is_done` tells whether
     // its last write was. False where a write failed.
-    fn write_rest<R: Wait, W: Write>(
+    fn write_rest<R: Wait + Clock, W: Write>(
         &self,
         rt: &R,
         out: &mut W,
@@ -94,15 +95,16 @@ impl Outgoing {
     }
 
     // What is to be written next, or None where nothing waits: then no thread writes.
-    fn next_batch<R: Wait>(&self, rt: &R, is_done: bool, used: Vec<u8>) -> Option<Vec<u8>> {
+    fn next_batch<R: Wait + Clock>(&self, rt: &R, is_done: bool, used: Vec<u8>) -> Option<Vec<u8>> {
         let mut outbox = self.outbox.lock(rt);
         let next = outbox.go_on(is_done, used);
+        outbox.tell(steady_second(rt));
         self.written.notify_one();
         next
     }
 
     /// Writes what other threads put, until no call comes any more and nothing waits, or a write fails.
-    pub fn write_all<R: Wait, W: Write>(&self, rt: &R, out: &mut W, alloc: Global) {
+    pub fn write_all<R: Wait + Clock, W: Write>(&self, rt: &R, out: &mut W, alloc: Global) {
         for _ in rt.forever() {
             let mut outbox = self
                 .to_write
@@ -141,5 +143,31 @@ impl Outgoing {
         outbox.end();
         self.to_write.notify_one();
         self.written.notify_one();
+    }
+
+    /// Notes that the connection's thread waits for bytes.
+    pub fn listen<R: Wait>(&self, rt: &R) {
+        self.outbox.lock(rt).listen();
+    }
+
+    /// Notes that bytes came, or that none are waited for any more.
+    pub fn hear<R: Wait + Clock>(&self, rt: &R) {
+        self.outbox.lock(rt).hear(steady_second(rt));
+    }
+
+    /// For how many seconds the connection has been silent at this second (`steady_second`): its thread waits for bytes,
+    /// each call is answered and each reply written, and more can be.
+    pub fn silent<R: Wait>(&self, rt: &R, second: u64) -> Option<u64> {
+        self.outbox.lock(rt).silent(second)
+    }
+
+    /// Ends a connection that has been silent for more than so many seconds at this second (`steady_second`). Whether
+    /// it has been.
+    pub fn give_place<R: Wait>(&self, rt: &R, second: u64, most: u64) -> bool {
+        let is_given = self.outbox.lock(rt).give_place(second, most);
+        if is_given {
+            self.to_write.notify_one();
+        }
+        is_given
     }
 }

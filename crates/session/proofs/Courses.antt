@@ -16,6 +16,7 @@ use Rattle.nfs_types.specs.declared.program.ProgramCall.TheVariants as calls
 use Rattle.rpc.specs.declared.refusal.Refusal.{Refusal}
 use Rattle.rpc.specs.declared.refusal.Refusal.TheVariants.{SystemError}
 use Rattle.rpc.specs.Refused.{refused}
+use Rattle.rpc.proofs.CutsOff.{cut_feed, cut_next}
 use Rattle.rpc.proofs.Lengths.{refused-length}
 use Rattle.session_wire.specs.Judging.{judged, Judges}
 use Rattle.session_wire.specs.declared.message.Judged.{Judged}
@@ -136,17 +137,6 @@ begins K moment old w = record {
   counted = omega arith;
 }
 
-cut_feed : (read left piece : List ℕ) (messages : List (List ℕ)) → CutsOff read messages left
-    → CutsOff (read ++ piece) messages (left ++ piece)
-cut_feed read left piece [] cut = ap (λ (t : List ℕ). t ++ piece) cut
-cut_feed read left piece (m ∷ ms) cut = (
-  cut.0,
-  cut.1 ++ piece,
-  ap (λ (t : List ℕ). t ++ piece) cut.2 ∙ append_assoc cut.0 cut.1 piece,
-  cut.3,
-  cut_feed cut.1 left piece ms cut.4,
-)
-
 -- a piece is read
 pub feeds : (K : Type 0) (moment : Moment) (old : Opened) (first : Option (List ℕ)) (read left : List ℕ)
     (count : ℕ) (new : Opened) (written : Option (List ℕ)) (piece : List ℕ)
@@ -160,12 +150,6 @@ feeds K moment old first read left count new written piece c = record {
   told = c.told;
   counted = c.counted;
 }
-
-cut_next : (read left text m more : List ℕ) (messages : List (List ℕ)) → CutsOff read messages left
-    → left ≡ text ++ more → IsRecord text m → CutsOff read (messages ++ m ∷ []) more
-cut_next read left text m more [] cut e is = (text, more, cut ∙ e, is, refl)
-cut_next read left text m more (n ∷ ns) cut e is =
-    (cut.0, cut.1, cut.2, cut.3, cut_next cut.1 left text m more ns cut.4 e is)
 
 answered_next : (K : Type 0) (moment : Moment) (old middle new : Opened) (messages replies : List (List ℕ))
     (m r : List ℕ) → Answered K moment old messages replies middle → IsMessageAnswered K moment middle (judged m) r new

@@ -431,9 +431,9 @@ module _ (old new : Side) (tx : ℕ) (job : Job) (done : Outcome) (job_is : old.
       → made ≡ step.Commit added (committing_of answer)
       → IsCommit old.core tx (planned_of done) done answer new.core
       → new.worker ≡ after_commit job done.reply answer base → Came Planning old (Some made) new
-  committed_so made base (commit.Committed place) added same free made_is core worker =
+  committed_so made base (commit.Committed receipt) added same free made_is core worker =
       goes_by Planning old made _ new
-      (placed base place (is_answered_stable job.call) (grind (arith, core.next, core.places)) worker)
+      (placed base receipt.place (is_answered_stable job.call) (grind (arith, core.next, core.places)) worker)
       made_is refl refl
   committed_so made base (commit.Full back change) added same free made_is core worker =
       full (full_so (ap (λ (s : State). s.phase) worker)

@@ -9,7 +9,6 @@ use Rattle.model.specs.Tree.{Tree}
 use Rattle.layout.specs.declared.geometry.Geometry.{Geometry}
 use Rattle.layout.specs.Homes.{homes_of}
 use Rattle.layout.specs.Stands.{Stands}
-use Rattle.nfs_types.specs.declared.reply.Reply.{Reply}
 use Rattle.procs.specs.SoundCalls.{SoundCall}
 use Rattle.procs.specs.Outcome.{Outcome}
 use Rattle.procs.specs.Steps.{IsStepOf}
@@ -65,10 +64,12 @@ pub record StandsBeside (old new : CoreState) : Type 0 where
   pub records : new.records ≡ old.records
   pub boot : new.boot ≡ old.boot
 
--- what comes of a call, by the change that is committed and the reply
-abbrev pub outcome_of : Planned → Reply → Outcome
-outcome_of plan reply = record {
-  reply = reply;
+-- what comes of the entry's call, by the change that is committed
+abbrev pub outcome_of : Planned → Entry → Outcome
+outcome_of plan entry = record {
+  ctx = entry.ctx;
+  asked = entry.call;
+  reply = entry.reply;
   read = plan.read;
   written = plan.written;
   blocks = plan.blocks;
@@ -83,7 +84,7 @@ pub record TellsOf (boot : ℕ) (plan : Planned) (entry : Entry) : Type 0 where
   pub geometry : Geometry
   pub blocks : plan.blocks ≡ geometry.blocks
   pub inodes : plan.inodes ≡ geometry.inodes
-  pub step : IsStepOf geometry entry.ctx entry.call (outcome_of plan entry.reply)
+  pub step : IsStepOf geometry entry.ctx entry.call (outcome_of plan entry)
 
 -- What a stop leaves is good, and has the files after a beginning of the entries, in which is each settled
 -- place.

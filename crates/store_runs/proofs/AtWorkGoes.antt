@@ -104,8 +104,8 @@ module _ (old new : Side) where
 
   committed_none : {C : Type 0} (job : Job) (reply : Reply) (base : State) (answer : Commit C)
       → fetches_of (after_commit job reply answer base) ≡ []
-  committed_none job reply base (commit.Committed place) =
-      placed_none job reply place base (is_answered_stable job.call)
+  committed_none job reply base (commit.Committed receipt) =
+      placed_none job reply receipt.place base (is_answered_stable job.call)
   committed_none job reply base (commit.Full back change) = refl
   committed_none job reply base (commit.Foreign back change) = refl
   committed_none job reply base (commit.NoMemory back change) = refl
@@ -193,10 +193,10 @@ module _ (old new : Side) (boot number : ℕ) (entries : List Committed) where
       → IsCommit old.core tx (planned_of done) done answer new.core
       → new.worker ≡ after_commit job done.reply answer base
       → Takes Planning (Some (step.Commit (blocks_of done.written) (committing_of answer)))
-  place_taken job tx done base (commit.Committed place) next job_is took is stands has = record {
+  place_taken job tx done base (commit.Committed receipt) next job_is took is stands has = record {
     tx = tx;
     plan = planned_of done;
-    place = place.0;
+    place = receipt.place.0;
     entry = record { ctx = job.ctx; call = job.call; reply = done.reply };
     took = took;
     ready = ap (λ (w : State). w.work.entry) is;

@@ -230,7 +230,7 @@ module _ (o : Setting) (base : Image) (store : StoreSide) (fetches : List Fetch)
       → IsCommit store.core tx plan change answer new
       → IsCaused told worker (Some (step.Commit added (committing_of answer)))
       → IsCommitting o log added (committing_of answer)
-  by_answer told worker change (commit.Committed place) new is caused =
+  by_answer told worker change (commit.Committed receipt) new is caused =
       (is.tried.sound, is.next, numbers.1 is.tried.room.0, let fits = is.tried.room.1 in omega (arith, held, fits))
   by_answer told worker change (commit.Full back same) new is caused =
       (is.1.sound, numbers.1 is.1.room.0, let fits = is.1.room.1 in omega (arith, held, fits))

@@ -184,8 +184,8 @@ module _ (old new : Side) where
       → base.known.taken ≡ taken → IsCommit old.core tx (planned_of done) done answer new.core
       → AreLoaded old.core tx
       → Loads (after_commit job done.reply answer base) new.core
-  committed_loads tx job done base (commit.Committed place) same is loaded =
-      placed_loads job done.reply place base (is_answered_stable job.call)
+  committed_loads tx job done base (commit.Committed receipt) same is loaded =
+      placed_loads job done.reply receipt.place base (is_answered_stable job.call)
   committed_loads tx job done base (commit.Full back change) same is loaded =
       subst (λ (aims : List Aim). All (IsAimLoaded new.core back) aims) (sym same)
       (same_loads back tx is.0.transaction is.0.core loaded)
@@ -320,7 +320,7 @@ module _ (old new : Side) where
       (subst (λ (found : Option Seen). IsSomeAnd old.worker.work.job (λ job. IsSomeAnd old.worker.begun.tx (λ t.
       IsSomeAnd found (λ s. HasOfCall t new.core s)))) (sym seen)
       (subst (λ (c : CoreState). HasTaken old.worker c) (sym core.0.core) plans))))
-  full_so tx job done base (commit.Committed place) added tx_is job_is snap_is core is seen room plans =
+  full_so tx job done base (commit.Committed receipt) added tx_is job_is snap_is core is seen room plans =
       absurd (true≢false (sym room))
   full_so tx job done base (commit.Foreign back change) added tx_is job_is snap_is core is seen room plans =
       absurd (true≢false (sym room))

@@ -134,8 +134,8 @@ module _ (o : Setting) (told : Told) (number : ℕ) (store : StoreSide) (is_told
         → IsCommit store.core tx (planned_of done) done answer new.core
         → Tells Planning (Some (step.Commit (blocks_of done.written)
         (committing_of answer)))
-    committed_told tx done (commit.Committed place) took = record {
-      log = placed_told tx (planned_of done) place.0 took;
+    committed_told tx done (commit.Committed receipt) took = record {
+      log = placed_told tx (planned_of done) receipt.place.0 took;
       begun = is_told.begun ∙ sym (ap (λ (c : CoreState). c.begun) took.only);
     }
     committed_told tx done (commit.Full back change) is =
@@ -201,7 +201,7 @@ module _ (old new : Side) where
   uncommitted : (tx : ℕ) (done : Outcome) (answer : Commit Outcome) (added : List BlockNo)
       → IsCommit old.core tx (planned_of done) done answer new.core
       → Stands Planning (Some (step.Commit added (committing_of answer)))
-  uncommitted tx done (commit.Committed place) added is none = absurd (true≢false none)
+  uncommitted tx done (commit.Committed receipt) added is none = absurd (true≢false none)
   uncommitted tx done (commit.Full back change) added is none = (same_core old.core new.core is.0.core).beside
   uncommitted tx done (commit.Foreign back change) added is none =
       (same_core old.core new.core is.0.core).beside

@@ -474,7 +474,7 @@ module _ (boot : ℕ) (entries : List Entry) (told : Told) (core : CoreState) (w
     committed_caused : (new : CoreState) (added : List BlockNo) (answer : Commit Outcome)
         → IsCommit core tx (planned_of done) done answer new
         → IsCaused told number (Some (step.Commit added (committing_of answer)))
-    committed_caused new added (commit.Committed place) is = tt
+    committed_caused new added (commit.Committed receipt) is = tt
     committed_caused new added (commit.Full back same) is = tt
     committed_caused new added (commit.NoMemory back same) is = tt
     committed_caused new added (commit.Broken back same) is = tt

@@ -66,8 +66,8 @@ module _ (old new : Side) where
 
   committed_none : (job : Job) (reply : Reply) (base : State) (answer : Commit Outcome)
       → base.begun ≡ none_begun → (after_commit job reply answer base).begun.io ≡ None
-  committed_none job reply base (commit.Committed place) none =
-      ap (λ (b : Begun). b.io) (placed_none job reply place base (is_answered_stable job.call) ∙ none)
+  committed_none job reply base (commit.Committed receipt) none =
+      ap (λ (b : Begun). b.io) (placed_none job reply receipt.place base (is_answered_stable job.call) ∙ none)
   committed_none job reply base (commit.Full back change) none = refl
   committed_none job reply base (commit.Foreign back change) none = refl
   committed_none job reply base (commit.NoMemory back change) none = refl

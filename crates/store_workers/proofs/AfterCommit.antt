@@ -21,8 +21,8 @@ placed worker job reply place false held = search rules
 
 by_answer : {C : Type 0} (worker : State) (answer : Commit C) (reply : Reply) (job : Job)
     → worker.work.job ≡ Some job → IsHeld worker → IsSound (after_commit job reply answer worker)
-by_answer worker (commit.Committed place) reply job job_is held =
-    placed worker job reply place (is_answered_stable job.call) held
+by_answer worker (commit.Committed receipt) reply job job_is held =
+    placed worker job reply receipt.place (is_answered_stable job.call) held
 by_answer worker (commit.Full back same) reply job job_is held = search rules
 by_answer worker (commit.Foreign back same) reply job job_is held = search rules
 by_answer worker (commit.NoMemory back same) reply job job_is held = search rules

@@ -217,11 +217,11 @@ module _ (broken : Bool) (job : Job) (tx : ℕ) (seen : Seen) (asked : Asking) (
         → progress_of (after_commit job done.reply answer base)
         ≡ progress_after broken (Some (step.Commit added (committing_of answer)))
         (progress_as Planning (Some job) (Some tx) (Some seen) asked knowing)
-    commit_told old new done added planned (commit.Committed place) base job_is seen_is asked_is known_is is =
+    commit_told old new done added planned (commit.Committed receipt) base job_is seen_is asked_is known_is is =
         by (is_answered_stable job.call)
       where
-        by : (stable : Bool) → progress_of (with_entry job done.reply (told_of stable job done.reply place base))
-            ≡ told.going_on (handed job) (told.after_commit stable its (committing.Committed place))
+        by : (stable : Bool) → progress_of (with_entry job done.reply (told_of stable job done.reply receipt.place base))
+            ≡ told.going_on (handed job) (told.after_commit stable its (committing.Committed receipt.place))
         by true = refl
         by false = refl
     commit_told old new done added planned (commit.Full back same) base job_is seen_is asked_is known_is is =

@@ -77,10 +77,10 @@ module _ (old new : Side) where
       → base.known.left ≡ []
       → is_kept_off (Some (step.Commit added (committing_of answer))) ≡ false
       → LeavesNothing (after_commit job reply answer base).phase (after_commit job reply answer base).known
-  commits job reply added (commit.Committed place) base left kept = by (is_answered_stable job.call)
+  commits job reply added (commit.Committed receipt) base left kept = by (is_answered_stable job.call)
     where
-      by : (stable : Bool) → LeavesNothing (with_entry job reply (told_of stable job reply place base)).phase
-          (with_entry job reply (told_of stable job reply place base)).known
+      by : (stable : Bool) → LeavesNothing (with_entry job reply (told_of stable job reply receipt.place base)).phase
+          (with_entry job reply (told_of stable job reply receipt.place base)).known
       by true = tt
       by false = tt
   commits job reply added (commit.Full back same) base left kept = left

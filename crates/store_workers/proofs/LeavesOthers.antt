@@ -396,7 +396,7 @@ module _ (old new : Side) (keeps : KeepsReadsOf old new)
 
       txs : (answer : Commit Outcome) → IsCommit old.core tx (planned_of done) done answer new.core
           → new.worker ≡ after_commit job done.reply answer base → TxGoes old new
-      txs (commit.Committed place) core is = ends tx tx_is (ap (λ (b : Begun). b.tx) (begun_then place is))
+      txs (commit.Committed receipt) core is = ends tx tx_is (ap (λ (b : Begun). b.tx) (begun_then receipt.place is))
           (ap (λ (c : CoreState). c.out) core.only) (ap (λ (c : CoreState). c.begun) core.only)
       txs (commit.Full back change) core is =
           stays_out (still back core.0.transaction (ap (λ (s : State). s.begun.tx) is))
@@ -416,8 +416,8 @@ module _ (old new : Side) (keeps : KeepsReadsOf old new)
 
       ios : (answer : Commit Outcome) → IsCommit old.core tx (planned_of done) done answer new.core
           → new.worker ≡ after_commit job done.reply answer base → IoGoes old new
-      ios (commit.Committed place) core is =
-          keeps_io (ap (λ (b : Begun). b.io) (begun_then place is) ∙ sym no_io) core.leaves.fetches
+      ios (commit.Committed receipt) core is =
+          keeps_io (ap (λ (b : Begun). b.io) (begun_then receipt.place is) ∙ sym no_io) core.leaves.fetches
       ios (commit.Full back change) core is = keeps_io (ap (λ (s : State). s.begun.io) is ∙ sym no_io)
           (λ block. ap (λ (c : CoreState). is_fetching c block) core.0.core)
       ios (commit.Foreign back change) core is = keeps_io (ap (λ (s : State). s.begun.io) is ∙ sym no_io)

@@ -11,6 +11,8 @@ pub mod WorkCases
 pub mod Placing
 pub mod LeavesNothing
 pub mod StillFits
+pub mod StillAsked
+pub mod SpelledOnce
 pub mod PlansStay
 pub mod LeavesOthers
 pub mod NotesAll

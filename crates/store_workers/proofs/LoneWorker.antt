@@ -1,5 +1,5 @@
 -- A worker that is alone in its store is never kept off.
-use Rattle.std.proofs.Common.{◌≡◌, ◌∙◌, refl, sym, ap, subst, true≢false, ℕ, ◌⊎◌, inl, inr, Bool, true, false}
+use Rattle.std.proofs.Common.{◌≡◌, ◌∙◌, refl, sym, ap, subst, true≢false, ℕ, inl, inr, Bool, true, false}
 use Rattle.std.proofs.Common.{◌||◌, nat_eq, Option, Some, None, is_some, List, [], ◌∷◌, All}
 use Rattle.std.specs.Prelude.{Contains, IsSomeAnd, option_to_list}
 use Rattle.std.proofs.lemmas.Bool.{eqb-true}
@@ -191,7 +191,7 @@ module _ (core : CoreState) (tx : ℕ) (snap : Snap) (tidy : AreTidy core) (out 
     committed_well : (new : CoreState) (added : List BlockNo) (answer : Commit Outcome)
         → IsCommit core tx (planned_of done) done answer new
         → is_kept_off (Some (step.Commit added (committing_of answer))) ≡ false
-    committed_well new added (commit.Committed place) is = refl
+    committed_well new added (commit.Committed receipt) is = refl
     committed_well new added (commit.Full back same) is = refl
     committed_well new added (commit.NoMemory back same) is = refl
     committed_well new added (commit.Broken back same) is = refl

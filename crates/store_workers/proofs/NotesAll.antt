@@ -261,8 +261,8 @@ module _ (old new : Side) (beyond : old.worker.begun.tx ≡ None → NoneTakenBe
     commits : (job : Job) (done : Outcome) (base : State) (answer : Commit Outcome) → base.begun ≡ none_begun
         → base.known.taken ≡ taken → IsCommit old.core tx (planned_of done) done answer new.core
         → NotesAll (after_commit job done.reply answer base) new.core
-    commits job done base (commit.Committed place) none aims is =
-        placed job done.reply place base (is_answered_stable job.call) none
+    commits job done base (commit.Committed receipt) none aims is =
+        placed job done.reply receipt.place base (is_answered_stable job.call) none
     commits job done base (commit.Full back change) none aims is =
         same back base.known.taken is.0.transaction is.0.core aims
     commits job done base (commit.Foreign back change) none aims is =

@@ -389,8 +389,8 @@ module _ (old new : Side) (keeps : KeepsReadsOf old new) (beyond : NoneTakenBeyo
       by : (answer : Commit Outcome) → IsCommit old.core tx (planned_of done) done answer new.core
           → new.worker ≡ after_commit job done.reply answer base
           → PlansAlone new.worker.phase new.worker new.core
-      by (commit.Committed place) core is =
-          by_state _ is (placed job done.reply place base (is_answered_stable job.call))
+      by (commit.Committed receipt) core is =
+          by_state _ is (placed job done.reply receipt.place base (is_answered_stable job.call))
       by (commit.Full back change) core is = by_phase Planning (ap (λ (s : State). s.phase) is)
           (same_taken old.worker new.worker old.core new.core (ap (λ (s : State). s.work.job) is)
           (ap (λ (s : State). s.begun.tx) is ∙ ap (λ (n : ℕ). Some n) core.0.transaction ∙ sym tx_is)

@@ -516,8 +516,8 @@ module _ (old new : Side) (tidy : AreTidy old.core) (alone : IsOutAlone old.work
           → made ≡ step.Commit added (committing_of answer)
           → IsCommit old.core tx (planned_of done) done answer new.core
           → new.worker ≡ after_commit job done.reply answer base → StaysLeft (Some made) new.worker new.core
-      committed_so made base added (commit.Committed place) io made_is core is =
-          placed_so (Some made) base place (is_answered_stable job.call) io
+      committed_so made base added (commit.Committed receipt) io made_is core is =
+          placed_so (Some made) base receipt.place (is_answered_stable job.call) io
           (λ block. core.leaves.fetches block ∙ none block) is
       committed_so made base added (commit.Full back same) io made_is core is =
           alone_by (Some made) new.worker new.core Planning None (ap (λ (s : State). s.phase) is)

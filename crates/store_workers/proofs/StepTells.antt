@@ -429,8 +429,8 @@ module _ (boot number : ℕ) (entries : List Entry) (old new : Side) (at : IsWor
     commits_by : (answer : Commit Outcome) → IsCommit old.core tx (planned_of done) done answer new.core
         → Leaves Planning (Some (step.Commit added (committing_of answer)))
         (after_commit job done.reply answer planned)
-    commits_by (commit.Committed place) is =
-        placed place (is.next ∙ ap (λ n. n + 1) places) (is_answered_stable job.call) refl
+    commits_by (commit.Committed receipt) is =
+        placed receipt.place (is.next ∙ ap (λ n. n + 1) places) (is_answered_stable job.call) refl
     commits_by (commit.Full back same) is =
         back_in back (step.Commit added committing.Full) Planning is.0.transaction refl at.entry (λ r. r)
     commits_by (commit.Foreign back same) is =

@@ -115,8 +115,8 @@ module _ (old new : Side) (phase : Phase) where
       → old.worker.begun.tx ≡ Some tx → base.begun ≡ none_begun
       → IsCommit old.core tx (planned_of done) done answer new.core
       → new.worker ≡ after_commit job done.reply answer base → Turn old new phase
-  commits job tx done base (commit.Committed place) tx_is none is worker = ends tx tx_is
-      (begun_of _ worker ∙ placed_begun (is_answered_stable job.call) job done.reply place base ∙ none)
+  commits job tx done base (commit.Committed receipt) tx_is none is worker = ends tx tx_is
+      (begun_of _ worker ∙ placed_begun (is_answered_stable job.call) job done.reply receipt.place base ∙ none)
       (out_of _ is.only)
   commits job tx done base (commit.Full back same) tx_is none is worker =
       still tx back is.0.transaction tx_is (begun_of _ worker) (out_of _ is.0.core)

@@ -1,5 +1,5 @@
 -- A worker's step, by cases.
-use Rattle.std.proofs.Common.{◌≡◌, ◌∙◌, refl, sym, ap, subst, ℕ, ◌⊎◌, inl, inr, Bool, true, false, ◌&&◌}
+use Rattle.std.proofs.Common.{◌≡◌, refl, sym, ap, subst, ℕ, ◌⊎◌, inl, inr, Bool, true, false, ◌&&◌}
 use Rattle.std.proofs.Common.{Option, Some, None, Ok, Err, List, [], ◌∷◌, is_some, true≢false}
 use Rattle.std.specs.Prelude.{IsSomeAnd}
 use Rattle.disk.specs.declared.block.BlockNo.{BlockNo}

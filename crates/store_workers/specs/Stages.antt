@@ -1,7 +1,7 @@
 -- How far a worker is with its call, as a function of its state, and what holds of it between the events of a
 -- run.
 use Rattle.std.specs.Prelude.{◌≡◌, ℕ, zero, suc, true, Option, Some, None, IsSomeAnd, List, [], map, slice_get}
-use Rattle.std.specs.Prelude.{◌^◌, ◌<◌, unwrap_or}
+use Rattle.std.specs.Prelude.{◌^◌, ◌<◌, IfSome, unwrap_or}
 use Rattle.disk.specs.declared.block.BlockNo.{BlockNo}
 use Rattle.nfs_types.specs.declared.status.Status.TheVariants as status
 use Rattle.objects.specs.declared.addr.Addr.{Addr}
@@ -93,6 +93,10 @@ entry_at entries (suc index) = slice_get entries index
 -- a call that can be spelled was handed over,
 abbrev pub IsJobOf : Job → Type 0
 IsJobOf job = SoundCall job.ctx.credential job.ctx.moment job.call
+
+-- as is the worker's, if it has one,
+abbrev pub HasSoundJob : State → Type 0
+HasSoundJob state = IfSome state.work.job IsJobOf
 
 -- and runs in this boot and in this transaction
 pub record IsJobIn (boot : ℕ) (tx : Option ℕ) (job : Job) : Type 0 where

@@ -161,7 +161,7 @@ with_replies job reply place state = record state {
 -- ---- commits
 
 abbrev pub committing_of : {C : Type 0} → Commit C → Committing
-committing_of (commit.Committed place) = committing.Committed place
+committing_of (commit.Committed receipt) = committing.Committed receipt.place
 committing_of (commit.Full back change) = committing.Full
 committing_of (commit.Foreign back change) = committing.Foreign
 committing_of (commit.NoMemory back change) = committing.NoMemory
@@ -193,7 +193,7 @@ with_tx tx phase state = record state { phase = phase; begun = record { tx = Som
 
 -- the worker once its commit was answered
 abbrev pub after_commit : {C : Type 0} → Job → Reply → Commit C → State → State
-after_commit job reply (commit.Committed place) state = committed job reply place state
+after_commit job reply (commit.Committed receipt) state = committed job reply receipt.place state
 after_commit job reply (commit.Full back change) state = with_tx back Planning state
 after_commit job reply (commit.Foreign back change) state =
     record (with_tx back Again state) { known = without_off state.known }

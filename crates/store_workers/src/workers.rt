@@ -11,6 +11,7 @@ mod telling;
 
 ghost use Rattle.std.specs.Prelude.{◌≡◌, true, is_some};
 ghost use Rattle.store_workers.specs.Phases.{has_fetch, has_transaction, is_ready};
+ghost use Rattle.store_workers.specs.Stages.{HasSoundJob};
 
 use asked::Asked;
 use disk::{BlockNo, CrashDisk};
@@ -27,12 +28,13 @@ pub use telling::{
 use txn::Core;
 
 /// A worker: the state of one procedure. What its steps commit and answer lies ready to be taken. Its type
-/// keeps that it has what it needs to go on.
+/// keeps that it has what it needs to go on, and that its call can be spelled.
 pub struct Worker {
     state: State,
     pub ghost transaction: { is_some state.begun.tx ≡ has_transaction state.phase },
     pub ghost fetch: { is_some state.begun.io ≡ has_fetch state.phase },
     pub ghost ready: { is_ready state.phase state.work ≡ true },
+    pub ghost asked: { ∥ HasSoundJob state ∥₁ },
 }
 
 impl Worker {

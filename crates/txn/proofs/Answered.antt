@@ -6,7 +6,7 @@ use Rattle.disk.specs.declared.block.BlockNo.{BlockNo}
 use Rattle.objects.specs.declared.addr.Addr.{Addr}
 use Rattle.objects.specs.declared.mode.Mode.{Mode}
 use Rattle.wal_law.specs.Grows.{IsWholeChange}
-use Rattle.wal_law.specs.Log.{Log, IsLawful, newest}
+use Rattle.wal_law.specs.Log.{IsLawful, newest}
 use Rattle.txn_law.specs.Commit.{Planned, with_record, refreshed_content}
 use Rattle.txn_law.specs.Core.{CoreState, with_begun, without}
 use Rattle.txn_law.specs.CoreLaw.{IsLawfulCore}
@@ -60,7 +60,7 @@ module _ (K : ℕ → ℕ → Type 0) where
 
   pub commit_counts : {C : Type 0} (old new : CoreState) (tx : ℕ) (plan : Planned) (change : C)
       (answer : Commit C) → IsCommitExactly old tx plan change answer new → Counted old → Counted new
-  commit_counts old new tx plan change (commit.Committed place) h k =
+  commit_counts old new tx plan change (commit.Committed receipt) h k =
       subst (λ (n : ℕ). K n new.inodes) (sym h.still.blocks)
       (subst (λ (n : ℕ). K old.log.blocks n) (sym (ap (λ (core : CoreState). core.inodes) h.core)) k)
   commit_counts old new tx plan change (commit.Full back same) h k = same_counts old new h.0.core k
@@ -138,7 +138,7 @@ module _ (P : ℕ → ℕ → List ObjectBytes → List ObjectBytes → Type 0) 
   pub commit_law : {C : Type 0} (old new : CoreState) (tx : ℕ) (plan : Planned) (change : C) (answer : Commit C)
       → IsCommitExactly old tx plan change answer new → IsLawful new.log → All IsWholeChange new.log.changes
       → P plan.blocks plan.inodes plan.read plan.written → IsLawfulCore P old → IsLawfulCore P new
-  commit_law old new tx plan change (commit.Committed place) h lawful whole is_plan core =
+  commit_law old new tx plan change (commit.Committed receipt) h lawful whole is_plan core =
       subst (λ (now : CoreState). IsLawfulCore P now) (sym h.core)
       (lawful_commit P h.spare old tx plan h.group.group new.log h.tried.own h.group.sizes h.group.blocks
       h.group.contents
@@ -156,7 +156,7 @@ module _ (P : ℕ → ℕ → List ObjectBytes → List ObjectBytes → Type 0) 
 
 pub commit_keeps : {C : Type 0} (old new : CoreState) (tx : ℕ) (plan : Planned) (change : C) (answer : Commit C)
     → IsLawful old.log → AreTidy old → IsCommitExactly old tx plan change answer new → KeepsHome old new
-commit_keeps old new tx plan change (commit.Committed place) lawful tidy h base home =
+commit_keeps old new tx plan change (commit.Committed receipt) lawful tidy h base home =
     subst (λ (now : CoreState). IsHomeOf base now) (sym h.core)
     (commit_home h.spare base old tx plan h.group.group new.log lawful tidy h.tried.own h.group.sizes h.group.blocks
     h.group.contents h.group.grown h.still.blocks home)
@@ -206,7 +206,7 @@ begun_home old new (Err fault) done none base h = subst (λ (core : CoreState). 
 pub commit_set : {C : Type 0} (old new : CoreState) (tx : ℕ) (plan : Planned) (change : C) (answer : Commit C)
     → IsLawful old.log → AreTidy old → IsCommitExactly old tx plan change answer new
     → IsSetBy old plan answer new
-commit_set old new tx plan change (commit.Committed place) lawful tidy h =
+commit_set old new tx plan change (commit.Committed receipt) lawful tidy h =
     subst (λ (now : CoreState). SetsOnly old plan.written now) (sym h.core)
     (λ base home. commit_sets base old tx plan h.group.group new.log lawful tidy h.tried.own h.group.sizes
     h.group.blocks h.group.contents h.group.grown home)
@@ -261,7 +261,7 @@ begun_reads old new (Err fault) done none other = same_reads old new none other
 pub commit_reads : {C : Type 0} (P : ℕ → ℕ → List ObjectBytes → List ObjectBytes → Type 0) (old new : CoreState)
     (tx : ℕ) (plan : Planned) (change : C) (answer : Commit C) → IsLawfulCore P old
     → IsCommitExactly old tx plan change answer new → (other : ℕ) → (other ≡ tx → ⊥) → KeepsReads old new other
-commit_reads P old new tx plan change (commit.Committed place) core h other differ =
+commit_reads P old new tx plan change (commit.Committed receipt) core h other differ =
     subst (λ (now : CoreState). KeepsReads old now other) (sym h.core)
     (reads_commit h.spare core.home.0 old tx plan h.group.group new.log other core.log core.tidy
     h.tried.own h.group.sizes
@@ -321,8 +321,8 @@ place_leaves old new tx plan place tidy h = record {
 pub commit_leaves : {C : Type 0} (old new : CoreState) (tx : ℕ) (plan : Planned) (change : C)
     (answer : Commit C)
     → AreTidy old → IsCommitExactly old tx plan change answer new → IsCommit old tx plan change answer new
-commit_leaves old new tx plan change (commit.Committed place) tidy h =
-    place_leaves old new tx plan place.0 tidy h
+commit_leaves old new tx plan change (commit.Committed receipt) tidy h =
+    place_leaves old new tx plan receipt.place.0 tidy h
 commit_leaves old new tx plan change (commit.Full back same) tidy h = h
 commit_leaves old new tx plan change (commit.Foreign back same) tidy h = h
 commit_leaves old new tx plan change (commit.NoMemory back same) tidy h = h

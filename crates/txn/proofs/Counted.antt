@@ -23,7 +23,7 @@ use Rattle.txn_law.specs.Tidy.{AreApart, AreBeside}
 use Rattle.txn_law.specs.Window.{Footprint}
 use Rattle.txn_law.specs.declared.hold.Hold.{Hold}
 use Rattle.txn_law.proofs.Claims.{all_four}
-use Rattle.txn.specs.Pinned.{total, holds_in, own_in, newly_in, objects_in, reads_in}
+use Rattle.txn.specs.Pinned.{total, block_of_each, count_in, holds_in, own_in, newly_in, objects_in, reads_in}
 
 pub total-append : {X : Type 0} (count : X → ℕ) (xs ys : List X)
     → total count (xs ++ ys) ≡ total count xs + total count ys
@@ -252,10 +252,16 @@ once_most : (t : Bool) → (if t then 1 else 0) ≤ 1
 once_most true = omega arith
 once_most false = omega arith
 
--- no more objects lie in a block than there are
-pub objects_most : (objects : List ObjectBytes) (at : BlockNo) → objects_in objects at ≤ length objects
-objects_most [] at = omega arith
-objects_most (object ∷ later) at =
-    let rest = objects_most later at in
-    let one = once_most (nat_eq at.0 object.addr.block.0) in
+-- no block is more often among some than there are
+pub count_most : (blocks : List BlockNo) (at : BlockNo) → count_in blocks at ≤ length blocks
+count_most [] at = omega arith
+count_most (block ∷ later) at =
+    let rest = count_most later at in
+    let one = once_most (nat_eq at.0 block.0) in
     omega (arith, rest, one)
+
+-- the objects in a block are told by the block of each
+pub objects_are : (objects : List ObjectBytes) (at : BlockNo)
+    → count_in (block_of_each objects) at ≡ objects_in objects at
+objects_are objects at =
+    total-map (λ (object : ObjectBytes). object.addr.block) (λ block. once_at block at) objects

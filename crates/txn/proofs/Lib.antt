@@ -1,4 +1,4 @@
-pub mod Mapped
+pub mod ByParts
 pub mod Counted
 pub mod Neat
 pub mod Logged

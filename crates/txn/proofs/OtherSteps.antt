@@ -144,7 +144,7 @@ module _ (old new : CoreState) (tx t : ℕ) (differ : t ≡ tx → ⊥) (reads :
 
   pub by_commit : (C : Type 0) (plan : Planned) (change : C) (answer : Commit C)
       → IsCommit old tx plan change answer new → KeepsTaken old new t
-  by_commit C plan change (commit.Committed place) is = by_place plan place.0 is
+  by_commit C plan change (commit.Committed receipt) is = by_place plan receipt.place.0 is
   by_commit C plan change (commit.Full back same) is = keeps_same old new t is.0.core
   by_commit C plan change (commit.Foreign back same) is = keeps_same old new t is.0.core
   by_commit C plan change (commit.NoMemory back same) is = keeps_same old new t is.0.core

@@ -1,5 +1,5 @@
 -- A transaction's own change is never foreign, whoever else is out.
-use Rattle.std.proofs.Common.{◌≡◌, ◌∙◌, refl, sym, ap, subst, true≢false, ℕ, ◌⊎◌, inl, inr, Bool, true, false}
+use Rattle.std.proofs.Common.{◌≡◌, ◌∙◌, refl, sym, ap, subst, true≢false, ℕ, inl, inr, Bool, true, false}
 use Rattle.std.proofs.Common.{◌||◌, ◌++◌, ◌&&◌, cond, nat_eq, Option, Some, None, List, [], ◌∷◌, All, get_or}
 use Rattle.std.specs.Prelude.{Contains}
 use Rattle.std.proofs.lemmas.Bool.{eqb-true}
@@ -21,7 +21,7 @@ use Rattle.txn_law.specs.declared.hold.Hold.{Hold}
 use Rattle.txn_law.proofs.Again as again
 use Rattle.txn_law.proofs.Claims.{all_four, found_by}
 use Rattle.txn_law.proofs.Swept.{in_first, in_more}
-use Rattle.txn.specs.Claimed.{IsAmongRead, IsClaimedObject, IsOwnObject, IsTakenAlone}
+use Rattle.txn.specs.Claimed.{IsAmongRead, IsOwnObject, IsTakenAlone}
 
 -- what holds of the blocks of all objects holds of the group's
 pub blocks_all : (P : BlockNo → Type 0) (blocks : List BlockNo) (objects : List ObjectBytes) → All P blocks

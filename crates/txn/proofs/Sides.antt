@@ -1,6 +1,6 @@
 -- Lemmas: what the core keeps as a device call of a side goes out or comes back.
-use Rattle.std.proofs.Common.{◌≡◌, ◌∙◌, ◌≤◌, ℕ, ◌+◌, Bool, true, false, if◌then◌else◌, List, ap, arith, nat_eq, refl}
-use Rattle.std.proofs.Common.{subst, sym}
+use Rattle.std.proofs.Common.{◌≡◌, ◌∙◌, ◌≤◌, ℕ, ◌+◌, Bool, true, false, if◌then◌else◌, List, ap, arith, nat_eq, nat_lt}
+use Rattle.std.proofs.Common.{refl, subst, sym}
 use Rattle.disk.specs.Crash.{Image}
 use Rattle.disk.specs.declared.block.Side.{Side}
 use Rattle.disk.specs.declared.block.Side.TheVariants.{Log as LogSide, Home}
@@ -16,9 +16,9 @@ use Rattle.txn_law.proofs.CoreLaws.{lawful_inst_done, lawful_inst_out, lawful_lo
 use Rattle.txn_law.proofs.HeldReads.{reads_call, reads_installed, reads_log}
 use Rattle.txn_law.proofs.Leaves.{leaves_installed}
 use Rattle.txn.specs.Sides.{CoreBack, LeavesBack, LetsGo, base_back, with_call}
-use Rattle.wal.specs.Sides.{is_out, with_back}
+use Rattle.wal.specs.Sides.{is_out, with_back, with_out}
 use Rattle.wal_law.specs.Calls.{home_after}
-use Rattle.wal_law.specs.Installer.{is_inst_out, with_inst_out}
+use Rattle.wal_law.specs.Installer.{is_inst_out, next_home, with_inst_out}
 use Rattle.wal_law.specs.Io.{Io}
 use Rattle.wal_law.specs.Log.{IsLawful, Log, installed_place}
 use Rattle.wal_law.specs.Logger.{is_log_out, with_log_back, with_log_out}
@@ -45,6 +45,20 @@ home_call Home core lawful = home_inst_out core lawful
 pub reads_of_call : (side : Side) (core : CoreState) (other : ℕ) → KeepsReads core (with_call side core) other
 reads_of_call LogSide core other = reads_call core (with_log_out core.log) (core.log_calls + 1) core.inst_calls other
 reads_of_call Home core other = reads_call core (with_inst_out core.log) core.log_calls (core.inst_calls + 1) other
+
+-- it installs nothing
+pub call_place : (side : Side) (log : Log) → installed_place (with_out side log) ≡ installed_place log
+call_place LogSide log = refl
+call_place Home log = elim (nat_lt 0 log.installing) as (λ some. installed_place (if some
+    then record log { inst_out = true }
+    else record log {
+      installing = log.logged;
+      inst_step = next_home log.changes log.logged 0;
+      inst_out = true;
+    }) ≡ installed_place log) [
+      | true ↦ refl
+      | false ↦ refl
+    ]
 
 -- ---- one comes back
 

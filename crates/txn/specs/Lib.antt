@@ -1,3 +1,5 @@
+pub mod Answering
+pub mod Receipts
 pub mod Outcomes
 pub mod Exactly
 pub mod Source

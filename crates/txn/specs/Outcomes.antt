@@ -128,7 +128,7 @@ pub record IsRefused {C : Type 0} (old : CoreState) (tx : ℕ) (change : C) (bac
 -- what came of a commit, by what is left where it took a place
 abbrev pub IsCommitWith : {C : Type 0} → (ℕ → Type 0) → CoreState → ℕ → Planned → C → Commit C
     → CoreState → Type 0
-IsCommitWith taken old tx plan change (commit.Committed place) new = taken place.0
+IsCommitWith taken old tx plan change (commit.Committed receipt) new = taken receipt.place.0
 IsCommitWith taken old tx plan change (commit.Full back same) new = IsRefused old tx change back same new
     × IsTried old tx plan room.Full
 IsCommitWith taken old tx plan change (commit.Foreign back same) new = IsRefused old tx change back same new
@@ -144,9 +144,18 @@ abbrev pub IsCommit : {C : Type 0} → CoreState → ℕ → Planned → C → C
 IsCommit old tx plan change answer new =
     IsCommitWith (λ place. TakesPlace old tx plan place new) old tx plan change answer new
 
+-- the receipt of a commit has the change that was committed
+abbrev pub IsGiven : {C : Type 0} → C → Commit C → Type 0
+IsGiven change (commit.Committed receipt) = receipt.change ≡ change
+IsGiven change (commit.Full back same) = Unit {0}
+IsGiven change (commit.Foreign back same) = Unit {0}
+IsGiven change (commit.NoMemory back same) = Unit {0}
+IsGiven change (commit.Broken back same) = Unit {0}
+IsGiven change (commit.Spent back same) = Unit {0}
+
 -- what is current after a commit is what was, with what it writes laid over it
 abbrev pub IsSetBy : {C : Type 0} → CoreState → Planned → Commit C → CoreState → Type 0
-IsSetBy old plan (commit.Committed place) new = SetsOnly old plan.written new
+IsSetBy old plan (commit.Committed receipt) new = SetsOnly old plan.written new
 IsSetBy old plan (commit.Full back same) new = Unit {0}
 IsSetBy old plan (commit.Foreign back same) new = Unit {0}
 IsSetBy old plan (commit.NoMemory back same) new = Unit {0}

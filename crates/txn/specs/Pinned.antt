@@ -1,6 +1,6 @@
 -- How often each block is pinned: once for each hold of a part of it, and once for each object that a kept commit
 -- read in it.
-use Rattle.std.specs.Prelude.{ℕ, ◌+◌, ◌<◌, ◌^◌, if◌then◌else◌, List, [], ◌∷◌, All, length, nat_eq, not}
+use Rattle.std.specs.Prelude.{ℕ, ◌+◌, ◌<◌, ◌^◌, if◌then◌else◌, List, [], ◌∷◌, All, length, map, nat_eq, not}
 use Rattle.std.specs.Prelude.{is_some}
 use Rattle.disk.specs.declared.block.BlockNo.{BlockNo}
 use Rattle.objects.specs.Object.{ObjectBytes}
@@ -28,6 +28,14 @@ abbrev pub newly_in : List Hold → Hold → BlockNo → ℕ
 newly_in holds hold at =
     if is_some (hold_of holds hold.transaction hold.addr) then 0 else once_at hold.addr.block at
 
+-- the block of each object
+abbrev pub block_of_each : List ObjectBytes → List BlockNo
+block_of_each objects = map (λ object. object.addr.block) objects
+
+-- how many of these blocks are this block
+abbrev pub count_in : List BlockNo → BlockNo → ℕ
+count_in blocks at = total (λ block. once_at block at) blocks
+
 -- how many of the objects lie in the block
 abbrev pub objects_in : List ObjectBytes → BlockNo → ℕ
 objects_in objects at = total (λ object. once_at object.addr.block at) objects
@@ -36,7 +44,6 @@ objects_in objects at = total (λ object. once_at object.addr.block at) objects
 abbrev pub reads_in : List Footprint → BlockNo → ℕ
 reads_in records at = total (λ kept. objects_in kept.read at) records
 
--- for each object, so many pins more of its block as there are objects can be counted
-abbrev pub AreCountable : Residents → List ObjectBytes → Type 0
-AreCountable residents objects =
-    All (λ object. pins_of residents object.addr.block + length objects < 2 ^ 64) objects
+-- for each of the blocks, so many pins more as there are blocks can be counted
+abbrev pub AreCountable : Residents → List BlockNo → Type 0
+AreCountable residents blocks = All (λ block. pins_of residents block + length blocks < 2 ^ 64) blocks

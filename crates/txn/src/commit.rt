@@ -4,14 +4,15 @@ ghost use Rattle.wal_law.specs.Log.{IsHomeOn};
 ghost use Rattle.wal_law.specs.Room.{IsRoom};
 ghost use Rattle.limits.specs.declared.TheConstants.{CHANGED_BLOCKS};
 ghost use Rattle.txn.specs.Exactly.{IsCommitExactly};
+ghost use Rattle.txn.specs.Outcomes.{IsGiven};
 ghost use Rattle.txn_law.specs.Commit.{IsOwn, IsReadBy, IsWrittenBy, HasBytes};
 ghost use Rattle.txn_law.specs.Group.{blocks_of};
 
 use crate::outcomes::Commit;
-use crate::records::{can_pin_each, keep};
+use crate::records::{Record, block_of_each, can_pin_each, keep};
 use crate::refreshing::refresh;
 use crate::state::State;
-use crate::{Change, Object, Tx};
+use crate::{Change, Object, Receipt, Tx};
 use disk::BlockNo;
 use groups::{are_sized, blocks_of_objects, group_of};
 use std::alloc::Global;
@@ -21,7 +22,8 @@ impl<C: Change> State<C> {
     /// Commits a change at the next place, and ends its transaction; `Core::commit` tells the answers.
     pub(crate) fn commit(&mut self, alloc: Global, tx: Tx, change: C) -> Commit<C>
         requires { length (blocks_of (C.planned change).written) ≤ CHANGED_BLOCKS }
-        ensures { IsCommitExactly self.old tx (C.planned change) change result self.new }
+        ensures answer { IsCommitExactly self.old tx (C.planned change) change result self.new }
+        ensures given { IsGiven change result }
     {
         if self.log.broken() {
             return Commit::Broken(tx, change);
@@ -44,14 +46,18 @@ impl<C: Change> State<C> {
         requires own { IsOwn self.old tx (C.planned change) }
         requires room { IsRoom self.old.log blocks.now Room.Fits }
         requires blocks { blocks.now ≡ blocks_of (C.planned change).written }
-        ensures { IsCommitExactly self.old tx (C.planned change) change result self.new }
+        ensures answer { IsCommitExactly self.old tx (C.planned change) change result self.new }
+        ensures given { IsGiven change result }
     {
         are_sized(change.written());
         self.present.lawful();
         if self.records.reserve(1).is_err() {
             return Commit::NoMemory(tx, change);
         }
-        if !can_pin_each(&self.present, change.read()) {
+        let Ok(read) = block_of_each(alloc, change.read()) else {
+            return Commit::NoMemory(tx, change);
+        };
+        if !can_pin_each(&self.present, read.as_slice()) {
             return Commit::NoMemory(tx, change);
         }
         let Ok(group) = group_of(alloc, &self.present, &self.log, blocks, change.written()) else {
@@ -63,15 +69,10 @@ impl<C: Change> State<C> {
                 let place = self.log.places();
                 refresh(&mut self.present, &self.log, blocks);
                 let installed = self.log.installed();
-                keep(
-                    &mut self.records,
-                    &mut self.present,
-                    place,
-                    change,
-                    installed,
-                );
+                let kept = Record::of(place, read, &change);
+                keep(&mut self.records, &mut self.present, kept, installed);
                 self.close(number);
-                Commit::Committed(place)
+                Commit::Committed(Receipt::of(place, change))
             }
             Append::Full => Commit::Full(tx, change),
             Append::NoMemory => Commit::NoMemory(tx, change),

@@ -6,6 +6,7 @@ mod commit;
 mod fetching;
 mod laws;
 mod outcomes;
+mod receipt;
 mod records;
 mod refreshing;
 mod state;
@@ -20,6 +21,7 @@ pub use laws::{
 };
 pub use objects::Object;
 pub use outcomes::{BeginFault, Claim, Commit, Want};
+pub use receipt::Receipt;
 pub use transactions::Core;
 pub use tx::{FetchIo, Stable, Tx};
 pub use txn_law::{

@@ -1,9 +1,8 @@
 //! What the core answers.
 
-use crate::{FetchIo, Tx};
+use crate::{FetchIo, Receipt, Tx};
 use objects::SharedBytes;
 use thiserror::Error;
-use wal::Seq;
 
 /// Why no transaction was begun.
 #[derive(Clone, Copy, Debug, PartialEq, Eq, Drop, Error)]
@@ -35,9 +34,9 @@ pub enum Claim {
     NoMemory(Tx),
 }
 
-/// What came of a commit. All but the first hand the transaction and its change back.
+/// What came of a commit: a receipt, or the transaction and its change come back.
 pub enum Commit<C> {
-    Committed(Seq),
+    Committed(Receipt<C>),
     Full(Tx, C),
     Foreign(Tx, C),
     NoMemory(Tx, C),

@@ -1,75 +1,108 @@
 //! The commits that aren't installed, and the pins of what they read and of what transactions hold.
 ghost use Rattle.std.specs.Prelude.{◌≡◌, ◌<◌, ◌↔◌, ◌++◌, ◌∷◌, [], if◌then◌else◌, nat_eq, nat_lt, not};
-ghost use Rattle.std.specs.Prelude.{All, IsTrue};
+ghost use Rattle.std.specs.Prelude.{All, IfOk, IsTrue};
 ghost use Rattle.std.specs.List.{filter};
 ghost use Rattle.std.specs.VecDeque.{deque_len, deque_capacity};
 ghost use Rattle.objects.specs.Pins.{Pins, Unpins, once_at, pins_of};
-ghost use Rattle.txn.specs.Pinned.{AreCountable, objects_in, own_in, total};
+ghost use Rattle.txn.specs.Pinned.{AreCountable, count_in, objects_in, own_in, block_of_each, total};
 
 use crate::{Change, Object};
+use disk::BlockNo;
 use locks::{Hold, Table};
 use objects::Residency;
+use std::alloc::{AllocError, Global};
 use std::collections::VecDeque;
+use std::marker::Model;
+use std::snapshot::Snapshot;
 use wal::Seq;
 
-/// A commit with its place.
+/// A commit with its place, and with the block of each object that it read, which is pinned for it. Its change is
+/// kept for proofs alone. A clause sees what it read and wrote.
 #[derive(Drop)]
 pub(crate) struct Record<C: Change> {
-    pub(crate) place: Seq,
-    pub(crate) change: C,
+    place: Seq,
+    blocks: Vec<BlockNo>,
+    change: Snapshot<C>,
 }
 
-/// Whether the blocks of the objects can be pinned once more for each object.
-pub(crate) fn can_pin_each(present: &Residency, objects: &[Object]) -> bool
-    ensures { IsTrue result ↔ AreCountable present.now objects.now }
+impl<C: Change> Model for Record<C> {
+    ghost use Rattle.std.specs.Prelude.{◌≡◌};
+    ghost use Rattle.txn_law.specs.Commit.{footprint};
+    ghost use Rattle.txn_law.specs.Window.{Footprint};
+    ghost use Rattle.txn.specs.Pinned.{block_of_each};
+
+    ghost Value = { Footprint };
+
+    ghost view = { λ r. footprint r.place.0 (C.planned r.change.value) };
+
+    ghost invariant = { λ r. r.blocks.items ≡ block_of_each (C.planned r.change.value).read };
+}
+
+impl<C: Change> Record<C> {
+    ghost use Rattle.txn_law.specs.Commit.{footprint};
+
+    /// The record of a change that took a place, with the block of each object that it read.
+    pub(crate) fn of(place: Seq, blocks: Vec<BlockNo>, change: &C) -> Record<C>
+        requires { blocks.items ≡ block_of_each (C.planned change.now).read }
+        ensures { result ≡ footprint place.0 (C.planned change.now) }
+    {
+        Record {
+            place,
+            blocks,
+            change: Snapshot::of(change),
+        }
+    }
+
+    // Its place.
+    fn place(&self) -> Seq
+        ensures { result.0 ≡ self.now.place }
+    {
+        self.place
+    }
+
+    // The block of each object that it read.
+    fn blocks(&self) -> &[BlockNo]
+        ensures { result.now ≡ block_of_each self.now.read }
+    {
+        &self.blocks
+    }
+}
+
+/// The block of each object.
+pub(crate) fn block_of_each(alloc: Global, objects: &[Object]) -> Result<Vec<BlockNo>, AllocError>
+    ensures { IfOk result (λ blocks. blocks.items ≡ block_of_each objects.now) }
 {
-    let more = objects.len();
     objects
         .iter()
-        .all(|object| present.can_pin(object.addr().block, more))
+        .map(|object| object.addr().block)
+        .collect(alloc)
 }
 
-// Pins the block of each object once more, all of which are pinned.
-fn pin_each(present: &mut Residency, objects: &[Object])
-    requires pinned { All (λ object. 0 < pins_of present.old object.addr.block) objects.now }
-    requires countable { AreCountable present.old objects.now }
-    ensures { Pins present.old (objects_in objects.now) present.new }
+/// Whether each of the blocks can be pinned once more for each of them.
+pub(crate) fn can_pin_each(present: &Residency, blocks: &[BlockNo]) -> bool
+    ensures { IsTrue result ↔ AreCountable present.now blocks.now }
 {
-    for object in objects {
-        let block = object.addr().block;
-        present.pin_again(block);
+    let more = blocks.len();
+    blocks.iter().all(|block| present.can_pin(*block, more))
+}
+
+// Pins each of the blocks once more, all of which are pinned.
+fn pin_each(present: &mut Residency, blocks: &[BlockNo])
+    requires pinned { All (λ block. 0 < pins_of present.old block) blocks.now }
+    requires countable { AreCountable present.old blocks.now }
+    ensures { Pins present.old (count_in blocks.now) present.new }
+{
+    for block in blocks {
+        present.pin_again(*block);
     }
 }
 
-// Takes one pin off the block of each object.
-fn unpin_each(present: &mut Residency, objects: &[Object])
-    ensures { Unpins present.old (objects_in objects.now) present.new }
+// Takes one pin off each of the blocks.
+fn unpin_each(present: &mut Residency, blocks: &[BlockNo])
+    ensures { Unpins present.old (count_in blocks.now) present.new }
 {
-    for object in objects {
-        let block = object.addr().block;
-        present.unpin(block);
-    }
-}
-
-/// Keeps the record of a commit, for which there is room, until it is installed, and pins what it read.
-pub(crate) fn keep<C: Change>(
-    records: &mut VecDeque<Record<C>>,
-    present: &mut Residency,
-    place: Seq,
-    change: C,
-    installed: Seq,
-)
-    requires room { deque_len records.old < deque_capacity records.old }
-    requires pinned { All (λ object. 0 < pins_of present.old object.addr.block) (C.planned change).read }
-    requires countable { AreCountable present.old (C.planned change).read }
-    ensures records { records.new.items ≡ (if nat_lt installed.0 place.0 then records.old.items
-        ++ record { place = place; change = change } ∷ [] else records.old.items) }
-    ensures pins { Pins present.old (λ at. if nat_lt installed.0 place.0
-        then objects_in (C.planned change).read at else 0) present.new }
-{
-    if place > installed {
-        pin_each(present, change.read());
-        records.push_back_reserved(Record { place, change });
+    for block in blocks {
+        present.unpin(*block);
     }
 }
 
@@ -80,21 +113,42 @@ fn is_past(place: Seq, installed: Seq) -> bool
     place > installed
 }
 
+/// Keeps the record of a commit, for which there is room, until it is installed, and pins what it read.
+pub(crate) fn keep<C: Change>(
+    records: &mut VecDeque<Record<C>>,
+    present: &mut Residency,
+    kept: Record<C>,
+    installed: Seq,
+)
+    requires room { deque_len records.old < deque_capacity records.old }
+    requires pinned { All (λ block. 0 < pins_of present.old block) (block_of_each kept.read) }
+    requires countable { AreCountable present.old (block_of_each kept.read) }
+    ensures records { records.new.items ≡ (if nat_lt installed.0 kept.place then records.old.items
+        ++ kept ∷ [] else records.old.items) }
+    ensures pins { Pins present.old (λ at. if nat_lt installed.0 kept.place
+        then objects_in kept.read at else 0) present.new }
+{
+    if is_past(kept.place(), installed) {
+        pin_each(present, kept.blocks());
+        records.push_back_reserved(kept);
+    }
+}
+
 // Takes the pins off what a record read whose place is no further than this.
 fn forget_one<C: Change>(present: &mut Residency, kept: &Record<C>, installed: Seq)
-    ensures { Unpins present.old (λ at. if nat_lt installed.0 kept.now.place.0 then 0
-        else objects_in (C.planned kept.now.change).read at) present.new }
+    ensures { Unpins present.old (λ at. if nat_lt installed.0 kept.now.place then 0
+        else objects_in kept.now.read at) present.new }
 {
-    if is_past(kept.place, installed) {
+    if is_past(kept.place(), installed) {
         return;
     }
-    unpin_each(present, kept.change.read());
+    unpin_each(present, kept.blocks());
 }
 
 // Takes the pins off what the records up to a place read.
 fn forget_each<C: Change>(present: &mut Residency, records: &VecDeque<Record<C>>, installed: Seq)
-    ensures { Unpins present.old (λ at. total (λ kept. if nat_lt installed.0 kept.place.0 then 0
-        else objects_in (C.planned kept.change).read at) records.now.items) present.new }
+    ensures { Unpins present.old (λ at. total (λ kept. if nat_lt installed.0 kept.place then 0
+        else objects_in kept.read at) records.now.items) present.new }
 {
     for i in 0..records.len() {
         forget_one(present, &records[i], installed);
@@ -107,12 +161,12 @@ pub(crate) fn forget<C: Change>(
     present: &mut Residency,
     installed: Seq,
 )
-    ensures records { records.new.items ≡ filter (λ kept. nat_lt installed.0 kept.place.0) records.old.items }
-    ensures pins { Unpins present.old (λ at. total (λ kept. if nat_lt installed.0 kept.place.0 then 0
-        else objects_in (C.planned kept.change).read at) records.old.items) present.new }
+    ensures records { records.new.items ≡ filter (λ kept. nat_lt installed.0 kept.place) records.old.items }
+    ensures pins { Unpins present.old (λ at. total (λ kept. if nat_lt installed.0 kept.place then 0
+        else objects_in kept.read at) records.old.items) present.new }
 {
     forget_each(present, records, installed);
-    records.retain(|record| record.place > installed);
+    records.retain(|record| record.place() > installed);
 }
 
 // Takes one pin off the block of a hold, if the transaction has it.

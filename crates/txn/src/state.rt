@@ -52,8 +52,7 @@ pub(crate) struct State<C: Change> {
 }
 
 impl<C: Change> Model for State<C> {
-    ghost use Rattle.std.specs.Prelude.{map, length};
-    ghost use Rattle.txn_law.specs.Commit.{footprint};
+    ghost use Rattle.std.specs.Prelude.{length};
     ghost use Rattle.txn_law.specs.Core.{CoreState};
 
     ghost Value = { CoreState };
@@ -65,7 +64,7 @@ impl<C: Change> Model for State<C> {
       out = c.out.items;
       holds = c.holds;
       present = c.present.blocks;
-      records = map (λ r. footprint r.place.0 (C.planned r.change)) c.records.items;
+      records = c.records.items;
       boot = c.boot;
       log_calls = length c.log_calls.items;
       inst_calls = length c.inst_calls.items;
@@ -73,8 +72,7 @@ impl<C: Change> Model for State<C> {
 
     ghost use Rattle.txn.specs.Neat.{IsNeat};
 
-    ghost invariant = { λ c. IsNeat c.log c.holds
-        (map (λ r. footprint r.place.0 (C.planned r.change)) c.records.items) c.present };
+    ghost invariant = { λ c. IsNeat c.log c.holds c.records.items c.present };
 }
 
 impl<C: Change> State<C> {

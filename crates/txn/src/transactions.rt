@@ -21,8 +21,9 @@ ghost use Rattle.txn_law.specs.HomeRead.{IsReadable, HasContents};
 ghost use Rattle.txn_law.specs.Leaves.{Leaves, HasFetched, taken_by, is_fetching, in_memory, but_by};
 ghost use Rattle.txn_law.specs.Leaves.{without_fetch};
 ghost use Rattle.txn_law.specs.Wishes.{IsWhole};
+ghost use Rattle.txn.specs.Answering.{OfSome};
+ghost use Rattle.txn.specs.Outcomes.{IsWanted, IsWithin, IsClaimed, IsCommit, IsGiven, IsSetBy};
 ghost use Rattle.txn.specs.Sides.{CoreBack, LeavesBack, base_back, with_call};
-ghost use Rattle.txn.specs.Outcomes.{IsWanted, IsWithin, IsClaimed, IsCommit, IsSetBy};
 
 mod ending;
 mod places;
@@ -49,8 +50,10 @@ impl<C: Change> Model for Core<C> {
     ghost view = { λ c. c.state };
 
     ghost use Rattle.txn_law.specs.CoreLaw.{IsLawfulCore};
+    ghost use Rattle.txn.specs.Answering.{OfSome};
 
-    ghost invariant = { λ c. IsLawfulCore C.is_plan c.state × C.are_counts c.state.log.blocks c.state.inodes };
+    ghost invariant = { λ c. IsLawfulCore (OfSome C.is_plan) c.state
+        × C.are_counts c.state.log.blocks c.state.inodes };
 }
 
 impl<C: Change> Core<C> {
@@ -82,7 +85,7 @@ impl<C: Change> Core<C> {
     /// What is true of every core: its log is lawful, what transactions have taken and what is in memory is
     /// tidy, there are blocks that may be what is at home, and each commit that is kept is a plan's.
     pub fn lawful(&self)
-        ensures { IsLawfulCore C.is_plan self.now }
+        ensures { IsLawfulCore (OfSome C.is_plan) self.now }
     {
         let _ = &self.state;
     }
@@ -188,7 +191,7 @@ impl<C: Change> Core<C> {
         self.state.fetch_failed(io);
     }
 
-    /// Commits a change at the next place, and ends its transaction. Broken: a write or a barrier has failed.
+    /// Commits a change at the next place, ends its transaction, and gives a receipt. Broken: a write or a barrier has failed.
     /// Foreign: the transaction isn't one that this core began and that hasn't ended; or the change was planned
     /// for other counts than the core's, writes a block that no change may write, writes what this transaction
     /// doesn't hold alone or whose fetch is pending, or read what it doesn't hold for reading or what differs. Spent:
@@ -197,6 +200,7 @@ impl<C: Change> Core<C> {
     pub fn commit(&mut self, alloc: Global, tx: Tx, change: C) -> Commit<C>
         requires { length (blocks_of (C.planned change).written) ≤ CHANGED_BLOCKS }
         ensures answer { IsCommit self.old tx (C.planned change) change result self.new }
+        ensures given { IsGiven change result }
         ensures sets { IsSetBy self.old (C.planned change) result self.new }
         ensures stays { (other : ℕ) → (other ≡ tx → ⊥) → KeepsReads self.old self.new other }
         ensures keeps { KeepsHome self.old self.new }

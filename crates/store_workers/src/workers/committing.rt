@@ -53,7 +53,8 @@ impl State {
         ensures state { IfSome self.old.work.job (λ job. self.new ≡ after_commit job told answer self.old) }
     {
         match answer {
-            Commit::Committed(place) => {
+            Commit::Committed(receipt) => {
+                let place = receipt.place();
                 self.committed(place, told, kept);
                 Committing::Committed(place)
             }

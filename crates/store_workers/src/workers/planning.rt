@@ -18,6 +18,7 @@ impl State {
     ghost use Rattle.store_workers.specs.Phases.{is_planned};
     ghost use Rattle.store_workers.specs.Knowing.{IsNextOf, first_of};
     ghost use Rattle.store_workers.specs.Seen.{seen_in};
+    ghost use Rattle.store_workers.specs.Stages.{HasSoundJob};
     ghost use Rattle.store_workers.specs.Worker.{IsSound, HasBytes, HasRoom, HasRoomFor, IsHeld};
     ghost use Rattle.store_workers.specs.WorkerAnswers.{asked_wanted, begun_claimed, begun_wanted};
     ghost use Rattle.store_workers.specs.WorkerAnswers.{claim_wish, known_claimed, known_off, known_wanted};
@@ -32,6 +33,7 @@ impl State {
     // Takes again the first of what is left, or goes by the plan.
     pub(super) fn go_within(&mut self, alloc: Global, core: &mut Core<Done>) -> Step
         requires sound { IsSound self.old }
+        requires asked { ∥ HasSoundJob self.old ∥₁ }
         requires phase { self.old.phase ≡ Planning }
         ensures sound { IsSound self.new }
         ensures frame { SameFrame core.old core.new }
@@ -67,6 +69,7 @@ impl State {
     // Makes the step that the plan asks for. Where the plan finds no memory the transaction is ended.
     fn go_by_plan(&mut self, alloc: Global, core: &mut Core<Done>) -> Step
         requires sound { IsSound self.old }
+        requires asked { ∥ HasSoundJob self.old ∥₁ }
         requires phase { self.old.phase ≡ Planning }
         requires none { self.old.known.left ≡ [] }
         ensures sound { IsSound self.new }
@@ -87,7 +90,8 @@ impl State {
 
     // What the call needs next, or what comes of it, with room for what is read next.
     fn next(&mut self, alloc: Global) -> Plan
-        requires { is_planned self.old.work ≡ true }
+        requires planned { is_planned self.old.work ≡ true }
+        requires asked { ∥ HasSoundJob self.old ∥₁ }
         ensures next { IsNext self.old result }
         ensures rest { self.new ≡ with_snap self.new self.old }
         ensures seen { seen_in self.new.work.snap ≡ seen_in self.old.work.snap }

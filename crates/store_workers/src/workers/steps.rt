@@ -18,6 +18,7 @@ impl State {
     ghost use Rattle.store_workers.specs.declared.workers.parts.Phase.TheVariants.{Read, Refused, Again};
     ghost use Rattle.store_workers.specs.declared.workers.parts.Phase.TheVariants.{Waiting};
     ghost use Rattle.store_images.specs.Counts.{SameFrame};
+    ghost use Rattle.store_workers.specs.Stages.{HasSoundJob};
     ghost use Rattle.store_workers.specs.Worker.{IsSound, with_call};
     ghost use Rattle.store_workers.specs.WorkerAnswers.{with_answer};
     ghost use Rattle.store_workers.specs.WorkerReads.{HasReadBlock};
@@ -27,7 +28,8 @@ impl State {
 
     // Makes the next step.
     pub(super) fn step(&mut self, alloc: Global, core: &mut Core<Done>) -> Option<Step>
-        requires { IsSound self.old }
+        requires sound { IsSound self.old }
+        requires asked { ∥ HasSoundJob self.old ∥₁ }
         ensures sound { IsSound self.new }
         ensures frame { SameFrame core.old core.new }
         ensures step { GoesOn self.old.phase (side self.old core.old) result (side self.new core.new) }

@@ -281,7 +281,7 @@ impl<D: CrashDisk> Bench<D> {
     // Ends the transaction of a change that was refused.
     fn let_go(&mut self, outcome: Commit<Toy>) -> Ended {
         let (tx, ended) = match outcome {
-            Commit::Committed(place) => return Ended::Place(place),
+            Commit::Committed(receipt) => return Ended::Place(receipt.place()),
             Commit::Full(tx, _) => (tx, Ended::Full),
             Commit::Foreign(tx, _) => (tx, Ended::Foreign),
             Commit::NoMemory(tx, _) => (tx, Ended::NoMemory),

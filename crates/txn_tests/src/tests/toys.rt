@@ -33,8 +33,12 @@ impl Change for Toy {
       inodes = toy.inodes;
     } };
 
+    type Answer = ();
+
+    ghost answers = { λ toy. tt };
+
     // It is planned for blocks alone.
-    ghost is_plan = { λ blocks inodes read written. blocks ≡ BLOCKS };
+    ghost is_plan = { λ blocks inodes answer read written. blocks ≡ BLOCKS };
 
     // It is made to any image.
     ghost are_counts = { λ blocks inodes. Unit {0} };

@@ -3,6 +3,7 @@ use Rattle.wal.specs.Sides.{may_call}
 use Rattle.wal_law.specs.Io.{Io}
 use Rattle.log_seats.specs.Steps.{HasStepped, comes_back, goes_out}
 use Rattle.log_seats.proofs.Sides.{makes_one, stepped_may}
+use Rattle.txn.specs.Answering.{OfSome}
 use Rattle.log_seats.proofs.one_call.make_one.Goals as goal
 
 pub returns-clause-may : goal.returns-clause-may
@@ -26,7 +27,7 @@ returns-clause-one g c = λ _.
     subst (λ (out : Option Io). HasStepped (may_call side) (goes_out side) (comes_back side) c.args.core.now out
     c.new-caller.result.made c.step.result c.step.new.core c.step.new.self.io c.step.new.self.made)
     c.new-caller.ensures.0 c.step.ensures.step in
-    makes_one side g.C.Change.is_plan c.args.core.now c.step.new.core c.step-2.new.core c.end-2.new.core
+    makes_one side (OfSome g.C.Change.is_plan) c.args.core.now c.step.new.core c.step-2.new.core c.end-2.new.core
     (g.D.CrashDisk.device c.args.disk.now) (g.D.CrashDisk.device c.make.new.disk) c.new-caller.result.made
     c.step.result c.step-2.result c.step.new.self.io c.step-2.new.self.io c.step.new.self.made c.make.new.self.made
     c.step-2.new.self.made c.make.result first some c.lawful.ensures (c.make.ensures.made side)

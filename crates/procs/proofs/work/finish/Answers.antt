@@ -1,6 +1,12 @@
 use Rattle.std.proofs.Common.{sym, subst}
 use Rattle.procs.specs.Steps.{IsStepOf}
+use Rattle.procs.proofs.Finishes.{finished}
 use Rattle.procs.proofs.work.finish.Goals as goal
+
+pub new-requires : goal.new-requires
+new-requires c =
+    finished c.args.ctx.now c.args.call.now c.args.snap.now c.args.draft c.requires.sound c.requires.served
+    c.requires.made c.requires.ends c.requires.step c.few.ensures
 
 pub returns-clause-step : goal.returns-clause-step
 returns-clause-step c =

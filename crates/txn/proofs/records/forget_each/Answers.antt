@@ -20,8 +20,8 @@ step count xs i x one two three lt is first second =
 
 pub loop-i-preserved : goal.loop-i-preserved
 loop-i-preserved g c =
-    step (λ at kept. if nat_lt c.args.installed.0 kept.place.0 then 0
-    else objects_in (g.C.Change.planned kept.change).read at) c.args.records.now.items c.loop-i.i
+    step (λ at kept. if nat_lt c.args.installed.0 kept.place then 0
+    else objects_in kept.read at) c.args.records.now.items c.loop-i.i
     c.index.result.now c.args.present.now c.loop-i.present c.forget_one.new.present
     (omega (arith, c.loop-i-test.true, c.len-i-end.ensures)) c.index.ensures c.loop-i.invariant
     c.forget_one.ensures

@@ -6,5 +6,5 @@ use Rattle.txn.proofs.records.forget_each.Given as goal
 
 abbrev pub invariant-loop-i : goal.invariant-loop-i
 invariant-loop-i g l =
-    Unpins l.initial.present (λ at. total (λ kept. if nat_lt l.fn.installed.0 kept.place.0 then 0
-    else objects_in (g.C.Change.planned kept.change).read at) (take l.i l.records.items)) l.present
+    Unpins l.initial.present (λ at. total (λ kept. if nat_lt l.fn.installed.0 kept.place then 0
+    else objects_in kept.read at) (take l.i l.records.items)) l.present

@@ -1,8 +1,8 @@
--- the blocks of the objects so far are pinned once less
+-- the blocks so far are pinned once less
 use Rattle.std.proofs.Common.{take}
 use Rattle.objects.specs.Pins.{Unpins}
-use Rattle.txn.specs.Pinned.{objects_in}
+use Rattle.txn.specs.Pinned.{count_in}
 use Rattle.txn.proofs.records.unpin_each.Given as goal
 
-abbrev pub invariant-loop-object : goal.invariant-loop-object
-invariant-loop-object l = Unpins l.initial.present (objects_in (take l.object-index l.objects)) l.present
+abbrev pub invariant-loop-block : goal.invariant-loop-block
+invariant-loop-block l = Unpins l.initial.present (count_in (take l.block-index l.blocks)) l.present

@@ -1,4 +1,4 @@
 use Rattle.procs.proofs.done.DoneChange.is_planned.Goals as goal
 
 pub returns : goal.returns
-returns c = (c.args.self.now.reply, c.finished.ensures)
+returns c = (c.args.self.now.ctx, c.args.self.now.asked, c.finished.ensures)

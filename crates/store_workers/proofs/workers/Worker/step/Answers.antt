@@ -1,6 +1,13 @@
+use Rattle.std.proofs.Math.Logic.{∥∥₁_map}
 use Rattle.store_workers.specs.WorkerSteps.{side}
+use Rattle.store_workers.proofs.StillAsked.{still_asked}
 use Rattle.store_workers.proofs.StillFits.{still_fits}
 use Rattle.store_workers.proofs.workers.Worker.step.Goals as goal
+
+pub invariant_of-self-clause-asked : goal.invariant_of-self-clause-asked
+invariant_of-self-clause-asked c = ∥∥₁_map c.args.self.now.asked (λ asked.
+    still_asked (side c.args.self.now.state c.args.core.now) (side c.step.new.self c.step.new.core) asked
+    c.args.self.now.state.phase c.step.result c.step.ensures.step)
 
 pub returns-clause-fits : goal.returns-clause-fits
 returns-clause-fits c = λ fits. still_fits (side c.args.self.now.state c.args.core.now)

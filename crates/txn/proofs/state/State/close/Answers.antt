@@ -1,11 +1,10 @@
-use Rattle.std.proofs.Common.{◌≡◌, Bool, ◌∙◌, ap, map, sym, subst, List, length}
+use Rattle.std.proofs.Common.{◌≡◌, Bool, ◌∙◌, ap, sym, subst, List, length}
 use Rattle.txn.proofs.Counted.{swept_is}
-use Rattle.txn.proofs.Mapped.{ended_is}
+use Rattle.txn.proofs.ByParts.{ended_is}
 use Rattle.txn.proofs.Neat.{neat_ended}
 use Rattle.txn.specs.Neat.{IsNeat}
 use Rattle.objects.specs.Pins.{Residents, pins_of}
 use Rattle.objects.specs.declared.present.Present.{Present}
-use Rattle.txn_law.specs.Commit.{footprint}
 use Rattle.txn_law.specs.Core.{CoreState, ended}
 use Rattle.txn_law.specs.Holds.{released}
 use Rattle.txn_law.specs.Records.{swept}
@@ -16,8 +15,7 @@ use Rattle.txn.proofs.state.State.close.Goals as goal
 pub invariant_of-self : goal.invariant_of-self
 invariant_of-self g c =
     let core = c.self.inside in
-    let records : List Footprint =
-    map (λ kept. footprint kept.place.0 (g.C.Change.planned kept.change)) core.records.items in
+    let records : List Footprint = core.records.items in
     let old : Residents = core.present in
     let new : Residents = c.unpin_holds.new.present in
     subst (λ (holds : List Hold). IsNeat core.log holds records new) (sym c.release_all.ensures)
@@ -27,8 +25,7 @@ pub returns : goal.returns
 returns g c =
     let core = c.self.inside in
     let tx = c.args.transaction in
-    let records : List Footprint =
-    map (λ kept. footprint kept.place.0 (g.C.Change.planned kept.change)) core.records.items in
+    let records : List Footprint = core.records.items in
     let old : Residents = core.present in
     let new : Residents = c.unpin_holds.new.present in
     let neat : IsNeat core.log (released core.holds tx) records new =

@@ -1,11 +1,10 @@
-use Rattle.std.proofs.Common.{◌≡◌, Bool, ◌∙◌, List, ap, map, subst, sym, length}
+use Rattle.std.proofs.Common.{◌≡◌, Bool, ◌∙◌, List, ap, subst, sym, length}
 use Rattle.objects.specs.Pins.{Residents, pins_of}
 use Rattle.objects.specs.Present.{filled}
 use Rattle.objects.specs.declared.present.Present.{Present}
 use Rattle.txn.proofs.Counted.{swept_is}
 use Rattle.txn.proofs.Neat.{neat_fetched}
 use Rattle.txn.specs.Neat.{IsNeat}
-use Rattle.txn_law.specs.Commit.{footprint}
 use Rattle.txn_law.specs.Core.{CoreState}
 use Rattle.txn_law.specs.Fetch.{Fetch}
 use Rattle.txn_law.specs.Fetched.{fetched}
@@ -16,16 +15,14 @@ use Rattle.txn.proofs.state.State.fetched.Goals as goal
 pub invariant_of-self : goal.invariant_of-self
 invariant_of-self g c =
     let core = c.self.inside in
-    let records : List Footprint =
-    map (λ kept. footprint kept.place.0 (g.C.Change.planned kept.change)) core.records.items in
+    let records : List Footprint = core.records.items in
     subst (λ (resident : Residents). IsNeat core.log core.holds records resident) (sym c.fetched.ensures.1)
     (neat_fetched c.fetched.ensures.0 core.log core.holds records core.present c.io.inside.block c.io.inside.buffer c.self.invariant)
 
 pub returns : goal.returns
 returns g c =
     let core = c.self.inside in
-    let records : List Footprint =
-    map (λ kept. footprint kept.place.0 (g.C.Change.planned kept.change)) core.records.items in
+    let records : List Footprint = core.records.items in
     let old : Residents = core.present in
     let new : Residents = c.fetched.new.self in
     let spare : Present → Bool = c.fetched.ensures.0 in

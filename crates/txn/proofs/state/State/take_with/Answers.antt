@@ -1,4 +1,4 @@
-use Rattle.std.proofs.Common.{◌≡◌, ◌+◌, ◌-◌, ◌∙◌, ℕ, Bool, true, false, if◌then◌else◌, List, None, Some, ap, map, length}
+use Rattle.std.proofs.Common.{◌≡◌, ◌+◌, ◌-◌, ◌∙◌, ℕ, Bool, true, false, if◌then◌else◌, List, None, Some, ap, length}
 use Rattle.std.proofs.Common.{subst, sym, arith}
 use Rattle.disk.specs.Device.{Content}
 use Rattle.disk.specs.declared.block.BlockNo.{BlockNo}
@@ -10,7 +10,6 @@ use Rattle.wal_law.specs.Log.{newest}
 use Rattle.txn.proofs.Neat.{neat_stay, neat_brought}
 use Rattle.txn.specs.Neat.{IsAsLogged, IsNeat}
 use Rattle.txn.specs.Pinned.{newly_in}
-use Rattle.txn_law.specs.Commit.{footprint}
 use Rattle.txn_law.specs.Core.{CoreState}
 use Rattle.txn_law.specs.Window.{Footprint}
 use Rattle.txn_law.specs.declared.hold.Hold.{Hold}
@@ -19,8 +18,7 @@ use Rattle.txn.proofs.state.State.take_with.Goals as goal
 pub invariant_of-self-in-Err : goal.invariant_of-self-in-Err
 invariant_of-self-in-Err g c =
     let core = c.self.inside in
-    let records : List Footprint =
-    map (λ kept. footprint kept.place.0 (g.C.Change.planned kept.change)) core.records.items in
+    let records : List Footprint = core.records.items in
     let old : Residents = core.present in
     let new : Residents = c.take_back.new.self in
     let absent : present_of old.blocks c.args.hold.addr.block ≡ None =
@@ -39,8 +37,7 @@ invariant_of-self-in-Err g c =
 pub returns-in-Err-clause-refused : goal.returns-in-Err-clause-refused
 returns-in-Err-clause-refused g c =
     let core = c.self.inside in
-    let records : List Footprint =
-    map (λ kept. footprint kept.place.0 (g.C.Change.planned kept.change)) core.records.items in
+    let records : List Footprint = core.records.items in
     let old : Residents = core.present in
     let new : Residents = c.take_back.new.self in
     let absent : present_of old.blocks c.args.hold.addr.block ≡ None =
@@ -78,8 +75,7 @@ settled t again old brought new one same more less =
 pub invariant_of-self-2 : goal.invariant_of-self-2
 invariant_of-self-2 g c =
     let core = c.self.inside in
-    let records : List Footprint =
-    map (λ kept. footprint kept.place.0 (g.C.Change.planned kept.change)) core.records.items in
+    let records : List Footprint = core.records.items in
     let old : Residents = core.present in
     let brought : Residents = c.bring.new.self in
     let new : Residents = c.settle.new.present in

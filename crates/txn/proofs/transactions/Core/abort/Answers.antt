@@ -6,14 +6,15 @@ use Rattle.txn_law.proofs.CoreLaws.{home_end, lawful_end}
 use Rattle.txn_law.proofs.HeldReads.{reads_end}
 use Rattle.txn_law.specs.Leaves.{Leaves, taken_by, is_fetching, in_memory, but_by}
 use Rattle.txn_law.proofs.Leaves.{leaves_end}
+use Rattle.txn.specs.Answering.{OfSome}
 use Rattle.txn.proofs.Answered.{log_counts}
 use Rattle.std.proofs.Common.{ap}
 use Rattle.txn.proofs.transactions.Core.abort.Goals as goal
 
 pub invariant_of-self : goal.invariant_of-self
 invariant_of-self g c = (
-  subst (λ (core : CoreState). IsLawfulCore g.C.Change.is_plan core) (sym c.abort.ensures.1)
-      (lawful_end g.C.Change.is_plan c.abort.ensures.0 c.self.inside.state c.args.tx c.self.invariant.0),
+  subst (λ (core : CoreState). IsLawfulCore (OfSome g.C.Change.is_plan) core) (sym c.abort.ensures.1)
+      (lawful_end (OfSome g.C.Change.is_plan) c.abort.ensures.0 c.self.inside.state c.args.tx c.self.invariant.0),
   log_counts g.C.Change.are_counts c.self.inside.state c.abort.new.self
       (ap (λ (core : CoreState). core.log.blocks) c.abort.ensures.1)
       (ap (λ (core : CoreState). core.inodes) c.abort.ensures.1) c.self.invariant.1,

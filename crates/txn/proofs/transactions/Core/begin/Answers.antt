@@ -1,6 +1,7 @@
 use Rattle.std.proofs.Common.{subst}
 use Rattle.txn_law.specs.Core.{CoreState}
 use Rattle.txn_law.specs.CoreWindow.{KeepsHome, KeepsReads}
+use Rattle.txn.specs.Answering.{OfSome}
 use Rattle.txn.proofs.Answered.{begun_home, begun_law}
 use Rattle.txn.proofs.Answered.{begun_reads}
 use Rattle.txn.proofs.Answered.{begun_counts}
@@ -8,7 +9,7 @@ use Rattle.txn.proofs.transactions.Core.begin.Goals as goal
 
 pub invariant_of-self : goal.invariant_of-self
 invariant_of-self g c = (
-  begun_law g.C.Change.is_plan c.self.inside.state c.begin.new.self c.begin.result c.begin.ensures.begun
+  begun_law (OfSome g.C.Change.is_plan) c.self.inside.state c.begin.new.self c.begin.result c.begin.ensures.begun
       c.begin.ensures.refused c.self.invariant.0,
   begun_counts g.C.Change.are_counts c.self.inside.state c.begin.new.self c.begin.result
       c.begin.ensures.begun c.begin.ensures.refused c.self.invariant.1,

@@ -2,6 +2,7 @@ use Rattle.std.proofs.Common.{subst}
 use Rattle.txn_law.specs.Core.{CoreState}
 use Rattle.txn_law.specs.CoreWindow.{KeepsHome, KeepsReads}
 use Rattle.txn.specs.Outcomes.{IsClaimed}
+use Rattle.txn.specs.Answering.{OfSome}
 use Rattle.txn.proofs.Answered.{claimed_counts, claimed_home, claimed_law}
 use Rattle.txn.proofs.Answered.{claimed_leaves, claimed_reads}
 use Rattle.txn.proofs.transactions.Core.claim.Goals as goal
@@ -9,7 +10,7 @@ use Rattle.txn.proofs.transactions.Core.claim.Goals as goal
 pub invariant_of-self : goal.invariant_of-self
 invariant_of-self g c =
     let (addr, whole, done) = c.claim.ensures in (
-      claimed_law g.C.Change.is_plan c.self.inside.state c.claim.new.self c.args.tx c.args.block addr
+      claimed_law (OfSome g.C.Change.is_plan) c.self.inside.state c.claim.new.self c.args.tx c.args.block addr
           c.claim.result whole done c.self.invariant.0,
       claimed_counts g.C.Change.are_counts c.self.inside.state c.claim.new.self c.args.tx addr c.claim.result
           done c.self.invariant.1,

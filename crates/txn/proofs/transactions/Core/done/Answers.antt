@@ -2,6 +2,7 @@ use Rattle.std.proofs.Common.{subst}
 use Rattle.disk.specs.Crash.{Image}
 use Rattle.txn_law.specs.Core.{CoreState}
 use Rattle.txn_law.specs.CoreWindow.{IsHomeOf, KeepsReads}
+use Rattle.txn.specs.Answering.{OfSome}
 use Rattle.txn.specs.Sides.{CoreBack, LeavesBack, base_back}
 use Rattle.txn.proofs.Answered.{log_counts}
 use Rattle.txn.proofs.Sides.{core_back, home_back, inodes_back, lawful_back, leaves_back, reads_back}
@@ -12,7 +13,7 @@ pub invariant_of-self : goal.invariant_of-self
 invariant_of-self g c =
     let old : CoreState = c.self.inside.state in
     let new : CoreState = c.done.new.self in (
-      lawful_back g.C.Change.is_plan c.args.side old new c.args.io c.args.ok c.done.ensures.others c.done.ensures.log
+      lawful_back (OfSome g.C.Change.is_plan) c.args.side old new c.args.io c.args.ok c.done.ensures.others c.done.ensures.log
           c.lawful.ensures c.self.invariant.0,
       log_counts g.C.Change.are_counts old new c.done.ensures.blocks
           (inodes_back c.args.side old new c.done.ensures.others) c.self.invariant.1,

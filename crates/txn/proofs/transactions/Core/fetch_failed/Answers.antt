@@ -6,14 +6,15 @@ use Rattle.txn_law.proofs.CoreLaws.{home_failed, lawful_failed}
 use Rattle.txn_law.proofs.HeldReads.{reads_failed}
 use Rattle.txn_law.specs.Leaves.{Leaves, taken_by, is_fetching, in_memory, without_fetch}
 use Rattle.txn_law.proofs.Leaves.{leaves_failed}
+use Rattle.txn.specs.Answering.{OfSome}
 use Rattle.txn.proofs.Answered.{log_counts}
 use Rattle.std.proofs.Common.{ap}
 use Rattle.txn.proofs.transactions.Core.fetch_failed.Goals as goal
 
 pub invariant_of-self : goal.invariant_of-self
 invariant_of-self g c = (
-  subst (λ (core : CoreState). IsLawfulCore g.C.Change.is_plan core) (sym c.fetch_failed.ensures)
-      (lawful_failed g.C.Change.is_plan c.self.inside.state c.args.io.block c.self.invariant.0),
+  subst (λ (core : CoreState). IsLawfulCore (OfSome g.C.Change.is_plan) core) (sym c.fetch_failed.ensures)
+      (lawful_failed (OfSome g.C.Change.is_plan) c.self.inside.state c.args.io.block c.self.invariant.0),
   log_counts g.C.Change.are_counts c.self.inside.state c.fetch_failed.new.self
       (ap (λ (core : CoreState). core.log.blocks) c.fetch_failed.ensures)
       (ap (λ (core : CoreState). core.inodes) c.fetch_failed.ensures) c.self.invariant.1,

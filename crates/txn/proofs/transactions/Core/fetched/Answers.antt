@@ -13,14 +13,15 @@ use Rattle.txn_law.specs.HomeRead.{IsReadable, HasContents}
 use Rattle.txn_law.proofs.HeldReads.{reads_fetched}
 use Rattle.txn_law.specs.Leaves.{HasFetched}
 use Rattle.txn_law.proofs.Leaves.{leaves_fetched}
+use Rattle.txn.specs.Answering.{OfSome}
 use Rattle.txn.proofs.Answered.{log_counts}
 use Rattle.std.proofs.Common.{ap}
 use Rattle.txn.proofs.transactions.Core.fetched.Goals as goal
 
 pub invariant_of-self : goal.invariant_of-self
 invariant_of-self g c = (
-  subst (λ (core : CoreState). IsLawfulCore g.C.Change.is_plan core) (sym c.fetched.ensures.1)
-      (lawful_fetched g.C.Change.is_plan c.fetched.ensures.0 c.self.inside.state c.args.io.block c.args.io.content c.whole.ensures
+  subst (λ (core : CoreState). IsLawfulCore (OfSome g.C.Change.is_plan) core) (sym c.fetched.ensures.1)
+      (lawful_fetched (OfSome g.C.Change.is_plan) c.fetched.ensures.0 c.self.inside.state c.args.io.block c.args.io.content c.whole.ensures
       c.self.invariant.0),
   log_counts g.C.Change.are_counts c.self.inside.state c.fetched.new.self
       (ap (λ (core : CoreState). core.log.blocks) c.fetched.ensures.1)

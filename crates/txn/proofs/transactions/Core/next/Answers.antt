@@ -1,6 +1,7 @@
 use Rattle.std.proofs.Common.{IfSome, subst}
 use Rattle.txn_law.specs.Core.{CoreState}
 use Rattle.txn_law.specs.CoreWindow.{KeepsHome, KeepsReads}
+use Rattle.txn.specs.Answering.{OfSome}
 use Rattle.txn.specs.Sides.{with_call}
 use Rattle.txn.proofs.Answered.{next_counts, next_home, next_law, next_reads}
 use Rattle.txn.proofs.Sides.{call_blocks, call_inodes, home_call, lawful_call, reads_of_call}
@@ -11,9 +12,9 @@ pub invariant_of-self : goal.invariant_of-self
 invariant_of-self g c =
     let old : CoreState = c.self.inside.state in
     let call : CoreState = with_call c.args.side old in (
-      next_law old c.next-io.new.self call g.C.Change.is_plan c.next-io.result c.next-io.ensures.some
+      next_law old c.next-io.new.self call (OfSome g.C.Change.is_plan) c.next-io.result c.next-io.ensures.some
           c.next-io.ensures.none c.lawful.ensures
-          (λ lawful. lawful_call g.C.Change.is_plan c.args.side old lawful c.self.invariant.0) c.self.invariant.0,
+          (λ lawful. lawful_call (OfSome g.C.Change.is_plan) c.args.side old lawful c.self.invariant.0) c.self.invariant.0,
       next_counts g.C.Change.are_counts c.next-io.result old c.next-io.new.self call c.next-io.ensures.some
           c.next-io.ensures.none (call_blocks c.args.side old) (call_inodes c.args.side old) c.self.invariant.1,
     )

@@ -1,6 +1,7 @@
 use Rattle.std.proofs.Common.{subst}
 use Rattle.txn_law.specs.Core.{CoreState}
 use Rattle.txn_law.specs.CoreWindow.{KeepsHome, KeepsReads}
+use Rattle.txn.specs.Answering.{OfSome}
 use Rattle.txn.proofs.Answered.{wanted_home, wanted_law}
 use Rattle.txn.proofs.Answered.{wanted_reads}
 use Rattle.txn.specs.Outcomes.{IsWanted}
@@ -10,7 +11,7 @@ use Rattle.txn.proofs.transactions.Core.want.Goals as goal
 
 pub invariant_of-self : goal.invariant_of-self
 invariant_of-self g c = (
-  wanted_law g.C.Change.is_plan c.self.inside.state c.want.new.self c.args.tx c.args.addr c.args.mode
+  wanted_law (OfSome g.C.Change.is_plan) c.self.inside.state c.want.new.self c.args.tx c.args.addr c.args.mode
       c.want.result
       c.want.ensures.answer
       c.self.invariant.0,

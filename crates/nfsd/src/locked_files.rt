@@ -61,17 +61,21 @@ where
     Ok(FileDisk::over(file, blocks))
 }
 
-/// The same for threads: opened twice, so that each side hears of a write that failed behind its answer.
-pub fn open_for_threads<R: Files>(rt: &R, path: &str) -> io::Result<FileDisk<R::File>>
+/// The same, of which the file is handed on with how many blocks it has, for who watches it.
+pub fn open_locked<R: Files>(rt: &R, path: &str) -> io::Result<(R::File, u32)>
 where
     R::File: BlockFile,
-    ensures rest { IfOk result (λ d. IsAtRest (file_device (first_in d.first.blocks.items) d.blocks
-        d.file.calls.items)) }
-    ensures fresh { IfOk result (λ d. d.file.calls.items ≡ []) }
 {
-    let disk = open_image(rt, path)?;
-    let home = OpenOptions::new().read(true).write(true).open(rt, path)?;
-    disk.beside(home)
+    if is_block_device(rt, path) {
+        let (mut file, size) = open_device(rt, path)?;
+        let blocks = blocks_of_image(&mut file, size)?;
+        return Ok((file, blocks));
+    }
+    let file = OpenOptions::new().read(true).write(true).open(rt, path)?;
+    file.lock()?;
+    file.sync_all()?;
+    let blocks = file.metadata()?.len() / BLOCK_BYTES as u64;
+    Ok((file, blocks.min(u64::from(u32::MAX)) as u32))
 }
 
 // Whether a block device has this name.
@@ -94,9 +98,9 @@ where
     Ok((file, blocks.min(u64::from(u32::MAX)) as u32))
 }
 
-// How many blocks an image has that lies on a device of this size: all of it, where its first block can't be read or
-// tells nothing lawful.
-fn blocks_of_image<F: Read + Seek>(file: &mut F, size: u32) -> io::Result<u32> {
+/// How many blocks an image has that lies on a device of this size: all of it, where its first block can't be read or
+/// tells nothing lawful.
+pub fn blocks_of_image<F: Read + Seek>(file: &mut F, size: u32) -> io::Result<u32> {
     let mut block = [0u8; BLOCK_BYTES];
     file.seek(SeekFrom::Start(0))?;
     if file.read_exact(&mut block).is_err() {

@@ -1,43 +1,13 @@
--- Tests of a list's values, and of what is made of them.
-use Rattle.std.proofs.Common.{◌≡◌, refl, ap, sym, Bool, true, false, cond, List, [], ◌∷◌, map}
-use Rattle.std.proofs.Common.{ℕ, ◌∙◌, ◌++◌, nat_lt, if◌then◌else◌}
-use Rattle.std.proofs.lemmas.List.{map-append}
-use Rattle.std.specs.List.{filter}
+-- Lemmas: what an end, a commit and an installation leave, told by the parts.
+use Rattle.std.proofs.Common.{◌≡◌, ap, sym, Bool, List, ℕ, ◌∙◌}
 use Rattle.wal_law.specs.Log.{Log, installed_place}
-use Rattle.txn_law.specs.Commit.{Planned, footprint, with_record, refreshed, committed}
+use Rattle.txn_law.specs.Commit.{Planned, with_record, refreshed, committed}
 use Rattle.txn_law.specs.Core.{CoreState, ended, installed, past, without}
 use Rattle.txn_law.specs.Holds.{released}
 use Rattle.txn_law.specs.Records.{swept}
 use Rattle.txn_law.specs.Window.{Footprint}
 use Rattle.txn_law.specs.declared.hold.Hold.{Hold}
 use Rattle.objects.specs.declared.present.Present.{Present}
-
--- what is made of the values that pass is what passes of what is made of all
-pub map_filter : {X Y : Type 0} (f : X → Y) (p : Y → Bool) (xs : List X)
-    → map f (filter (λ x. p (f x)) xs) ≡ filter p (map f xs)
-map_filter f p [] = refl
-map_filter f p (x ∷ xs) =
-    elim (p (f x)) as (λ b. map f (cond b (x ∷ filter (λ x. p (f x)) xs) (filter (λ x. p (f x)) xs))
-    ≡ cond b (f x ∷ filter p (map f xs)) (filter p (map f xs))) [
-      | true ↦ ap (λ ys. f x ∷ ys) (map_filter f p xs)
-      | false ↦ map_filter f p xs
-    ]
-
--- the records with a commit's, told by the commits and by what is made of them
-pub recorded : {X : Type 0} (f : X → Footprint) (log : Log) (plan : Planned) (installed place : ℕ)
-    (xs : List X) (x : X) → installed ≡ installed_place log → place ≡ log.places
-    → f x ≡ footprint place plan
-    → map f (if nat_lt installed place then xs ++ x ∷ [] else xs) ≡ with_record log log.places plan (map f xs)
-recorded f log plan installed place xs x first last is =
-    go (nat_lt installed place) ∙ ap (λ n. chosen n place) first ∙ ap (λ n. chosen (installed_place log) n) last
-  where
-    chosen : ℕ → ℕ → List Footprint
-    chosen a b = if nat_lt a b then map f xs ++ footprint b plan ∷ [] else map f xs
-
-    go : (t : Bool) → map f (if t then xs ++ x ∷ [] else xs)
-        ≡ (if t then map f xs ++ footprint place plan ∷ [] else map f xs)
-    go true = map-append f xs (x ∷ []) ∙ ap (λ y. map f xs ++ y ∷ []) is
-    go false = refl
 
 -- a commit leaves what it should, told by the parts
 pub committed_is : (spare : Present → Bool) (old new : CoreState) (tx : ℕ) (plan : Planned) (log : Log)

@@ -1,5 +1,5 @@
 use Rattle.std.proofs.Common.{◌≡◌, length}
-use Rattle.server.proofs.serving.dissolve.Given as goal
+use Rattle.pool.proofs.ending.end.Given as goal
 
 abbrev pub invariant-loop-seat : goal.invariant-loop-seat
 invariant-loop-seat g l = l.rt ≡ l.fn.rt

@@ -1,0 +1,159 @@
+//! What the program tells of an image that it only reads.
+ghost use Rattle.std.specs.Prelude.{◌≡◌, IfErr, OnOk};
+ghost use Rattle.std.specs.Io.KnownBytes.{Appends};
+ghost use Rattle.nfsd.specs.Looked.{ChecksDevice, ChecksImage, ShowsDevice, ShowsImage, clean_line, line_text};
+ghost use Rattle.nfsd.specs.Looked.{lines_text, word_of as word_of_kind};
+ghost use Rattle.nfsd.specs.Done.{device_in};
+
+use crate::fault::Fault;
+use crate::image_disk::ImageDisk;
+use crate::read_files::{SharedFile, open_to_read};
+use crate::trouble::Trouble;
+use disk::{BlockFile, CrashDisk, FirstContents};
+use layout::InodeKind;
+use std::alloc::Global;
+use std::fs::Files;
+use std::io::Write;
+use store::{Counts, Line};
+
+/// Tells whether the image of a file is good, and hands its device back.
+pub fn check_image<R, O, W>(
+    rt: &R,
+    image: &str,
+    first: FirstContents,
+    writer: &mut O,
+) -> (Option<ImageDisk<R::File, W>>, Result<(), Fault>)
+where
+    R: Files + AllocGlobal,
+    R::File: BlockFile + SharedFile,
+    O: Write,
+    W: BlockFile,
+    ensures { ChecksImage first image.now (O.contents writer.old) result.1 (device_in result.0)
+        (O.contents writer.new) }
+{
+    let opened = match open_to_read(rt, image) {
+        Ok(opened) => opened,
+        Err(error) => {
+            let trouble = Trouble::of_file(rt.alloc(), image, &error);
+            return (None, Err(Fault::File(trouble)));
+        }
+    };
+    let mut disk = opened.beginning_with(first);
+    let outcome = check_device(rt.alloc(), &mut disk, writer);
+    (Some(ImageDisk::Plain(disk)), outcome)
+}
+
+/// Prints the files of the image of a file, and hands its device back.
+pub fn show_image<R, O, W>(
+    rt: &R,
+    image: &str,
+    first: FirstContents,
+    writer: &mut O,
+) -> (Option<ImageDisk<R::File, W>>, Result<(), Fault>)
+where
+    R: Files + AllocGlobal,
+    R::File: BlockFile + SharedFile,
+    O: Write,
+    W: BlockFile,
+    ensures { ShowsImage first image.now (O.contents writer.old) result.1 (device_in result.0)
+        (O.contents writer.new) }
+{
+    let opened = match open_to_read(rt, image) {
+        Ok(opened) => opened,
+        Err(error) => {
+            let trouble = Trouble::of_file(rt.alloc(), image, &error);
+            return (None, Err(Fault::File(trouble)));
+        }
+    };
+    let mut disk = opened.beginning_with(first);
+    let outcome = show_device(rt.alloc(), &mut disk, writer);
+    (Some(ImageDisk::Plain(disk)), outcome)
+}
+
+/// Checks the image of a device, and prints its counts where it is good.
+pub fn check_device<D: CrashDisk, O: Write>(
+    alloc: Global,
+    disk: &mut D,
+    writer: &mut O,
+) -> Result<(), Fault>
+    ensures { ChecksDevice (D.keeps_model disk.new) (D.device disk.old) (O.contents writer.old) result
+        (D.device disk.new) (O.contents writer.new) }
+{
+    match store::check(alloc, disk) {
+        Ok(counts) => print_counts(writer, counts),
+        Err(why) => Err(Fault::Check(why)),
+    }
+}
+
+// Prints the counts of a good image.
+fn print_counts<O: Write>(writer: &mut O, counts: Counts) -> Result<(), Fault>
+    ensures printed { OnOk result
+        (Appends (O.contents writer.old) (O.contents writer.new) (clean_line counts)) }
+    ensures print { IfErr result (λ fault. fault ≡ Fault.Print) }
+{
+    writeln!(
+        writer,
+        "clean {} files {} blocks",
+        counts.files, counts.blocks
+    )
+    .or(Err(Fault::Print))
+}
+
+/// Prints the files of the image of a device, a line each, by rising number.
+pub fn show_device<D: CrashDisk, O: Write>(
+    alloc: Global,
+    disk: &mut D,
+    writer: &mut O,
+) -> Result<(), Fault>
+    ensures { ShowsDevice (D.keeps_model disk.new) (D.device disk.old) (O.contents writer.old) result
+        (D.device disk.new) (O.contents writer.new) }
+{
+    match store::show(alloc, disk) {
+        Ok(lines) => print_lines(writer, &lines),
+        Err(why) => Err(Fault::Open(why)),
+    }
+}
+
+// Prints these lines.
+fn print_lines<O: Write>(writer: &mut O, lines: &[Line]) -> Result<(), Fault>
+    ensures printed { OnOk result
+        (Appends (O.contents writer.old) (O.contents writer.new) (lines_text lines.now)) }
+    ensures print { IfErr result (λ fault. fault ≡ Fault.Print) }
+{
+    'lines: for index in 0..lines.len() {
+        print_line(writer, lines[index])?;
+    }
+    Ok(())
+}
+
+// Prints a line.
+fn print_line<O: Write>(writer: &mut O, line: Line) -> Result<(), Fault>
+    ensures printed { OnOk result
+        (Appends (O.contents writer.old) (O.contents writer.new) (line_text line)) }
+    ensures print { IfErr result (λ fault. fault ≡ Fault.Print) }
+{
+    writeln!(
+        writer,
+        "{} {} {:o} {} {} {} {} {}",
+        line.number,
+        word_of(line.kind),
+        line.mode,
+        line.uid,
+        line.gid,
+        line.nlink,
+        line.size,
+        line.blocks
+    )
+    .or(Err(Fault::Print))
+}
+
+// The word for a kind of file.
+fn word_of(kind: InodeKind) -> &'static str
+    ensures { result.now ≡ word_of_kind kind }
+{
+    match kind {
+        InodeKind::Regular => "file",
+        InodeKind::Directory => "dir",
+        InodeKind::Link => "link",
+    }
+}

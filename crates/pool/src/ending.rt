@@ -1,0 +1,65 @@
+//! How the threads of a store end.
+ghost use Rattle.std.specs.Prelude.{◌≡◌, false, IfOk};
+ghost use Rattle.wal_law.specs.Log.{settled_place};
+
+use crate::Pool;
+use pool_calls::Whole;
+use procs::Done;
+use std::sync::Wait;
+use std::sync::ledger::Ledger;
+use txn::Core;
+
+/// A core that came out of its lock with each of its commits settled, and that isn't broken. Only `end` makes one.
+#[derive(Drop)]
+pub struct Ended {
+    core: Core<Done>,
+    pub ghost settled: { settled_place core.log ≡ core.log.places },
+    pub ghost sound: { core.log.broken ≡ false },
+}
+
+impl Ended {
+    /// The core.
+    pub fn core(&self) -> &Core<Done>
+        ensures { result.now ≡ self.now.core }
+    {
+        &self.core
+    }
+}
+
+/// A commit isn't settled, or a write or a barrier has failed.
+#[derive(Clone, Copy, Debug)]
+pub struct Unsettled;
+
+/// Gives back what the seats have begun, and takes the core out of its lock.
+pub fn end<L: Ledger, G: Whole, I: Whole, R: Wait>(
+    rt: &R,
+    pool: Pool<L, G, I>,
+) -> Result<Ended, Unsettled>
+    ensures boot { IfOk result (λ ended. ended.core.boot ≡ G.boot) }
+{
+    let Pool {
+        shared,
+        seats,
+        logger,
+        installer,
+    } = pool;
+    let mut seats = seats;
+    while let Some(seat) = seats.pop() {
+        shared.leave(rt, seat.into_inner());
+    }
+    seats.destroy_empty();
+    shared.leave_log(rt, logger);
+    shared.leave_install(rt, installer);
+    settled(shared.into_core())
+}
+
+// The core, if each of its commits is settled and it isn't broken.
+fn settled(core: Core<Done>) -> Result<Ended, Unsettled>
+    ensures { IfOk result (λ ended. ended.core ≡ core) }
+{
+    if core.is_settled() && !core.broken() {
+        Ok(Ended { core })
+    } else {
+        Err(Unsettled)
+    }
+}
