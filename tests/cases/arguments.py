@@ -13,6 +13,7 @@ OPTIONS = {
     "serve": {"--listen": "127.0.0.1:2049", "--workers": "1 64 4", "--connections": "0 4294967295"},
     "check": {},
     "show": {},
+    "sim": {},
 }
 
 
@@ -90,7 +91,7 @@ SENSELESS = [
     ["format", "image", "other"], ["format", "image", "--workers", "1"], ["format", "image", "--blocks", "many"],
     ["once"], ["once", "image"], ["once", "--time", "1"], ["once", "image", "--time"],
     ["once", "image", "--time", "1", "--time", "2"],
-    ["sim", "script"],
+    ["sim"], ["sim", "script", "other"], ["sim", "script", "--time", "1"],
 ]
 NO_NUMBERS = ["", "x", "-1", "1.5", "0x10", "4294967296", "18446744073709551616"]
 

@@ -96,7 +96,7 @@ def test_a_place_that_cannot_be_written_is_named(place):
 
 def test_the_manual_page_has_each_option_with_its_range_and_default(place):
     text = contents(os.path.join(place.top, "docs/nfsd.8")).decode().replace("\\-", "-")
-    parts = re.split(r'^\.BI "(\w+) " IMAGE$', text, flags=re.M)
+    parts = re.split(r'^\.BI "(\w+) " (?:IMAGE|SCRIPT)$', text, flags=re.M)
     found = dict(zip(parts[1::2], parts[2::2]))
     same("the commands", sorted(found), sorted(OPTIONS))
     for command, options in OPTIONS.items():

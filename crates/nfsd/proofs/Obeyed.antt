@@ -7,7 +7,7 @@ use Rattle.clap.specs.Words.{Text}
 use Rattle.disk.specs.declared.file.FirstContents.{FirstContents}
 use Rattle.disk.specs.Device.{Device}
 use Rattle.nfsd_words.specs.declared.Args.{Args}
-use Rattle.nfsd_words.specs.declared.Args.TheVariants.{Check, Format, Once, Serve, Show}
+use Rattle.nfsd_words.specs.declared.Args.TheVariants.{Check, Format, Once, Serve, Show, Sim}
 use Rattle.nfsd_words.specs.Words.{HasMeaning, WordsAsk}
 use Rattle.layout.specs.Geometry.{data_at}
 use Rattle.store_images.specs.Formatting.{HasFormatted}
@@ -26,6 +26,7 @@ use Rattle.nfsd.specs.Done.{moment_at, outcome_of_server}
 use Rattle.nfsd.specs.Faults.{status_of_outcome}
 use Rattle.nfsd.specs.Lines.{IsAnnouncedBy}
 use Rattle.nfsd.specs.Looked.{ChecksImage, ShowsImage}
+use Rattle.nfsd.specs.Scripts.{PlaysScript}
 
 -- the command that was asked for was done, so the arguments were obeyed
 pub obeys_command : (first : FirstContents) (words : List Text) (args : Args) (client : Client)
@@ -53,6 +54,9 @@ obeys_command first words (Check image) client (Err (fault.Words e)) device late
 obeys_command first words (Show image) client (Err fault.NotText) device later asks does = absurd does.1.5
 obeys_command first words (Show image) client (Err fault.Memory) device later asks does = absurd does.1.5
 obeys_command first words (Show image) client (Err (fault.Words e)) device later asks does = absurd does.1.5
+obeys_command first words (Sim script) client (Err fault.NotText) device later asks does = absurd does.3
+obeys_command first words (Sim script) client (Err fault.Memory) device later asks does = absurd does.3
+obeys_command first words (Sim script) client (Err (fault.Words e)) device later asks does = absurd does.3
 obeys_command first words args client outcome device later asks does = (args, asks, does)
 
 same_client : (client later : Client) → later.unread ≡ client.unread → later.written ≡ client.written → later ≡ client
@@ -165,6 +169,19 @@ pub shows_command : (first : FirstContents) (image : _) (client : Client) (outco
 shows_command first image client (Err (fault.File trouble)) device later unread shows =
     (same_client client later unread shows.0, shows.1, inl shows.2)
 shows_command first image client outcome device later unread shows = (unread, shows)
+
+-- a script was played, so the command was done
+pub plays_command : (first : FirstContents) (script : _) (client : Client) (outcome : Outcome) (device : Option Device)
+    (later : Client) → device ≡ None → later.unread ≡ client.unread
+    → PlaysScript script.now client.written outcome later.written
+    → DoesCommand first (Sim script) client outcome device later
+plays_command first script client (Err (fault.File trouble)) device later none unread plays = (
+  ap (λ (bytes : Option (List ℕ)). client_of bytes later.written) unread
+      ∙ ap (λ (bytes : Option (List ℕ)). client_of client.unread bytes) plays.1,
+  none,
+  inl plays.0,
+)
+plays_command first script client outcome device later none unread plays = (none, unread, plays)
 
 -- with status 2 the arguments have no meaning
 obeys_two : (first : FirstContents) (words : List Text) (client : Client) (outcome : Outcome)

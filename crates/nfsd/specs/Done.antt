@@ -12,7 +12,7 @@ use Rattle.wal_law.specs.Log.{settled_place}
 use Rattle.txn_law.specs.Core.{CoreState}
 use Rattle.nfs_types.specs.declared.ctx.Moment.{Moment}
 use Rattle.nfsd_words.specs.declared.Args.{Args}
-use Rattle.nfsd_words.specs.declared.Args.TheVariants.{Check, Format, Once, Serve, Show}
+use Rattle.nfsd_words.specs.declared.Args.TheVariants.{Check, Format, Once, Serve, Show, Sim}
 use Rattle.nfsd_words.specs.Words.{HasMeaning, WordsAsk}
 use Rattle.layout.specs.Geometry.{data_at}
 use Rattle.store_images.specs.Formatting.{HasFormatted}
@@ -28,6 +28,7 @@ use Rattle.nfsd.specs.declared.image_disk.ImageDisk.TheVariants.{Plain, Watched}
 use Rattle.nfsd.specs.Faults.{IsAbout, as_line, fault_line, status_of_outcome}
 use Rattle.nfsd.specs.Lines.{listening_line}
 use Rattle.nfsd.specs.Looked.{ChecksImage, ShowsImage}
+use Rattle.nfsd.specs.Scripts.{PlaysScript}
 
 -- what came of the program: it is done, or there is a fault
 abbrev pub Outcome : Type 0
@@ -124,6 +125,7 @@ image_of (Once image time) = image.now
 image_of (Serve image listen workers connections) = image.now
 image_of (Check image) = image.now
 image_of (Show image) = image.now
+image_of (Sim script) = script.now
 
 -- The command that is asked for was done to the device of a file that held this, this came of it, and the device
 -- is handed back as that left it, but for a device that was served from; or a script was played; or there is no
@@ -145,6 +147,8 @@ DoesCommand first (Check image) client outcome device later = (later.unread ≡ 
     × ChecksImage first image.now client.written outcome device later.written
 DoesCommand first (Show image) client outcome device later = (later.unread ≡ client.unread)
     × ShowsImage first image.now client.written outcome device later.written
+DoesCommand first (Sim script) client outcome device later = (device ≡ None) × (later.unread ≡ client.unread)
+    × PlaysScript script.now client.written outcome later.written
 
 -- The arguments were obeyed: the command that they ask for was done to a file that held this, or they have no
 -- meaning, or there was no memory to read them.

@@ -2,3 +2,4 @@ pub mod Done
 pub mod Faults
 pub mod Lines
 pub mod Looked
+pub mod Scripts

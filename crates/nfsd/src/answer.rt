@@ -13,6 +13,7 @@ use crate::image_disk::ImageDisk;
 use crate::locked_files::{make_image, open_image};
 use crate::looking::{check_image, show_image};
 use crate::read_files::SharedFile;
+use crate::scripts::play_script;
 use crate::streams::{Streams, fill};
 use crate::tcp::{listen_at, serve_clients};
 use crate::trouble::Trouble;
@@ -206,6 +207,7 @@ where
             let alloc = rt.alloc();
             serve_clients(rt, alloc, disk, &listening, workers, connections, writer)
         }
+        Args::Sim { script } => (None, play_script(rt, script, writer)),
         Args::Check { image } => check_image(rt, image, first, writer),
         Args::Show { image } => show_image(rt, image, first, writer),
     }

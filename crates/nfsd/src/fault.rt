@@ -33,6 +33,8 @@ pub enum Fault {
     Print,
     /// The address can't be had: which, and why.
     Address(Option<Trouble>),
+    /// The script's first bad line: its number, from 1.
+    Line(usize),
 }
 
 impl Fault {
@@ -92,6 +94,7 @@ impl fmt::Display for Fault {
             Fault::Check(fault) => f.write_str(check_line(*fault)),
             Fault::Session(fault) => f.write_str(session_line(*fault)),
             Fault::Print => f.write_str("nfsd: output\n"),
+            Fault::Line(number) => writeln!(f, "nfsd: line {number}"),
             Fault::Address(None) => f.write_str("nfsd: address\n"),
             Fault::Address(Some(it)) => {
                 write!(

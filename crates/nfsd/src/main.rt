@@ -13,6 +13,7 @@ mod lines;
 mod locked_files;
 mod looking;
 mod read_files;
+mod scripts;
 mod streams;
 mod tcp;
 mod trouble;

@@ -10,7 +10,7 @@ use Rattle.clap.proofs.WalkLemmas.{first_value-rows, one_text-rows}
 use Rattle.clap.specs.declared.ArgMatches.{ArgMatches}
 use Rattle.clap.specs.declared.error.kind.ErrorKind.{ErrorKind}
 use Rattle.nfsd_words.specs.declared.Args.{Args}
-use Rattle.nfsd_words.specs.declared.Args.TheVariants.{Check, Format, Once, Serve, Show}
+use Rattle.nfsd_words.specs.declared.Args.TheVariants.{Check, Format, Once, Serve, Show, Sim}
 use Rattle.nfsd_words.specs.Words.{Asks, IsNumber, IsNumberOrNone}
 
 -- a text that `get_str` gave stands first in its row
@@ -88,14 +88,30 @@ once_is_no_show same = subst (BeginsWith 111) same tt
 pub serve_is_no_check : ¬ (codes "serve" ≡ codes "check")
 serve_is_no_check same = subst (BeginsWith 115) same tt
 
--- without a text of its image a command asks for nothing
-pub no_image : (name : Text) (found : List Row) → ((x : Text) → first_of (codes "IMAGE") found ≡ Some x → ⊥)
+pub format_is_no_sim : ¬ (codes "format" ≡ codes "sim")
+format_is_no_sim same = let other : codes "format" ≡ codes "sim" = same in cc
+
+pub once_is_no_sim : ¬ (codes "once" ≡ codes "sim")
+once_is_no_sim same = let other : codes "once" ≡ codes "sim" = same in cc
+
+pub serve_is_no_sim : ¬ (codes "serve" ≡ codes "sim")
+serve_is_no_sim same = let other : codes "serve" ≡ codes "sim" = same in cc
+
+pub check_is_no_sim : ¬ (codes "check" ≡ codes "sim")
+check_is_no_sim same = let other : codes "check" ≡ codes "sim" = same in cc
+
+pub show_is_no_sim : ¬ (codes "show" ≡ codes "sim")
+show_is_no_sim same = let other : codes "show" ≡ codes "sim" = same in cc
+
+-- without a text of its image a command asks for nothing, but for one that takes a script
+pub no_image : (name : Text) (found : List Row) → ¬ (name ≡ codes "sim") → ((x : Text) → first_of (codes "IMAGE") found ≡ Some x → ⊥)
     → (args : Args) → ¬ Asks name found args
-no_image name found none (Format image blocks inodes time) asks = none image.now asks.1
-no_image name found none (Once image time) asks = none image.now asks.1
-no_image name found none (Serve image listen workers connections) asks = none image.now asks.1
-no_image name found none (Check image) asks = none image.now asks.1
-no_image name found none (Show image) asks = none image.now asks.1
+no_image name found no_sim none (Format image blocks inodes time) asks = none image.now asks.1
+no_image name found no_sim none (Once image time) asks = none image.now asks.1
+no_image name found no_sim none (Serve image listen workers connections) asks = none image.now asks.1
+no_image name found no_sim none (Check image) asks = none image.now asks.1
+no_image name found no_sim none (Show image) asks = none image.now asks.1
+no_image name found no_sim none (Sim script) asks = no_sim asks.0
 
 -- `format` asks for nothing without a number of its time
 pub no_time_made : (found : List Row) → ((n : ℕ) → IsNumber found (codes "time") n → ⊥)
@@ -106,6 +122,7 @@ no_time_made found none (Serve image listen workers connections) asks =
     let other : codes "format" ≡ codes "serve" = asks.0 in cc
 no_time_made found none (Check image) asks = let other : codes "format" ≡ codes "check" = asks.0 in cc
 no_time_made found none (Show image) asks = let other : codes "format" ≡ codes "show" = asks.0 in cc
+no_time_made found none (Sim script) asks = absurd (format_is_no_sim asks.0)
 
 -- `once` asks for nothing without a number of its time
 pub no_time_of_calls : (found : List Row) → ((n : ℕ) → IsNumber found (codes "time") n → ⊥)
@@ -117,6 +134,7 @@ no_time_of_calls found none (Serve image listen workers connections) asks =
     let other : codes "once" ≡ codes "serve" = asks.0 in cc
 no_time_of_calls found none (Check image) asks = let other : codes "once" ≡ codes "check" = asks.0 in cc
 no_time_of_calls found none (Show image) asks = absurd (once_is_no_show asks.0)
+no_time_of_calls found none (Sim script) asks = absurd (once_is_no_sim asks.0)
 
 -- `format` asks for nothing without a number of its inodes
 pub no_inodes : (found : List Row) → ((n : ℕ) → IsNumber found (codes "inodes") n → ⊥)
@@ -127,6 +145,7 @@ no_inodes found none (Serve image listen workers connections) asks =
     let other : codes "format" ≡ codes "serve" = asks.0 in cc
 no_inodes found none (Check image) asks = let other : codes "format" ≡ codes "check" = asks.0 in cc
 no_inodes found none (Show image) asks = let other : codes "format" ≡ codes "show" = asks.0 in cc
+no_inodes found none (Sim script) asks = absurd (format_is_no_sim asks.0)
 
 -- `serve` asks for nothing without a text of its address
 pub no_listen : (found : List Row) → ((x : Text) → first_of (codes "listen") found ≡ Some x → ⊥)
@@ -137,6 +156,7 @@ no_listen found none (Once image time) asks = let other : codes "serve" ≡ code
 no_listen found none (Serve image listen workers connections) asks = none listen.now asks.2
 no_listen found none (Check image) asks = absurd (serve_is_no_check asks.0)
 no_listen found none (Show image) asks = let other : codes "serve" ≡ codes "show" = asks.0 in cc
+no_listen found none (Sim script) asks = absurd (serve_is_no_sim asks.0)
 
 -- `serve` asks for nothing without a number of its workers
 pub no_workers : (found : List Row) → ((n : ℕ) → IsNumber found (codes "workers") n → ⊥)
@@ -147,6 +167,7 @@ no_workers found none (Once image time) asks = let other : codes "serve" ≡ cod
 no_workers found none (Serve image listen workers connections) asks = none workers asks.3
 no_workers found none (Check image) asks = absurd (serve_is_no_check asks.0)
 no_workers found none (Show image) asks = let other : codes "serve" ≡ codes "show" = asks.0 in cc
+no_workers found none (Sim script) asks = absurd (serve_is_no_sim asks.0)
 
 -- `serve` asks for nothing without a number of its connections
 pub no_connections : (found : List Row) → ((n : ℕ) → IsNumber found (codes "connections") n → ⊥)
@@ -157,6 +178,17 @@ no_connections found none (Once image time) asks = let other : codes "serve" ≡
 no_connections found none (Serve image listen workers connections) asks = none connections asks.4
 no_connections found none (Check image) asks = absurd (serve_is_no_check asks.0)
 no_connections found none (Show image) asks = let other : codes "serve" ≡ codes "show" = asks.0 in cc
+no_connections found none (Sim script) asks = absurd (serve_is_no_sim asks.0)
+
+-- `sim` asks for nothing without a text of its script
+pub no_script : (found : List Row) → ((x : Text) → first_of (codes "SCRIPT") found ≡ Some x → ⊥)
+    → (args : Args) → ¬ Asks (codes "sim") found args
+no_script found none (Format image blocks inodes time) asks = absurd (format_is_no_sim (sym asks.0))
+no_script found none (Once image time) asks = absurd (once_is_no_sim (sym asks.0))
+no_script found none (Serve image listen workers connections) asks = absurd (serve_is_no_sim (sym asks.0))
+no_script found none (Check image) asks = absurd (check_is_no_sim (sym asks.0))
+no_script found none (Show image) asks = absurd (show_is_no_sim (sym asks.0))
+no_script found none (Sim script) asks = none script.now asks.1
 
 -- a fact stands where there is no value
 pub if_none : {A : Type 0} {P : Type 0} (r : Option A) → P → IfNone r P

@@ -6,7 +6,7 @@ use Rattle.clap.specs.Words.{App, Row, Rule, Text, fault_of, first_of, new_app, 
 use Rattle.clap.specs.Words.{subcommand_of, with_rule, with_subcommand}
 use Rattle.clap.specs.declared.builder.ValueParser.TheVariants as value_parser
 use Rattle.nfsd_words.specs.declared.Args.{Args}
-use Rattle.nfsd_words.specs.declared.Args.TheVariants.{Check, Format, Once, Serve, Show}
+use Rattle.nfsd_words.specs.declared.Args.TheVariants.{Check, Format, Once, Serve, Show, Sim}
 
 -- the image, an argument that must be there
 abbrev pub image_rule : Rule
@@ -70,6 +70,14 @@ check_command = with_rule (new_app (codes "check")) image_rule
 abbrev pub show_command : App
 show_command = with_rule (new_app (codes "show")) image_rule
 
+-- the script, an argument that must be there
+abbrev pub script_rule : Rule
+script_rule = record (new_rule (codes "SCRIPT")) { required = true }
+
+-- `sim SCRIPT`
+abbrev pub sim_command : App
+sim_command = with_rule (new_app (codes "sim")) script_rule
+
 -- the program before its commands, one of which must be there; it has a version
 abbrev pub bare_program : App
 bare_program = record (new_app (codes "nfsd")) {
@@ -92,9 +100,13 @@ third_of_program = with_subcommand second_of_program serve_command.top
 abbrev pub fourth_of_program : App
 fourth_of_program = with_subcommand third_of_program check_command.top
 
+-- the program with the first five of them
+abbrev pub fifth_of_program : App
+fifth_of_program = with_subcommand fourth_of_program show_command.top
+
 -- the program's commands, one of which must be there
 abbrev pub whole_program : App
-whole_program = with_subcommand fourth_of_program show_command.top
+whole_program = with_subcommand fifth_of_program sim_command.top
 
 -- the option of this name has this number of 32 bits, given or by default
 abbrev pub IsNumber : List Row → Text → ℕ → Type 0
@@ -121,6 +133,7 @@ Asks name found (Serve image listen workers connections) = (name ≡ codes "serv
     × IsNumber found (codes "workers") workers × IsNumber found (codes "connections") connections
 Asks name found (Check image) = (name ≡ codes "check") × (first_of (codes "IMAGE") found ≡ Some image.now)
 Asks name found (Show image) = (name ≡ codes "show") × (first_of (codes "IMAGE") found ≡ Some image.now)
+Asks name found (Sim script) = (name ≡ codes "sim") × (first_of (codes "SCRIPT") found ≡ Some script.now)
 
 -- the command that was met, if one was, asks for this
 abbrev pub IsAsked : Option (Text × List Row) → Args → Type 0

@@ -7,11 +7,14 @@ ghost use Rattle.clap.specs.Words.{rule_of, subcommand_rows_of};
 ghost use Rattle.clap.specs.declared.Command.TheViews.{out-Command};
 ghost use Rattle.nfsd_words.specs.declared.Args.{Args as Asked};
 ghost use Rattle.nfsd_words.specs.Words.{Asks, HasMeaning, IsAsked, WordsAsk, check_command, default_rule};
-ghost use Rattle.nfsd_words.specs.Words.{first_of_format, first_of_program, first_of_serve};
+ghost use Rattle.nfsd_words.specs.Words.{fifth_of_program, first_of_format, first_of_program, first_of_serve};
 ghost use Rattle.nfsd_words.specs.Words.{format_command, fourth_of_program, image_rule, number_rule, once_command};
 ghost use Rattle.nfsd_words.specs.Words.{required_rule, second_of_program, serve_command, show_command, text_rule};
 ghost use Rattle.nfsd_words.specs.Words.{third_of_program, whole_program};
 
+mod scripts;
+
+use crate::scripts::{asked_sim, sim_words};
 use clap::error::ErrorKind;
 use clap::{Arg, ArgMatches, Command, Error, value_parser};
 use std::alloc::{AllocError, Global};
@@ -73,6 +76,10 @@ pub enum Args<'a> {
     Show {
         image: &'a str,
     },
+    /// Runs the schedule of a script.
+    Sim {
+        script: &'a str,
+    },
 }
 
 /// Reads the arguments of a command line, of which the first is the program's name. A value that should have
@@ -108,7 +115,10 @@ fn asked<'a>(matches: &ArgMatches<'a>) -> Option<Args<'a>>
     if let Some(given) = matches.subcommand_matches("check") {
         return asked_check(given);
     }
-    asked_show(matches.subcommand_matches("show")?)
+    if let Some(given) = matches.subcommand_matches("show") {
+        return asked_show(given);
+    }
+    asked_sim(matches.subcommand_matches("sim")?)
 }
 
 fn asked_format<'a>(given: &ArgMatches<'a>) -> Option<Args<'a>>
@@ -170,6 +180,12 @@ fn asked_show<'a>(given: &ArgMatches<'a>) -> Option<Args<'a>>
 
 fn program<'a>(alloc: Global) -> Result<Command<'a>, AllocError>
     ensures { IfOk result (λ command. app_of command ≡ whole_program) }
+{
+    program_up_to_show(alloc)?.subcommand(sim_words(alloc)?)
+}
+
+fn program_up_to_show<'a>(alloc: Global) -> Result<Command<'a>, AllocError>
+    ensures { IfOk result (λ command. app_of command ≡ fifth_of_program) }
 {
     program_up_to_check(alloc)?.subcommand(show_words(alloc)?)
 }

@@ -1,6 +1,6 @@
 use Rattle.std.proofs.Common.{rules, refl}
 use Rattle.clap.specs.Words.{found_of, rows_of}
-use Rattle.nfsd_words.proofs.Found.{if_none, no_connections, no_image, no_listen, no_number_found}
+use Rattle.nfsd_words.proofs.Found.{serve_is_no_sim, if_none, no_connections, no_image, no_listen, no_number_found}
 use Rattle.nfsd_words.proofs.Found.{no_text_found, no_workers, number_found, text_found}
 use Rattle.nfsd_words.proofs.asked_serve.Goals as goal
 
@@ -16,7 +16,7 @@ returns-clause-asked c = (
 )
 
 pub returns-in_err-get_str-clause-senseless : goal.returns-in_err-get_str-clause-senseless
-returns-in_err-get_str-clause-senseless c = if_none _ (no_image _ (rows_of (found_of c.args.given.now)) (λ x.
+returns-in_err-get_str-clause-senseless c = if_none _ (no_image _ (rows_of (found_of c.args.given.now)) serve_is_no_sim (λ x.
     no_text_found c.args.given.now _ c.get_str.result x c.get_str.ensures (search rules)))
 
 pub returns-in_err-get_str-2-clause-senseless : goal.returns-in_err-get_str-2-clause-senseless

@@ -1,0 +1,5 @@
+mod Looked
+mod Marks
+mod Printed
+mod Repeated
+mod Replied

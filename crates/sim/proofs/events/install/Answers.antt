@@ -1,0 +1,12 @@
+use Rattle.std.proofs.Common.{◌≡◌, ◌∙◌, [], ◌∷◌, ◌++◌, rules, sym}
+use Rattle.store_promise.specs.declared.events.Event.TheVariants as event
+use Rattle.sim.proofs.Repeated.{repeated_none, three_more}
+use Rattle.sim.proofs.events.install.Goals as goal
+
+pub calls-init : goal.calls-init
+calls-init c = sym (repeated_none c.args.events.now.items _)
+
+pub calls-preserved : goal.calls-preserved
+calls-preserved c =
+    let pushed : c.push-in-calls-2.new.self.items ≡ c.calls.events.items ++ event.Install ∷ [] ++ event.InstIo ∷ [] ++ event.Install ∷ [] = search rules in
+    pushed ∙ three_more c.calls.events.items c.args.events.now.items c.calls._made _ _ _ c.calls.invariant

@@ -1,0 +1,7 @@
+use Rattle.std.proofs.Common.{◌≡◌, ◌++◌, ◌∷◌, []}
+use Rattle.store_promise.specs.declared.events.Event.TheVariants as event
+use Rattle.sim.specs.Events.{repeated}
+use Rattle.sim.proofs.events.log.Given as goal
+
+abbrev pub invariant-calls : goal.invariant-calls
+invariant-calls l = l.events.items ≡ l.fn.events.items ++ repeated l._made (event.Log ∷ event.LogIo ∷ event.Log ∷ [])

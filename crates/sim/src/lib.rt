@@ -1,0 +1,18 @@
+//! Runs the commands of a script over a device in memory, by `store::run`, and prints what comes of them.
+#![tactic(auto)]
+
+mod crashing;
+mod events;
+mod fault;
+mod handed;
+mod image;
+mod lines;
+mod looking;
+mod playing;
+mod replies;
+mod segment;
+mod simulation;
+mod stage;
+
+pub use fault::SimFault;
+pub use simulation::simulate;

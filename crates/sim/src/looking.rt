@@ -1,0 +1,91 @@
+//! The lines of the files of an image.
+ghost use Rattle.std.specs.Prelude.{◌≡◌, IfErr, OnOk};
+ghost use Rattle.std.specs.Io.KnownBytes.{Appends};
+ghost use Rattle.sim.specs.Files.{HasLooked, file_line, file_lines, kind_word, looked_lines, show_refused_line};
+
+use crate::fault::SimFault;
+use disk::MemDisk;
+use layout::InodeKind;
+use std::alloc::Global;
+use std::io::Write;
+use store::{Line, OpenFault, show};
+
+/// Looks at the files of an image, where they are to be told.
+pub fn look(alloc: Global, disk: &mut MemDisk, shows: bool) -> Option<Result<Vec<Line>, OpenFault>>
+    ensures { HasLooked shows disk.old disk.new result }
+{
+    if shows { Some(show(alloc, disk)) } else { None }
+}
+
+/// Prints the files that were found, if they are to be told, or why they can't be told.
+pub fn print_files<W: Write>(
+    out: &mut W,
+    looked: &Option<Result<Vec<Line>, OpenFault>>,
+) -> Result<(), SimFault>
+    ensures { OnOk result (Appends (W.contents out.old) (W.contents out.new) (looked_lines looked.now)) }
+{
+    match looked {
+        None => Ok(()),
+        Some(Ok(lines)) => print_lines(out, lines),
+        Some(Err(fault)) => print_show_refused(out, *fault),
+    }
+}
+
+// Prints a line a file.
+fn print_lines<W: Write>(out: &mut W, lines: &[Line]) -> Result<(), SimFault>
+    ensures { OnOk result (Appends (W.contents out.old) (W.contents out.new) (file_lines lines.now)) }
+{
+    'lines: for line in lines {
+        print_line(out, *line)?;
+    }
+    Ok(())
+}
+
+fn print_line<W: Write>(out: &mut W, line: Line) -> Result<(), SimFault>
+    ensures { OnOk result (Appends (W.contents out.old) (W.contents out.new) (file_line line)) }
+{
+    writeln!(
+        out,
+        "{} {} {:o} {} {} {} {} {}",
+        line.number,
+        kind_word(line.kind),
+        line.mode,
+        line.uid,
+        line.gid,
+        line.nlink,
+        line.size,
+        line.blocks
+    )
+    .or(Err(SimFault::Output))
+}
+
+fn kind_word(kind: InodeKind) -> &'static str
+    ensures { result.now ≡ kind_word kind }
+{
+    match kind {
+        InodeKind::Regular => "file",
+        InodeKind::Directory => "dir",
+        InodeKind::Link => "link",
+    }
+}
+
+// Prints why the files can't be told.
+fn print_show_refused<W: Write>(out: &mut W, fault: OpenFault) -> Result<(), SimFault>
+    ensures { OnOk result (Appends (W.contents out.old) (W.contents out.new) (show_refused_line fault)) }
+{
+    let line = show_refused_line(fault);
+    write!(out, "{line}").or(Err(SimFault::Output))
+}
+
+fn show_refused_line(fault: OpenFault) -> &'static str
+    ensures { result.now ≡ show_refused_line fault }
+{
+    match fault {
+        OpenFault::Magic => "show refused 1 Magic\n",
+        OpenFault::Version => "show refused 2 Version\n",
+        OpenFault::Range => "show refused 3 Range\n",
+        OpenFault::Log => "show refused 4 Log\n",
+        OpenFault::Device => "show refused 5 Device\n",
+        OpenFault::NoMemory => "show refused 6 NoMemory\n",
+    }
+}
