@@ -1,21 +1,18 @@
--- The homes of an image have what the image has, wherever inodes, data blocks and bitmaps lie.
-use Rattle.std.proofs.Common.{◌≡◌, ℕ, ◌+◌, ◌*◌, ◌/◌, ◌%◌, ◌^◌, ◌<◌, ◌≤◌, ap, ◌∙◌, refl, Bool, true, false, cond, ◌&&◌, length}
-use Rattle.std.proofs.Common.{take, drop, replicate, get_or, nat_eq, nat_le, nat_lt, Err, arith}
+-- The homes of an image have what the image has, wherever bitmaps lie, and are blocks.
+use Rattle.std.proofs.Common.{◌≡◌, ℕ, ◌+◌, ◌*◌, ◌/◌, ◌%◌, ◌^◌, ◌<◌, ◌≤◌, ap, ◌∙◌, Bool, true, false, cond, ◌&&◌, length}
+use Rattle.std.proofs.Common.{replicate, get_or, nat_eq, nat_le, nat_lt, arith}
 use Rattle.std.proofs.lemmas.Bool.{lt-ltb}
-use Rattle.limits.specs.declared.TheConstants.{BITS_PER_BLOCK, BLOCK_BYTES, FIRST_HOME_BLOCK, INODE_BYTES}
+use Rattle.limits.specs.declared.TheConstants.{BITS_PER_BLOCK, BLOCK_BYTES, FIRST_HOME_BLOCK}
 use Rattle.disk.specs.Crash.{Image}
 use Rattle.nfs_types.specs.Fits.{AreBytes}
-use Rattle.layout.specs.declared.fault.LayoutFault.TheVariants.{Range}
 use Rattle.layout.specs.declared.geometry.Geometry.{Geometry}
-use Rattle.layout.specs.Decode.{inode_at}
 use Rattle.layout.specs.Geometry.{data_at}
 use Rattle.layout.specs.Homes.{homes_of, is_home}
-use Rattle.layout.specs.InodeForm.{read_inode}
-use Rattle.layout.specs.Parts.{bit_at, bits_of, content_in, table_of}
-use Rattle.layout.specs.Places.{inode_block, inode_offset, is_data}
+use Rattle.layout.specs.Parts.{bit_at, bits_of}
+use Rattle.layout.specs.Places.{is_data}
 use Rattle.layout.proofs.FreshBytes.{zero_block}
 use Rattle.layout.proofs.FreshHomes.{home_is}
-use Rattle.inode.proofs.AllTests.{all_two, is_less, no_more}
+use Rattle.inode.proofs.AllTests.{all_two, is_less}
 use Rattle.image_check.specs.Searched.{AreBlocksOf}
 
 -- a data block is one of the image's
@@ -26,29 +23,6 @@ in_blocks g number is =
 module _ (g : Geometry) (image : Image) where
   abbrev home : Image
   home = homes_of g.blocks image
-
-  content_at : (number : ℕ) → content_in g home number ≡ content_in g image number
-  content_at number = by_test (is_data g number) refl
-    where
-      by_test : (b : Bool) → is_data g number ≡ b
-          → cond b (home number) (replicate BLOCK_BYTES 0) ≡ cond b (image number) (replicate BLOCK_BYTES 0)
-      by_test true is =
-          let both = all_two (nat_le (data_at g.blocks g.inodes) number) (nat_lt number g.blocks) is in
-          let from = no_more (data_at g.blocks g.inodes) number both.0 in
-          home_is g.blocks number image (omega (arith, from)) (is_less number g.blocks both.1)
-      by_test false is = refl
-
-  pub content_same : content_in g home ≡ content_in g image
-  content_same = λ i number. content_at number i
-
-  pub inode_same : (number : ℕ) → number < g.inodes → table_of g home number ≡ inode_at g image number
-  unfolding inode_at
-  inode_same number less =
-      let room = g.lawful.1.3 in
-      let whole = g.lawful.1.2 in
-      ap (λ b. cond b (inode_at g home number) (Err Range)) (lt-ltb number g.inodes less)
-      ∙ ap (λ bytes. read_inode g (take INODE_BYTES (drop (inode_offset number) bytes)))
-      (home_is g.blocks (inode_block g number) image (omega arith) (omega (arith, less, room, whole)))
 
   pub bit_same : (first count number : ℕ) → number < BITS_PER_BLOCK * count → FIRST_HOME_BLOCK ≤ first
       → first + count ≤ g.blocks → bits_of home first count number ≡ bit_at image first number

@@ -27,6 +27,7 @@ use Rattle.dir.proofs.Members.{none_some, same}
 use Rattle.tallies.specs.Tally.{IsOwned}
 use Rattle.image_parts.specs.Marks.{AreMarked}
 use Rattle.image_parts.specs.Table.{HasRefusedInode}
+use Rattle.image_files.proofs.AtHome.{in_table, same_content}
 use Rattle.image_law.specs.TreeOf.{HasNames, tree_of}
 use Rattle.image_law.specs.Whole.{IsWhole}
 use Rattle.image_law.proofs.Made.{files_are, none_past}
@@ -47,7 +48,7 @@ use Rattle.image_check.specs.declared.fault.CheckFault.{CheckFault}
 use Rattle.image_check.specs.declared.judging.Counts.{Counts}
 use Rattle.image_check.proofs.Counted.{files_are_counted}
 use Rattle.image_check.proofs.Files as files
-use Rattle.image_check.proofs.Homes.{blocks_are, content_same, in_blocks, inode_same}
+use Rattle.image_check.proofs.Homes.{blocks_are, in_blocks}
 use Rattle.image_check.proofs.Marked.{are_marked, is_marked}
 use Rattle.image_check.proofs.Refusing.{as_searched, said_then}
 use Rattle.image_check.proofs.SlotBytes.{dropped, taken}
@@ -63,7 +64,7 @@ module _ (g : Geometry) (boot : ℕ) (image : Image) where
   pub no_table : HasRefusedInode g image → IsNoTree g boot image
   no_table refused tree stands made =
       by_result (table_of g home refused.0) (stands.parts.has.inodes refused.0 refused.1)
-      (λ is. refused.2 (subst IsOk (inode_same g image refused.0 refused.1) is))
+      (λ is. refused.2 (subst IsOk (in_table g image refused.0 refused.1) is))
     where
       by_result : (r : Result (Option Inode) LayoutFault) → IsFile g (content_in g home) r → (IsOk r → ⊥) → ⊥
       by_result (Ok o) is not = not refl
@@ -74,7 +75,7 @@ module _ (g : Geometry) (boot : ℕ) (image : Image) where
     long = read.inodes.long
 
     are : (number : ℕ) → number < g.inodes → table_of g home number ≡ Ok (get_or table number None)
-    are number less = inode_same g image number less ∙ read.inodes.each number less
+    are number less = in_table g image number less ∙ read.inodes.each number less
 
     blocks : AreBlocksOf g.blocks home
     blocks = blocks_are g image read.blocks
@@ -123,7 +124,7 @@ module _ (g : Geometry) (boot : ℕ) (image : Image) where
         → IsFile g content (Ok (get_or table number None))
     file_at_same number less is =
         subst (λ r. IsFile g content r) (are number less)
-        (subst (λ (k : Image). IsFile g k (table_of g home number)) (content_same g image) is)
+        (subst (λ (k : Image). IsFile g k (table_of g home number)) (same_content g image) is)
 
     has_blocks_at : (number : ℕ) → number < g.inodes → IsFile g content (Ok (get_or table number None))
         → HasBlocks g content (get_or table number None)
@@ -143,7 +144,7 @@ module _ (g : Geometry) (boot : ℕ) (image : Image) where
 
     module _ (found : Found) (fits : FitsFound g found) (is_found : IsFound g content table g.inodes found) where
       found_home : IsFound g (content_in g home) table g.inodes found
-      found_home = subst (λ (k : Image). IsFound g k table g.inodes found) (sym (content_same g image)) is_found
+      found_home = subst (λ (k : Image). IsFound g k table g.inodes found) (sym (same_content g image)) is_found
 
       kept : IsOwned (owned g (parts_of g home)) found.owners
       kept = is_owned g home table are found found_home
@@ -167,7 +168,7 @@ module _ (g : Geometry) (boot : ℕ) (image : Image) where
           → IsTidy g content (get_or table number None)
       tidy_at whole number less =
           by_entry (get_or table number None) (sound_at number less) (λ inode is kind.
-          subst (λ (k : Image). HasNames g k inode) (content_same g image)
+          subst (λ (k : Image). HasNames g k inode) (same_content g image)
           (whole.names number inode (are number less ∙ ap Ok is) kind))
         where
           by_entry : (o : Option Inode) → ((inode : Inode) → o ≡ Some inode → SoundInode g inode)
@@ -224,7 +225,7 @@ module _ (g : Geometry) (boot : ℕ) (image : Image) where
         each : (number : ℕ) → number < g.inodes → IsFile g (content_in g home) (table_of g home number)
         each number less =
             subst (λ r. IsFile g (content_in g home) r) (sym (are number less))
-            (subst (λ (k : Image). IsFile g k (Ok (get_or table number None))) (sym (content_same g image))
+            (subst (λ (k : Image). IsFile g k (Ok (get_or table number None))) (sym (same_content g image))
             (file_by number less))
 
         names : (number : ℕ) (inode : Inode) → table_of g home number ≡ Ok (Some inode) → inode.kind ≡ Directory
@@ -232,7 +233,7 @@ module _ (g : Geometry) (boot : ℕ) (image : Image) where
         names number inode is kind =
             let less = below g home number inode is in
             let entry = same_option (get_or table number None) (Some inode) (sym (are number less) ∙ is) in
-            subst (λ (k : Image). HasNames g k inode) (sym (content_same g image))
+            subst (λ (k : Image). HasNames g k inode) (sym (same_content g image))
             (files.names_of_tidy g content inode (sound_at number less inode entry) content_bytes kind
             (subst (λ o. IsTidy g content o) entry (is_found.tidy by.tidy number less)))
 

@@ -1,3 +1,4 @@
+pub mod AtHome
 pub mod Data
 pub mod Mapped
 pub mod SlotBlocks

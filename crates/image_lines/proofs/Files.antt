@@ -24,11 +24,11 @@ use Rattle.inode.proofs.BodyThere.{has_body}
 use Rattle.inode.proofs.InodeThere.{is_of_kind, is_read, is_sound, long}
 use Rattle.inode.proofs.UsedBlocks.{counted}
 use Rattle.image_parts.specs.Table.{HasRefusedInode, IsTable}
+use Rattle.image_files.proofs.AtHome.{homes, in_table, same_content, same_inode}
 use Rattle.image_law.specs.TreeOf.{files_below, with_file}
 use Rattle.image_law.proofs.Made.{one_made}
 use Rattle.image_lines.specs.Lines.{IsCounted, IsCountedIfAny, blocks_in, line_in, lines_below, with_line}
 use Rattle.image_lines.specs.Shown.{line_of, lines_of, shown_blocks, shown_kind}
-use Rattle.image_lines.proofs.AtHome.{homes, in_table, same_content, same_inode}
 use Rattle.image_lines.proofs.Rising.{more_files, no_files}
 
 -- a file's inode is read

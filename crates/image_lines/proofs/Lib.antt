@@ -1,5 +1,5 @@
-mod AtHome
 mod Files
 mod OfGood
 mod OfTable
+mod Printed
 mod Rising

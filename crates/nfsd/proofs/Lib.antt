@@ -1,4 +1,3 @@
 pub mod Obeyed
 pub mod OfDevice
 pub mod OfImage
-pub mod Printed

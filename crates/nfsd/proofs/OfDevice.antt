@@ -5,9 +5,10 @@ use Rattle.std.specs.Io.KnownBytes.{Appends}
 use Rattle.disk.specs.Device.{Device}
 use Rattle.image_check.specs.declared.judging.Counts.{Counts}
 use Rattle.image_lines.specs.declared.line.Line.{Line}
+use Rattle.image_lines.specs.Printed.{lines_text}
 use Rattle.nfsd.specs.declared.fault.Fault.{Fault}
 use Rattle.nfsd.specs.declared.fault.Fault.TheVariants as fault
-use Rattle.nfsd.specs.Looked.{ChecksDevice, IsCheckOf, IsShowOf, ShowsDevice, clean_line, lines_text}
+use Rattle.nfsd.specs.Looked.{ChecksDevice, IsCheckOf, IsShowOf, ShowsDevice, clean_line}
 
 module _ (keeps_model : Type 0) (old new : Device) (written later : Option (List ℕ)) where
   -- its counts were printed

@@ -1,16 +1,13 @@
 -- What the program tells of an image that it only reads.
 use Rattle.std.specs.Prelude.{◌≡◌, ℕ, List, [], ◌++◌, Option, Some, None, Result, Ok, Err, codes, Vec}
 use Rattle.std.specs.declared.alloc.Global.{Global}
-use Rattle.std.specs.Fmt.{decimal, digits}
+use Rattle.std.specs.Fmt.{decimal}
 use Rattle.std.specs.Io.KnownBytes.{Appends}
-use Rattle.std.specs.List.{flat_map}
-use Rattle.std.specs.Prelude.{MatchResult, false}
+use Rattle.std.specs.Prelude.{MatchResult}
 use Rattle.clap.specs.Words.{Text}
 use Rattle.disk.specs.declared.file.FirstContents.{FirstContents}
 use Rattle.disk.specs.Device.{Device}
 use Rattle.disk.specs.File.{Calls, KeepsModel, file_device, first_in}
-use Rattle.layout.specs.declared.inode.InodeKind.{InodeKind}
-use Rattle.layout.specs.declared.inode.InodeKind.TheVariants.{Directory, Link, Regular}
 use Rattle.model.specs.Tree.{Tree}
 use Rattle.wal_law.specs.Recovery.{HasOnlyRead, IsUnspoiled, image_of as image_in}
 use Rattle.store_images.specs.BringingHome.{CountsCause}
@@ -20,6 +17,7 @@ use Rattle.image_check.specs.declared.fault.CheckFault.{CheckFault}
 use Rattle.image_check.specs.declared.judging.Counts.{Counts}
 use Rattle.image_check.specs.Checked.{CountsCheck, IsChecked}
 use Rattle.image_lines.specs.declared.line.Line.{Line}
+use Rattle.image_lines.specs.Printed.{lines_text}
 use Rattle.image_lines.specs.Shown.{IsShown}
 use Rattle.nfsd.specs.declared.fault.Fault.{Fault}
 use Rattle.nfsd.specs.declared.fault.Fault.TheVariants as fault
@@ -29,30 +27,6 @@ use Rattle.nfsd.specs.Faults.{IsAbout, as_line}
 abbrev pub clean_line : Counts → List ℕ
 clean_line counts =
     as_line (codes "clean " ++ decimal counts.files ++ codes " files " ++ decimal counts.blocks ++ codes " blocks")
-
--- the word for a kind of file
-abbrev pub word_of : InodeKind → List ℕ
-word_of Regular = codes "file"
-word_of Directory = codes "dir"
-word_of Link = codes "link"
-
--- a word, one blank, and what comes behind them
-abbrev pub spaced : List ℕ → List ℕ → List ℕ
-spaced word rest = word ++ (codes " " ++ rest)
-
--- the line of a file: number, kind, mode by octal digits, owner, group, links, size and blocks, parted by one blank
-abbrev pub line_text : Line → List ℕ
-line_text line = spaced (decimal line.number)
-    (spaced (word_of line.kind)
-    (spaced (digits 8 false line.mode)
-    (spaced (decimal line.uid)
-    (spaced (decimal line.gid)
-    (spaced (decimal line.nlink)
-    (spaced (decimal line.size)
-    (as_line (decimal line.blocks))))))))
-
-abbrev pub lines_text : List Line → List ℕ
-lines_text lines = flat_map line_text lines
 
 -- A device was checked, with this answer: it was only read, a failure of it is counted just where the answer says so, and
 -- the answer is that of its image, where the device keeps its model and no write of it has failed.

@@ -1,8 +1,8 @@
 //! What the program tells of an image that it only reads.
 ghost use Rattle.std.specs.Prelude.{◌≡◌, IfErr, OnOk};
 ghost use Rattle.std.specs.Io.KnownBytes.{Appends};
-ghost use Rattle.nfsd.specs.Looked.{ChecksDevice, ChecksImage, ShowsDevice, ShowsImage, clean_line, line_text};
-ghost use Rattle.nfsd.specs.Looked.{lines_text, word_of as word_of_kind};
+ghost use Rattle.image_lines.specs.Printed.{lines_text};
+ghost use Rattle.nfsd.specs.Looked.{ChecksDevice, ChecksImage, ShowsDevice, ShowsImage, clean_line};
 ghost use Rattle.nfsd.specs.Done.{device_in};
 
 use crate::fault::Fault;
@@ -10,7 +10,7 @@ use crate::image_disk::ImageDisk;
 use crate::read_files::{SharedFile, open_to_read};
 use crate::trouble::Trouble;
 use disk::{BlockFile, CrashDisk, FirstContents};
-use layout::InodeKind;
+use image_lines::print_lines;
 use std::alloc::Global;
 use std::fs::Files;
 use std::io::Write;
@@ -109,51 +109,16 @@ pub fn show_device<D: CrashDisk, O: Write>(
         (D.device disk.new) (O.contents writer.new) }
 {
     match store::show(alloc, disk) {
-        Ok(lines) => print_lines(writer, &lines),
+        Ok(lines) => print_files(writer, &lines),
         Err(why) => Err(Fault::Open(why)),
     }
 }
 
-// Prints these lines.
-fn print_lines<O: Write>(writer: &mut O, lines: &[Line]) -> Result<(), Fault>
+// Prints the lines of files.
+fn print_files<O: Write>(writer: &mut O, lines: &[Line]) -> Result<(), Fault>
     ensures printed { OnOk result
         (Appends (O.contents writer.old) (O.contents writer.new) (lines_text lines.now)) }
     ensures print { IfErr result (λ fault. fault ≡ Fault.Print) }
 {
-    'lines: for index in 0..lines.len() {
-        print_line(writer, lines[index])?;
-    }
-    Ok(())
-}
-
-// Prints a line.
-fn print_line<O: Write>(writer: &mut O, line: Line) -> Result<(), Fault>
-    ensures printed { OnOk result
-        (Appends (O.contents writer.old) (O.contents writer.new) (line_text line)) }
-    ensures print { IfErr result (λ fault. fault ≡ Fault.Print) }
-{
-    writeln!(
-        writer,
-        "{} {} {:o} {} {} {} {} {}",
-        line.number,
-        word_of(line.kind),
-        line.mode,
-        line.uid,
-        line.gid,
-        line.nlink,
-        line.size,
-        line.blocks
-    )
-    .or(Err(Fault::Print))
-}
-
-// The word for a kind of file.
-fn word_of(kind: InodeKind) -> &'static str
-    ensures { result.now ≡ word_of_kind kind }
-{
-    match kind {
-        InodeKind::Regular => "file",
-        InodeKind::Directory => "dir",
-        InodeKind::Link => "link",
-    }
+    print_lines(writer, lines).or(Err(Fault::Print))
 }

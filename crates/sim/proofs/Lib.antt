@@ -1,4 +1,3 @@
-mod Looked
 mod Marks
 mod Printed
 mod Repeated

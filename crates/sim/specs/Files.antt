@@ -1,14 +1,12 @@
--- The files of an image as lines.
-use Rattle.std.specs.Prelude.{◌≡◌, ℕ, Bool, true, false, List, [], ◌∷◌, ◌++◌, Option, Some, None, Result, Ok, Err}
-use Rattle.std.specs.Prelude.{Vec, codes, flat_map}
-use Rattle.std.specs.Fmt.{decimal, digits}
+-- The files of an image, as an opening finds them.
+use Rattle.std.specs.Prelude.{◌≡◌, ℕ, Bool, true, false, List, [], Option, Some, None, Result, Ok, Err}
+use Rattle.std.specs.Prelude.{Vec, codes}
 use Rattle.std.specs.declared.alloc.Global.{Global}
 use Rattle.disk.specs.Memory.{memory_device}
 use Rattle.disk.specs.declared.mem_disk.MemDisk.{MemDisk}
-use Rattle.image_lines.specs.Shown.{IsShown}
 use Rattle.image_lines.specs.declared.line.Line.{Line}
-use Rattle.layout.specs.declared.inode.InodeKind.{InodeKind}
-use Rattle.layout.specs.declared.inode.InodeKind.TheVariants.{Directory, Link, Regular}
+use Rattle.image_lines.specs.Printed.{lines_text}
+use Rattle.image_lines.specs.Shown.{IsShown}
 use Rattle.model.specs.Tree.{Tree}
 use Rattle.store_promise.specs.GoodImage.{IsGoodImage}
 use Rattle.store_promise.specs.declared.fault.OpenFault.{OpenFault}
@@ -30,20 +28,6 @@ HasLooked true old new (Some answer) = HasSeen old new answer
 HasLooked false old new None = new ≡ old
 HasLooked shows old new looked = ⊥
 
-abbrev pub kind_word : InodeKind → List ℕ
-kind_word Regular = codes "file"
-kind_word Directory = codes "dir"
-kind_word Link = codes "link"
-
--- number, kind, mode by octal digits, owner, group, links, size and blocks, parted by one blank
-abbrev pub file_line : Line → List ℕ
-file_line line = decimal line.number ++ codes " " ++ kind_word line.kind ++ codes " "
-    ++ digits 8 false line.mode ++ codes " " ++ decimal line.uid ++ codes " " ++ decimal line.gid ++ codes " "
-    ++ decimal line.nlink ++ codes " " ++ decimal line.size ++ codes " " ++ decimal line.blocks ++ 10 ∷ []
-
-abbrev pub file_lines : List Line → List ℕ
-file_lines lines = flat_map file_line lines
-
 abbrev pub show_refused_line : OpenFault → List ℕ
 show_refused_line opening.Magic = codes "show refused 1 Magic\n"
 show_refused_line opening.Version = codes "show refused 2 Version\n"
@@ -55,5 +39,5 @@ show_refused_line opening.NoMemory = codes "show refused 6 NoMemory\n"
 -- what is printed of a look
 abbrev pub looked_lines : Looked → List ℕ
 looked_lines None = []
-looked_lines (Some (Ok lines)) = file_lines lines.items
+looked_lines (Some (Ok lines)) = lines_text lines.items
 looked_lines (Some (Err fault)) = show_refused_line fault

@@ -1,11 +1,11 @@
-//! The lines of the files of an image.
-ghost use Rattle.std.specs.Prelude.{◌≡◌, IfErr, OnOk};
+//! The files of an image, as an opening finds them.
+ghost use Rattle.std.specs.Prelude.{◌≡◌, OnOk};
 ghost use Rattle.std.specs.Io.KnownBytes.{Appends};
-ghost use Rattle.sim.specs.Files.{HasLooked, file_line, file_lines, kind_word, looked_lines, show_refused_line};
+ghost use Rattle.sim.specs.Files.{HasLooked, looked_lines, show_refused_line};
 
 use crate::fault::SimFault;
 use disk::MemDisk;
-use layout::InodeKind;
+use image_lines::print_lines;
 use std::alloc::Global;
 use std::io::Write;
 use store::{Line, OpenFault, show};
@@ -26,46 +26,8 @@ pub fn print_files<W: Write>(
 {
     match looked {
         None => Ok(()),
-        Some(Ok(lines)) => print_lines(out, lines),
+        Some(Ok(lines)) => print_lines(out, lines).or(Err(SimFault::Output)),
         Some(Err(fault)) => print_show_refused(out, *fault),
-    }
-}
-
-// Prints a line a file.
-fn print_lines<W: Write>(out: &mut W, lines: &[Line]) -> Result<(), SimFault>
-    ensures { OnOk result (Appends (W.contents out.old) (W.contents out.new) (file_lines lines.now)) }
-{
-    'lines: for line in lines {
-        print_line(out, *line)?;
-    }
-    Ok(())
-}
-
-fn print_line<W: Write>(out: &mut W, line: Line) -> Result<(), SimFault>
-    ensures { OnOk result (Appends (W.contents out.old) (W.contents out.new) (file_line line)) }
-{
-    writeln!(
-        out,
-        "{} {} {:o} {} {} {} {} {}",
-        line.number,
-        kind_word(line.kind),
-        line.mode,
-        line.uid,
-        line.gid,
-        line.nlink,
-        line.size,
-        line.blocks
-    )
-    .or(Err(SimFault::Output))
-}
-
-fn kind_word(kind: InodeKind) -> &'static str
-    ensures { result.now ≡ kind_word kind }
-{
-    match kind {
-        InodeKind::Regular => "file",
-        InodeKind::Directory => "dir",
-        InodeKind::Link => "link",
     }
 }
 

@@ -1,7 +1,7 @@
 use Rattle.std.proofs.Common.{rules, refl}
 use Rattle.clap.specs.Words.{found_of, rows_of}
-use Rattle.nfsd_words.proofs.Found.{once_is_no_sim, if_none, no_image, no_number_found, no_text_found, no_time_of_calls, number_found}
-use Rattle.nfsd_words.proofs.Found.{text_found}
+use Rattle.nfsd_words.proofs.Found.{if_none, no_image, no_number_found, no_text_found, no_time_of_calls, number_found}
+use Rattle.nfsd_words.proofs.Found.{once_is_no_sim, text_found}
 use Rattle.nfsd_words.proofs.asked_once.Goals as goal
 
 pub returns-clause-asked : goal.returns-clause-asked

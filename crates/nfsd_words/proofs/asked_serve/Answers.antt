@@ -1,7 +1,7 @@
 use Rattle.std.proofs.Common.{rules, refl}
 use Rattle.clap.specs.Words.{found_of, rows_of}
-use Rattle.nfsd_words.proofs.Found.{serve_is_no_sim, if_none, no_connections, no_image, no_listen, no_number_found}
-use Rattle.nfsd_words.proofs.Found.{no_text_found, no_workers, number_found, text_found}
+use Rattle.nfsd_words.proofs.Found.{if_none, no_connections, no_image, no_listen, no_number_found}
+use Rattle.nfsd_words.proofs.Found.{no_text_found, no_workers, number_found, serve_is_no_sim, text_found}
 use Rattle.nfsd_words.proofs.asked_serve.Goals as goal
 
 pub returns-clause-asked : goal.returns-clause-asked

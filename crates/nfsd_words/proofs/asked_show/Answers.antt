@@ -1,6 +1,6 @@
 use Rattle.std.proofs.Common.{rules, refl}
 use Rattle.clap.specs.Words.{found_of, rows_of}
-use Rattle.nfsd_words.proofs.Found.{show_is_no_sim, if_none, no_image, no_text_found, text_found}
+use Rattle.nfsd_words.proofs.Found.{if_none, no_image, no_text_found, show_is_no_sim, text_found}
 use Rattle.nfsd_words.proofs.asked_show.Goals as goal
 
 pub returns-clause-asked : goal.returns-clause-asked

@@ -1,6 +1,6 @@
 use Rattle.std.proofs.Common.{OnOk, refl, subst}
 use Rattle.std.specs.Io.KnownBytes.{Appends}
-use Rattle.nfsd.specs.Looked.{lines_text}
+use Rattle.image_lines.specs.Printed.{lines_text}
 use Rattle.nfsd.proofs.OfDevice.{lines_printed}
 use Rattle.nfsd.proofs.looking.show_device.Goals as goal
 
@@ -8,16 +8,16 @@ pub returns-in-Ok : goal.returns-in-Ok
 returns-in-Ok g c =
     lines_printed (g.D.CrashDisk.keeps_model c.show.new.disk) (g.D.CrashDisk.device c.args.disk.now)
     (g.D.CrashDisk.device c.show.new.disk) (g.O.Write.contents c.args.writer.now)
-    (g.O.Write.contents c.print_lines.new.writer) c.in-Ok.lines c.print_lines.result
+    (g.O.Write.contents c.print_files.new.writer) c.in-Ok.lines c.print_files.result
     (record {
       reads = c.in-Ok.ensures.reads;
       failure = c.in-Ok.ensures.failure;
       shown = c.in-Ok.ensures.shown;
     })
-    (subst (λ lines. OnOk c.print_lines.result (Appends (g.O.Write.contents c.args.writer.now)
-    (g.O.Write.contents c.print_lines.new.writer) (lines_text lines))) c.deref.ensures.value
-    c.print_lines.ensures.printed)
-    c.print_lines.ensures.print
+    (subst (λ lines. OnOk c.print_files.result (Appends (g.O.Write.contents c.args.writer.now)
+    (g.O.Write.contents c.print_files.new.writer) (lines_text lines))) c.deref.ensures.value
+    c.print_files.ensures.printed)
+    c.print_files.ensures.print
 
 pub returns-in-Err : goal.returns-in-Err
 returns-in-Err g c = (

@@ -1,35 +1,30 @@
 -- What the parts of an image hold lies at home.
-use Rattle.std.proofs.Common.{◌≡◌, ℕ, ◌<◌, ◌≤◌, ap, ◌∙◌, refl, Bool, true, false, cond, ◌&&◌, replicate, arith}
+use Rattle.std.proofs.Common.{◌≡◌, ℕ, ◌<◌, ap, ◌∙◌, refl, Bool, true, false, cond, replicate, arith}
 use Rattle.std.proofs.Common.{nat_le, nat_lt, take, drop, Err}
-use Rattle.std.proofs.lemmas.Bool.{le-leb, lt-ltb}
+use Rattle.std.proofs.lemmas.Bool.{lt-ltb}
 use Rattle.limits.specs.declared.TheConstants.{BLOCK_BYTES, FIRST_HOME_BLOCK, INODE_BYTES}
 use Rattle.disk.specs.Crash.{Image}
 use Rattle.layout.specs.declared.fault.LayoutFault.TheVariants.{Range}
 use Rattle.layout.specs.declared.geometry.Geometry.{Geometry}
 use Rattle.layout.specs.Decode.{inode_at}
 use Rattle.layout.specs.Geometry.{data_at}
-use Rattle.layout.specs.Homes.{homes_of, is_home}
+use Rattle.layout.specs.Homes.{homes_of}
 use Rattle.layout.specs.InodeForm.{read_inode}
 use Rattle.layout.specs.Parts.{content_in, table_of}
 use Rattle.layout.specs.Places.{inode_block, inode_offset, is_data}
+use Rattle.layout.proofs.FreshHomes.{home_is}
 use Rattle.inode.proofs.AllTests.{all_two, is_less, no_more}
 
 module _ (g : Geometry) (image : Image) where
   abbrev pub homes : Image
   homes = homes_of g.blocks image
 
-  at_home : (number : ℕ) → FIRST_HOME_BLOCK ≤ number → number < g.blocks → homes number ≡ image number
-  at_home number from below = ap (λ b. cond b (image number) (replicate BLOCK_BYTES 0)) is
-    where
-      is : is_home g.blocks number ≡ true
-      is = λ i. le-leb FIRST_HOME_BLOCK number from i && lt-ltb number g.blocks below i
-
   each : (number : ℕ) (lies : Bool) → is_data g number ≡ lies
       → cond lies (homes number) (replicate BLOCK_BYTES 0) ≡ cond lies (image number) (replicate BLOCK_BYTES 0)
   each number true is =
       let both = all_two (nat_le (data_at g.blocks g.inodes) number) (nat_lt number g.blocks) is in
       let from = no_more (data_at g.blocks g.inodes) number both.0 in
-      at_home number (omega (arith, from)) (is_less number g.blocks both.1)
+      home_is g.blocks number image (omega (arith, from)) (is_less number g.blocks both.1)
   each number false is = refl
 
   -- data blocks
@@ -43,7 +38,7 @@ module _ (g : Geometry) (image : Image) where
       let room = g.lawful.1.3 in
       let whole = g.lawful.1.2 in
       ap (λ bytes. read_inode g (take INODE_BYTES (drop (inode_offset number) bytes)))
-      (at_home (inode_block g number) (omega arith) (omega (arith, room, less, whole)))
+      (home_is g.blocks (inode_block g number) image (omega arith) (omega (arith, room, less, whole)))
 
   pub in_table : (number : ℕ) → number < g.inodes → table_of g homes number ≡ inode_at g image number
   in_table number less =

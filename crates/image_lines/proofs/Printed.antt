@@ -2,20 +2,18 @@
 use Rattle.std.proofs.Common.{◌+◌, ◌<◌, ◌≤◌, ℕ, sym, ap, subst, ◌≡◌, ◌∙◌, List, [], ◌∷◌, ◌++◌, Option, length, take, get_or}
 use Rattle.std.proofs.Common.{Err, Ok, Result}
 use Rattle.std.specs.Prelude.{OnOk}
-use Rattle.std.specs.Result.{result_or}
 use Rattle.std.proofs.KnownBytes.{Appends-trans}
 use Rattle.std.proofs.lemmas.Grind.{flat_map-append}
 use Rattle.std.proofs.lemmas.List.{append-nil, take_all, take_more}
 use Rattle.std.specs.Io.KnownBytes.{Appends}
 use Rattle.image_lines.specs.declared.line.Line.{Line}
-use Rattle.nfsd.specs.Looked.{line_text, lines_text}
+use Rattle.image_lines.specs.Printed.{line_text, lines_text}
 
--- what was written was printed, however its parts were put together, or the fault is that of printing
-pub printed_or : {E F : Type 0} {parts : List ℕ} (told : Result (Unit {0}) E) (fault : F) (a b : Option (List ℕ))
-    (text : List ℕ) → OnOk told (Appends a b parts) → parts ≡ text
-    → OnOk (result_or told (Err fault)) (Appends a b text)
-printed_or (Ok done) fault a b text is same = subst (Appends a b) same is
-printed_or (Err error) fault a b text is same = tt
+-- what was written was printed, however its parts were put together
+pub printed : {E : Type 0} {parts : List ℕ} (told : Result (Unit {0}) E) (a b : Option (List ℕ)) (text : List ℕ)
+    → OnOk told (Appends a b parts) → parts ≡ text → OnOk told (Appends a b text)
+printed (Ok done) a b text is same = subst (Appends a b) same is
+printed (Err error) a b text is same = tt
 
 module _ (lines : List Line) (index : ℕ) where
   -- one line more
