@@ -3,6 +3,8 @@
 
 mod found;
 mod looking;
+mod progress;
 
 pub use found::Found;
 pub use looking::look_at_files;
+pub use progress::{Progress, Untold};

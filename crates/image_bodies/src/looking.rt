@@ -13,7 +13,7 @@ ghost use Rattle.image_links.specs.Linked.{HasCounts};
 ghost use Rattle.image_bodies.specs.Bodies.{AreAsRead, FitsFound, HasBlocks, HasBlocksOf, IsAdded, IsFound};
 ghost use Rattle.image_bodies.specs.Bodies.{IsLookedAt, first_untidy};
 
-use crate::Found;
+use crate::{Found, Progress};
 use disk::CrashDisk;
 use file_counts::{count_names, meet_blocks};
 use image_files::{is_zero_past, read_directory, read_numbers};
@@ -24,14 +24,16 @@ use overlays::Overlay;
 use slot_names::are_names;
 use std::alloc::Global;
 
-/// Goes through the files of a table, and tells what was found in all.
+/// Goes through the files of a table, and tells what was found in all. Before each number `progress` is told how many
+/// numbers were gone through.
 #[tactic(auto, using(wal_law::proofs::OnlyRead::reads_then, wal_law::proofs::OnlyRead::no_read))]
-pub fn look_at_files<D: CrashDisk>(
+pub fn look_at_files<D: CrashDisk, P: Progress>(
     alloc: Global,
     disk: &mut D,
     overlay: &Overlay,
     geometry: &Geometry,
     table: &[Option<Inode>],
+    progress: &mut P,
 ) -> Result<Found, PartFault>
     requires size { geometry.now.blocks ≤ (D.device disk.old).size }
     requires table { length table.now ≡ geometry.now.inodes }
@@ -52,6 +54,7 @@ pub fn look_at_files<D: CrashDisk>(
 {
     let mut found = Found::new(alloc, geometry)?;
     'numbers: for number in 0..table.len() {
+        progress.reached(number as u32, geometry.inodes);
         look_at(
             alloc,
             disk,

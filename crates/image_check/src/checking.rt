@@ -14,7 +14,7 @@ use crate::CheckFault;
 use crate::first::{read_first, read_overlay};
 use crate::judging::{Counts, judge};
 use disk::CrashDisk;
-use image_bodies::{Found, look_at_files};
+use image_bodies::{Found, Progress, Untold, look_at_files};
 use image_parts::{PartFault, are_marked, read_table};
 use layout::{Inode, Super};
 use overlays::Overlay;
@@ -25,7 +25,6 @@ use std::alloc::Global;
 /// an inode is none (Range), the blocks of a file or the slots of a directory aren't as one file may have them (Range);
 /// a block has two owners (Shared), a bitmap doesn't mark what is in use (Bitmap), the files make no tree (Tree). A call
 /// of the device that fails and an allocation that fails end it at once (Device, NoMemory).
-#[tactic(auto, using(wal_law::proofs::OnlyRead::reads_then))]
 pub fn check<D: CrashDisk>(alloc: Global, disk: &mut D) -> Result<Counts, CheckFault>
     ensures reads { HasOnlyRead (D.device disk.old) (D.device disk.new) }
     ensures failure { CountsCheck (D.device disk.old) (D.device disk.new) result }
@@ -33,15 +32,36 @@ pub fn check<D: CrashDisk>(alloc: Global, disk: &mut D) -> Result<Counts, CheckF
     ensures checked { D.keeps_model disk.new → IsUnspoiled (D.device disk.old)
         → IsChecked (D.device disk.old).size (image_of (D.device disk.old)) result }
 {
+    check_telling(alloc, disk, &mut Untold)
+}
+
+/// The same, by which `progress` is told how many inodes were gone through.
+#[tactic(auto, using(wal_law::proofs::OnlyRead::reads_then))]
+pub fn check_telling<D: CrashDisk, P: Progress>(
+    alloc: Global,
+    disk: &mut D,
+    progress: &mut P,
+) -> Result<Counts, CheckFault>
+    ensures reads { HasOnlyRead (D.device disk.old) (D.device disk.new) }
+    ensures failure { CountsCheck (D.device disk.old) (D.device disk.new) result }
+    ensures model { D.keeps_model disk.new → D.keeps_model disk.old }
+    ensures checked { D.keeps_model disk.new → IsUnspoiled (D.device disk.old)
+        → IsChecked (D.device disk.old).size (image_of (D.device disk.old)) result }
+{
     match read_first(alloc, disk) {
-        Ok(found) => check_log(alloc, disk, &found),
+        Ok(found) => check_log(alloc, disk, &found, progress),
         Err(cause) => Err(cause),
     }
 }
 
 // The same, by the super block of the image.
 #[tactic(auto, using(wal_law::proofs::OnlyRead::reads_then))]
-fn check_log<D: CrashDisk>(alloc: Global, disk: &mut D, found: &Super) -> Result<Counts, CheckFault>
+fn check_log<D: CrashDisk, P: Progress>(
+    alloc: Global,
+    disk: &mut D,
+    found: &Super,
+    progress: &mut P,
+) -> Result<Counts, CheckFault>
     requires { found.now.geometry.blocks ≡ (D.device disk.old).size }
     ensures reads { HasOnlyRead (D.device disk.old) (D.device disk.new) }
     ensures failure { CountsCheck (D.device disk.old) (D.device disk.new) result }
@@ -51,18 +71,19 @@ fn check_log<D: CrashDisk>(alloc: Global, disk: &mut D, found: &Super) -> Result
         → IsChecked (D.device disk.old).size (image_of (D.device disk.old)) result }
 {
     match read_overlay(alloc, disk) {
-        Ok(overlay) => search(alloc, disk, &overlay, found),
+        Ok(overlay) => search(alloc, disk, &overlay, found, progress),
         Err(cause) => Err(cause),
     }
 }
 
 // Whether the files of an image, with these blocks laid over it, make a tree by the numbers of this super block.
 #[tactic(auto, using(wal_law::proofs::OnlyRead::reads_then))]
-fn search<D: CrashDisk>(
+fn search<D: CrashDisk, P: Progress>(
     alloc: Global,
     disk: &mut D,
     overlay: &Overlay,
     found: &Super,
+    progress: &mut P,
 ) -> Result<Counts, CheckFault>
     requires { found.now.geometry.blocks ≤ (D.device disk.old).size }
     ensures reads { HasOnlyRead (D.device disk.old) (D.device disk.new) }
@@ -73,19 +94,20 @@ fn search<D: CrashDisk>(
         → IsSearched found.now.geometry found.now.boot (laid_over overlay.now (image_of (D.device disk.old))) result }
 {
     match read_table(alloc, disk, overlay, &found.geometry) {
-        Ok(table) => search_files(alloc, disk, overlay, found, &table),
+        Ok(table) => search_files(alloc, disk, overlay, found, &table, progress),
         Err(cause) => Err(of_part(cause)),
     }
 }
 
 // The same, by the table of the image.
 #[tactic(auto, using(wal_law::proofs::OnlyRead::reads_then))]
-fn search_files<D: CrashDisk>(
+fn search_files<D: CrashDisk, P: Progress>(
     alloc: Global,
     disk: &mut D,
     overlay: &Overlay,
     found: &Super,
     table: &[Option<Inode>],
+    progress: &mut P,
 ) -> Result<Counts, CheckFault>
     requires size { found.now.geometry.blocks ≤ (D.device disk.old).size }
     requires table { length table.now ≡ found.now.geometry.inodes }
@@ -96,7 +118,7 @@ fn search_files<D: CrashDisk>(
         → IsRead found.now.geometry (laid_over overlay.now (image_of (D.device disk.old))) table.now
         → IsSearched found.now.geometry found.now.boot (laid_over overlay.now (image_of (D.device disk.old))) result }
 {
-    match look_at_files(alloc, disk, overlay, &found.geometry, table) {
+    match look_at_files(alloc, disk, overlay, &found.geometry, table, progress) {
         Ok(files) => search_marks(alloc, disk, overlay, found, table, &files),
         Err(cause) => Err(of_part(cause)),
     }

@@ -6,6 +6,7 @@ mod fault;
 mod first;
 mod judging;
 
-pub use checking::check;
+pub use checking::{check, check_telling};
 pub use fault::{CheckFault, Unlinked};
+pub use image_bodies::Progress;
 pub use judging::Counts;

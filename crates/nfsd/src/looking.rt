@@ -7,14 +7,17 @@ ghost use Rattle.nfsd.specs.Done.{device_in};
 
 use crate::fault::Fault;
 use crate::image_disk::ImageDisk;
+use crate::progress_lines::ProgressLines;
 use crate::read_files::{SharedFile, open_to_read};
+use crate::streams::Streams;
 use crate::trouble::Trouble;
 use disk::{BlockFile, CrashDisk, FirstContents};
 use image_lines::print_lines;
 use std::alloc::Global;
 use std::fs::Files;
-use std::io::Write;
-use store::{Counts, Line};
+use std::io::{Eprint, Write};
+use std::time::Clock;
+use store::{Counts, Line, Progress};
 
 /// Tells whether the image of a file is good, and hands its device back.
 pub fn check_image<R, O, W>(
@@ -24,7 +27,7 @@ pub fn check_image<R, O, W>(
     writer: &mut O,
 ) -> (Option<ImageDisk<R::File, W>>, Result<(), Fault>)
 where
-    R: Files + AllocGlobal,
+    R: Files + Streams + AllocGlobal + Clock + Eprint,
     R::File: BlockFile + SharedFile,
     O: Write,
     W: BlockFile,
@@ -39,7 +42,8 @@ where
         }
     };
     let mut disk = opened.beginning_with(first);
-    let outcome = check_device(rt.alloc(), &mut disk, writer);
+    let mut progress = ProgressLines::new(rt);
+    let outcome = check_device(rt.alloc(), &mut disk, writer, &mut progress);
     (Some(ImageDisk::Plain(disk)), outcome)
 }
 
@@ -70,16 +74,17 @@ where
     (Some(ImageDisk::Plain(disk)), outcome)
 }
 
-/// Checks the image of a device, and prints its counts where it is good.
-pub fn check_device<D: CrashDisk, O: Write>(
+/// Checks the image of a device, and prints its counts where it is good. Meanwhile `progress` is told how far it is.
+pub fn check_device<D: CrashDisk, O: Write, P: Progress>(
     alloc: Global,
     disk: &mut D,
     writer: &mut O,
+    progress: &mut P,
 ) -> Result<(), Fault>
     ensures { ChecksDevice (D.keeps_model disk.new) (D.device disk.old) (O.contents writer.old) result
         (D.device disk.new) (O.contents writer.new) }
 {
-    match store::check(alloc, disk) {
+    match store::check_telling(alloc, disk, progress) {
         Ok(counts) => print_counts(writer, counts),
         Err(why) => Err(Fault::Check(why)),
     }

@@ -12,6 +12,7 @@ mod image_disk;
 mod lines;
 mod locked_files;
 mod looking;
+mod progress_lines;
 mod read_files;
 mod scripts;
 mod streams;

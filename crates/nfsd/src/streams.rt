@@ -1,7 +1,8 @@
-//! The standard streams that are closed. A file that the program opens would take their descriptors, and what
-//! is meant for a stream would then be written into that file.
+//! The standard streams that are closed, or a terminal. A file that the program opens would take the descriptor of a closed
+//! one, and what is meant for a stream would then be written into that file.
 use std::fs::{File, Files};
 use std::io;
+use std::io::IsTerminal;
 use std::os::fd::AsFd;
 
 /// A standard stream.
@@ -16,6 +17,9 @@ pub enum Stream {
 pub trait Streams {
     /// Whether the stream's descriptor is free.
     fn is_closed(&self, stream: Stream) -> bool;
+
+    /// Whether faults are told on a terminal.
+    fn tells_a_terminal(&self) -> bool;
 }
 
 // The system's number for a descriptor that isn't open.
@@ -30,6 +34,10 @@ impl Streams for HostRuntime {
             Stream::Faults => self.stderr().as_fd().try_clone_to_owned(),
         };
         copy.is_err_and(|error| error.raw_os_error() == Some(BAD_DESCRIPTOR))
+    }
+
+    fn tells_a_terminal(&self) -> bool {
+        self.stderr().is_terminal()
     }
 }
 

@@ -4,7 +4,7 @@ ghost use Rattle.disk.specs.Memory.{memory_device};
 
 use super::{Logged, TABLE, fresh};
 use disk::{Block, BlockNo, CrashDisk, MemDisk};
-use image_bodies::look_at_files;
+use image_bodies::{Untold, look_at_files};
 use image_parts::{PartFault, read_table};
 use layout::{FormatVersion, Geometry};
 use limits::{BLOCK_BYTES, LEAST_BLOCKS, LEAST_INODES};
@@ -61,7 +61,7 @@ fn look_at_all(
     requires { geometry.now.blocks ≤ (memory_device disk.old).size }
 {
     let table = read_table(alloc, disk, overlay, geometry)?;
-    let found = look_at_files(alloc, disk, overlay, geometry, &table)?;
+    let found = look_at_files(alloc, disk, overlay, geometry, &table, &mut Untold)?;
     let named = if 2 < geometry.inodes {
         found.links.names.of(2)
     } else {

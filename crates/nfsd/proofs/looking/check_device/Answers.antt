@@ -4,8 +4,8 @@ use Rattle.nfsd.proofs.looking.check_device.Goals as goal
 
 pub returns-in-Ok : goal.returns-in-Ok
 returns-in-Ok g c =
-    counts_printed (g.D.CrashDisk.keeps_model c.check.new.disk) (g.D.CrashDisk.device c.args.disk.now)
-    (g.D.CrashDisk.device c.check.new.disk) (g.O.Write.contents c.args.writer.now)
+    counts_printed (g.D.CrashDisk.keeps_model c.check_telling.new.disk) (g.D.CrashDisk.device c.args.disk.now)
+    (g.D.CrashDisk.device c.check_telling.new.disk) (g.O.Write.contents c.args.writer.now)
     (g.O.Write.contents c.print_counts.new.writer) c.in-Ok.counts c.print_counts.result
     (record {
       reads = c.in-Ok.ensures.reads;

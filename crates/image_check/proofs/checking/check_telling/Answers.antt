@@ -10,7 +10,7 @@ use Rattle.wal_law.proofs.OnlyRead.{unspoiled_then}
 use Rattle.image_check.specs.Checked.{IsChecked}
 use Rattle.image_check.specs.declared.judging.Counts.{Counts}
 use Rattle.image_check.proofs.Refusing.{as_checked, counts_as, counts_then, image_is}
-use Rattle.image_check.proofs.checking.check.Goals as goal
+use Rattle.image_check.proofs.checking.check_telling.Goals as goal
 
 pub returns-in-Err-clause-failure : goal.returns-in-Err-clause-failure
 returns-in-Err-clause-failure g c =

@@ -1,0 +1,56 @@
+//! Lines that tell how far the check of an image is.
+use crate::streams::Streams;
+use std::io::Eprint;
+use std::time::{Clock, Duration};
+use store::Progress;
+
+// How long a check takes before it is told how far it is, and from each such line to the next.
+const QUIET: Duration = Duration::from_secs(2);
+const BETWEEN: Duration = Duration::from_secs(1);
+
+/// Tells on standard error how far the check of an image is, where that is a terminal: once it has taken two seconds, and
+/// then each second.
+#[derive(Drop)]
+pub struct ProgressLines<'a, R> {
+    rt: &'a R,
+    // When the next line is due, by the clock that never goes back. None: no line is told.
+    due: Option<Duration>,
+}
+
+impl<'a, R: Clock + Streams> ProgressLines<'a, R> {
+    /// A check begins now.
+    pub fn new(rt: &'a R) -> ProgressLines<'a, R> {
+        if !rt.tells_a_terminal() {
+            return ProgressLines { rt, due: None };
+        }
+        ProgressLines {
+            rt,
+            due: due_after(rt, QUIET),
+        }
+    }
+}
+
+impl<R: Clock + Eprint> Progress for ProgressLines<'_, R> {
+    fn reached(&mut self, done: u32, all: u32) {
+        let Some(due) = self.due else {
+            return;
+        };
+        let Ok(now) = self.rt.monotonic() else {
+            return;
+        };
+        if now < due {
+            return;
+        }
+        // A line that standard error doesn't take is lost.
+        let _ = eprintln!(self.rt; "nfsd: {done} of {all} inodes checked");
+        self.due = due_after(self.rt, BETWEEN);
+    }
+}
+
+// This long from now, where the clock can be read.
+fn due_after<R: Clock>(rt: &R, wait: Duration) -> Option<Duration> {
+    match rt.monotonic() {
+        Ok(now) => now.checked_add(wait),
+        Err(_) => None,
+    }
+}
