@@ -142,7 +142,7 @@ ServesImage first image listen written (Err (fault.Address trouble)) device writ
 ServesImage first image listen written outcome device written' = (size : ℕ)
     × ServesClients (device_of first size) written outcome device written'
 
--- the image of a command
+-- the image of a command, or its script
 abbrev pub image_of : Args → Text
 image_of (Format image blocks inodes time) = image.now
 image_of (Once image time) = image.now
@@ -152,8 +152,8 @@ image_of (Show image) = image.now
 image_of (Sim script) = script.now
 
 -- The command that is asked for was done to the device of a file that held this, this came of it, and the device
--- is handed back as that left it, but for a device that was served from; or there is no device, and the fault is
--- that of the image's file, of what closed streams are filled from, or of the address.
+-- is handed back as that left it, but for a device that was served from; or a script was played; or there is no
+-- device, and the fault is that of the file, of what closed streams are filled from, or of the address.
 abbrev pub DoesCommand : FirstContents → Args → Client → Outcome → Option Device → Client → Type 0
 DoesCommand first args client (Err (fault.File trouble)) device later = (later ≡ client) × (device ≡ None)
     × (IsAbout trouble (image_of args) ⊎ IsAbout trouble (codes "/dev/null"))
