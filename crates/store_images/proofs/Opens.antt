@@ -7,7 +7,7 @@ use Rattle.std.proofs.lemmas.Bool.Decides.{nat_tests}
 use Rattle.limits.specs.declared.TheConstants.{BLOCK_BYTES, LOG_HEADER_BLOCK, START_BLOCK}
 use Rattle.limits.specs.declared.TheConstants.{SUPER_BLOCK}
 use Rattle.disk.specs.Blocks.{AreBlocks}
-use Rattle.disk.specs.Crash.{Image, IsCrashImage}
+use Rattle.disk.specs.Crash.{Image, IsAtRest, IsCrashImage}
 use Rattle.disk.specs.Device.{Content, Device, current, newest}
 use Rattle.model.specs.Tree.{Tree}
 use Rattle.layout.specs.declared.geometry.Geometry.{Geometry}
@@ -61,6 +61,21 @@ none_home log lawful sound quiet may logged = empty log.changes (omega (arith, n
     empty [] length_is = refl
     empty (x ∷ xs) length_is = absurd (omega (arith, length_is))
 
+-- what was found in a device at rest comes home
+pub begins : (before : Device) → IsAtRest before → (found : Super) (log : Log) (now : Device) (raised : Content)
+    → HasOnlyRead before now → IsFound before found log → IsLawful log → AreBlocks now
+    → BringsHome before raised now log
+begins before rest found log now raised reads is lawful blocks =
+    let size : log.blocks ≡ before.size = ap (λ (l : Log). l.blocks) is.log_is in
+    let some = lawful.disk in
+    let coming = subst (IsComingHome (image_of before) now) (sym is.log_is)
+    (found_home before now reads rest (omega (arith, some, size)) is.range blocks) in
+    record {
+      coming = coming;
+      keeps = found_stops before now reads rest
+          (omega (arith, some, size)) is.range blocks raised log lawful coming;
+    }
+
 module _ (before : Device) (tree : Tree) (first : ℕ) (holds : HoldsTree before tree first) where
   pub good : IsGoodImage before.size (image_of before) tree first
   good = holds.good (image_of before) (λ block within. one_there (current before block)
@@ -109,21 +124,6 @@ module _ (before : Device) (tree : Tree) (first : ℕ) (holds : HoldsTree before
     keeps = only_read_keeps later reads;
     because = cause_is keeps_model cause later kept counts shows;
   }
-
-  -- ---- what was found comes home
-
-  pub begins : (found : Super) (log : Log) (now : Device) (raised : Content) → HasOnlyRead before now
-      → IsFound before found log → IsLawful log → AreBlocks now → BringsHome before raised now log
-  begins found log now raised reads is lawful blocks =
-      let size : log.blocks ≡ before.size = ap (λ (l : Log). l.blocks) is.log_is in
-      let some = lawful.disk in
-      let coming = subst (IsComingHome (image_of before) now) (sym is.log_is)
-      (found_home before now reads holds.rest (omega (arith, some, size)) is.range blocks) in
-      record {
-        coming = coming;
-        keeps = found_stops before now reads holds.rest
-            (omega (arith, some, size)) is.range blocks raised log lawful coming;
-      }
 
   -- ---- the raised super block
 

@@ -1,17 +1,17 @@
 -- What an opening does to an image: what the log has comes home, and then the boot number rises.
-use Rattle.std.specs.Prelude.{⊤, ◌≡◌, ◌≢◌, ℕ, ◌<◌, ◌⊎◌, Ok, length, []}
+use Rattle.std.specs.Prelude.{⊤, ◌≡◌, ◌≢◌, ℕ, ◌+◌, ◌<◌, ◌⊎◌, Ok, length, []}
 use Rattle.limits.specs.declared.TheConstants.{SUPER_BLOCK}
 use Rattle.disk.specs.Crash.{Image}
 use Rattle.disk.specs.Device.{Content, Device, HasSettled, HasWritten}
 use Rattle.disk.specs.declared.block.Side.TheVariants.{Home}
 use Rattle.layout.specs.declared.super_block.Super.{Super}
 use Rattle.layout.specs.declared.fault.LayoutFault.TheVariants as layout_fault
-use Rattle.layout.specs.SuperForm.{IsNoSuper, IsSuper}
+use Rattle.layout.specs.SuperForm.{IsNoSuper, IsSuper, super_bytes}
 use Rattle.wal_law.specs.Calls.{AgreesBeside, idle}
 use Rattle.wal_law.specs.Law.{IsOutside, with_changes}
 use Rattle.wal_law.specs.Log.{Log, opened}
 use Rattle.wal_law.specs.Overlay.{HasHomes, IsInRange, logged_in, over, start_in}
-use Rattle.wal_law.specs.Recovery.{image_of}
+use Rattle.wal_law.specs.Recovery.{HasOnlyRead, image_of}
 use Rattle.txn_law.specs.Core.{CoreState}
 use Rattle.txn_law.specs.CoreWindow.{AreBlocks}
 use Rattle.store_promise.specs.declared.fault.OpenFault.{OpenFault}
@@ -65,6 +65,17 @@ pub record IsFoundLog (was_read : Type 0) (size : ℕ) (image : Image) (log : Lo
   pub range : was_read → IsInRange image
   pub homes : was_read → HasHomes size image
   pub log_is : was_read → log ≡ opened size (start_in image) (logged_in image)
+
+-- the super block with the next boot number
+abbrev pub next_super : Super → Super
+next_super found = record { geometry = found.geometry; boot = found.boot + 1 }
+
+-- A refused opening has only read; or at each stop there is what lay there, under its super block or under the one with
+-- the next boot number.
+abbrev pub LeavesImage : Device → Device → Type 0
+LeavesImage before later = HasOnlyRead before later
+    ⊎ ((found : Super) × IsSuper (image_of before SUPER_BLOCK) found
+    × KeepsBlocks before later (super_bytes (next_super found)))
 
 -- What comes home, and what each stop so far has left.
 pub record BringsHome (before : Device) (raised : Content) (now : Device) (log : Log) : Type 0 where

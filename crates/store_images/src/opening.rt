@@ -3,6 +3,7 @@ ghost use Rattle.std.specs.Prelude.{◌≡◌, ◌+◌, ◌^◌, ◌<◌, IfErr,
 ghost use Rattle.std.specs.Prelude.{ℕ, ◌≤◌, length};
 ghost use Rattle.std.specs.Prelude.{◌⊎◌, Ok, Err, Some, None, true, false};
 ghost use Rattle.limits.specs.declared.TheConstants.{BLOCK_BYTES, FIRST_HOME_BLOCK, SUPER_BLOCK};
+ghost use Rattle.disk.specs.Crash.{IsAtRest};
 ghost use Rattle.disk.specs.Device.{Content, Device};
 ghost use Rattle.layout.specs.Geometry.{IsLawful};
 ghost use Rattle.layout.specs.SuperForm.{IsSuper, super_bytes};
@@ -13,7 +14,7 @@ ghost use Rattle.wal_law.specs.Log.{IsLawful as IsLawfulLog, Log};
 ghost use Rattle.wal_law.specs.Recovery.{HasOnlyRead, IsUnspoiled, image_of};
 ghost use Rattle.store_promise.specs.Openings.{IsAnsweredFor, IsLater, IsRefusedFor, ShowsNoCause};
 ghost use Rattle.store_images.specs.BringingHome.{BringsHome, CountsCause, HasNoSuper, HasRaised};
-ghost use Rattle.store_images.specs.BringingHome.{HasNoLog, IsFound, IsFoundLog, KeepsBlocks, unused};
+ghost use Rattle.store_images.specs.BringingHome.{HasNoLog, IsFound, IsFoundLog, KeepsBlocks, LeavesImage, unused};
 ghost use Rattle.store_images.specs.Opening.{HasOpened, HoldsTree, Opens, store_of};
 ghost use Rattle.store_images.specs.Settling.{HasCalled, IsIdle, IsQuiet};
 
@@ -34,8 +35,9 @@ use wal::Wal;
 /// be read (Device) or is refused as `Super::read` says, its sizes aren't the device's or no boot number is
 /// left (Range), a block of the log can't be read (Device) or isn't one of a log (Log), or an allocation for it
 /// failed (NoMemory). Until then nothing is written. Later only Device and NoMemory come.
-/// A refusal hands the disk back, and is Device just where a call of the device failed and was counted. A
-/// device at rest with a good image keeps its tree at each stop, and so it does when it is opened again.
+/// A refusal hands the disk back, and is Device just where a call of the device failed and was counted. Whatever image
+/// a device at rest has, a refusal leaves its blocks as they were, save that what the log has may have come home and the
+/// boot number risen. One with a good image keeps its tree at each stop, and so it does when it is opened again.
 #[tactic(auto, using(crate::specs::Opening::has_opened))]
 pub fn open<D: CrashDisk>(alloc: Global, disk: D) -> Result<Store<D>, (D, OpenFault)>
     ensures idle { IfOk result (λ store. IsIdle store.core) }
@@ -47,6 +49,8 @@ pub fn open<D: CrashDisk>(alloc: Global, disk: D) -> Result<Store<D>, (D, OpenFa
         (λ refused. IsAnsweredFor (D.keeps_model refused.0) (Some refused.1) (D.device disk)
         (D.device refused.0)) }
     ensures counted { IfErr result (λ refused. CountsCause refused.1 (D.device disk) (D.device refused.0)) }
+    ensures left { IsAtRest (D.device disk) → IfErr result
+        (λ refused. D.keeps_model refused.0 → LeavesImage (D.device disk) (D.device refused.0)) }
     ensures keeps { (tree : Tree) (first : ℕ) → HoldsTree (D.device disk) tree first → MatchResult result
         (λ store. D.keeps_model store.disk → Opens (D.device disk)
         (Ok (store_of (D.device store.disk) store.core store.boot)) tree first)
@@ -72,6 +76,8 @@ fn recover<D: CrashDisk>(alloc: Global, disk: &mut D) -> Result<(Core<Done>, u64
         (λ _. IsAnsweredFor (D.keeps_model disk.new) None (D.device disk.old) (D.device disk.new))
         (λ cause. IsAnsweredFor (D.keeps_model disk.new) (Some cause) (D.device disk.old) (D.device disk.new)) }
     ensures counted { IfErr result (λ cause. CountsCause cause (D.device disk.old) (D.device disk.new)) }
+    ensures left { IsAtRest (D.device disk.old) → D.keeps_model disk.new
+        → IfErr result (λ _. LeavesImage (D.device disk.old) (D.device disk.new)) }
     ensures keeps { (tree : Tree) (first : ℕ) → HoldsTree (D.device disk.old) tree first
         → D.keeps_model disk.new
         → MatchResult result (λ opened. Opens (D.device disk.old)

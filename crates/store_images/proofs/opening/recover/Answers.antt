@@ -14,22 +14,57 @@ use Rattle.store_images.proofs.Opens.{none_home, read_refused}
 use Rattle.wal_law.proofs.OnlyRead.{no_read}
 use Rattle.txn.specs.Core.{CoreState}
 use Rattle.wal_law.specs.Log.{Log}
-use Rattle.store_images.specs.BringingHome.{BringsHome, unused}
+use Rattle.store_images.specs.BringingHome.{BringsHome, next_super, unused}
 use Rattle.store_images.proofs.opening.recover.Goals as goal
 
 full : (super : Super) → length (super_bytes super) ≡ BLOCK_BYTES
 unfolding super_head four_bytes eight_bytes
 full super = refl
 
--- the super block with the next boot number
-abbrev next : Super → Super
-next found = record { geometry = found.geometry; boot = found.boot + 1 }
-
 pub returns-in_default-clause-keeps : goal.returns-in_default-clause-keeps
 returns-in_default-clause-keeps g c = λ tree first holds kept.
     let before = g.D.CrashDisk.device c.args.disk.now in
     read_refused before tree first holds (g.D.CrashDisk.keeps_model c.args.disk.now) fault.NoMemory before kept
     (g.met.D.CrashDisk.whole c.args.disk.now kept) (no_read before) refl (past_none before)
+
+pub returns-in_default-clause-left : goal.returns-in_default-clause-left
+returns-in_default-clause-left g c = λ rest kept. inl (no_read (g.D.CrashDisk.device c.args.disk.now))
+
+pub returns-in-Err-clause-left : goal.returns-in-Err-clause-left
+returns-in-Err-clause-left g c = λ rest kept. inl c.in-Err.ensures.reads
+
+pub returns-in-Err-install-clause-left : goal.returns-in-Err-install-clause-left
+returns-in-Err-install-clause-left g c = λ rest kept.
+    let before = g.D.CrashDisk.device c.args.disk.now in
+    let now = g.D.CrashDisk.device c.find.new.disk in
+    let found = c.in-Ok-find.found.0 in
+    let log = c.in-Ok-find.found.1 in
+    let kept_now = c.install.ensures.model kept in
+    let is = c.in-Ok-find.ensures.found kept_now rest.unspoiled in
+    let brings = c.install.ensures.home before (super_bytes (next_super found))
+    (subst (λ (log : Log). BringsHome before (super_bytes (next_super found)) now log)
+    (sym (ap (λ (core : CoreState). core.log) c.new-core.ensures))
+    (begins before rest found log now (super_bytes (next_super found)) c.in-Ok-find.ensures.reads is
+    c.lawful.ensures (g.met.D.CrashDisk.whole c.find.new.disk kept_now))) in
+    inr (found, is.is_super, brings.keeps)
+
+pub returns-in-Err-raise-clause-left : goal.returns-in-Err-raise-clause-left
+returns-in-Err-raise-clause-left g c = λ rest kept.
+    let before = g.D.CrashDisk.device c.args.disk.now in
+    let now = g.D.CrashDisk.device c.find.new.disk in
+    let found = c.in-Ok-find.found.0 in
+    let log = c.install.new.core.log in
+    let kept_now = c.install.ensures.model (c.raise.ensures.model kept) in
+    let is = c.in-Ok-find.ensures.found kept_now rest.unspoiled in
+    let brings = c.install.ensures.home before (super_bytes (next_super found))
+    (subst (λ (log : Log). BringsHome before (super_bytes (next_super found)) now log)
+    (sym (ap (λ (core : CoreState). core.log) c.new-core.ensures))
+    (begins before rest found c.in-Ok-find.found.1 now (super_bytes (next_super found))
+    c.in-Ok-find.ensures.reads is c.lawful.ensures (g.met.D.CrashDisk.whole c.find.new.disk kept_now))) in
+    let none = c.in_default-install.ensures.none in
+    let empty = none_home log c.lawful-3.ensures.log none.0 c.install.ensures.quiet.installing none.1
+    brings.coming.logged in
+    inr (found, is.is_super, c.in-Err-raise.ensures.raised before log c.lawful-3.ensures.log empty brings)
 
 pub returns-in-Err-clause-keeps : goal.returns-in-Err-clause-keeps
 returns-in-Err-clause-keeps g c = λ tree first holds kept.
@@ -47,16 +82,16 @@ returns-in-Err-install-clause-keeps g c = λ tree first holds kept.
     let log = c.in-Ok-find.found.1 in
     let kept_now = c.install.ensures.model kept in
     let is = c.in-Ok-find.ensures.found kept_now holds.rest.unspoiled in
-    let brings = c.install.ensures.home before (super_bytes (next found))
-    (subst (λ (log : Log). BringsHome before (super_bytes (next found)) now log)
+    let brings = c.install.ensures.home before (super_bytes (next_super found))
+    (subst (λ (log : Log). BringsHome before (super_bytes (next_super found)) now log)
     (sym (ap (λ (core : CoreState). core.log) c.new-core.ensures))
-    (begins before tree first holds found log now (super_bytes (next found)) c.in-Ok-find.ensures.reads is
+    (begins before holds.rest found log now (super_bytes (next_super found)) c.in-Ok-find.ensures.reads is
     c.lawful.ensures (g.met.D.CrashDisk.whole c.find.new.disk kept_now))) in
     let failed = c.in-Err-install.ensures.failure in
     let same = c.in-Ok-find.ensures.failure in
-    later_refused before tree first holds found (next found) (super_bytes (next found)) is.is_super refl refl
-    (c.a_super_block_is_its_bytes.ensures (next found) found.geometry.lawful c.in-Ok-find.ensures.boot)
-    (full (next found)) later c.in-Err-install.fault
+    later_refused before tree first holds found (next_super found) (super_bytes (next_super found)) is.is_super refl refl
+    (c.a_super_block_is_its_bytes.ensures (next_super found) found.geometry.lawful c.in-Ok-find.ensures.boot)
+    (full (next_super found)) later c.in-Err-install.fault
     (g.met.D.CrashDisk.whole c.install.new.disk kept) brings.keeps
     (subst (λ cause. IsCauseOf cause before later first) (sym failed.0) (omega (arith, failed.1, same)))
 
@@ -70,19 +105,19 @@ returns-in-Err-raise-clause-keeps g c = λ tree first holds kept.
     let log = c.install.new.core.log in
     let kept_now = c.install.ensures.model (c.raise.ensures.model kept) in
     let is = c.in-Ok-find.ensures.found kept_now holds.rest.unspoiled in
-    let brings = c.install.ensures.home before (super_bytes (next found))
-    (subst (λ (log : Log). BringsHome before (super_bytes (next found)) now log)
+    let brings = c.install.ensures.home before (super_bytes (next_super found))
+    (subst (λ (log : Log). BringsHome before (super_bytes (next_super found)) now log)
     (sym (ap (λ (core : CoreState). core.log) c.new-core.ensures))
-    (begins before tree first holds found c.in-Ok-find.found.1 now (super_bytes (next found))
+    (begins before holds.rest found c.in-Ok-find.found.1 now (super_bytes (next_super found))
     c.in-Ok-find.ensures.reads
     is c.lawful.ensures (g.met.D.CrashDisk.whole c.find.new.disk kept_now))) in
     let none = c.in_default-install.ensures.none in
     let empty = none_home log c.lawful-3.ensures.log none.0 c.install.ensures.quiet.installing none.1
     brings.coming.logged in
     let keeps = c.in-Err-raise.ensures.raised before log c.lawful-3.ensures.log empty brings in
-    later_refused before tree first holds found (next found) (super_bytes (next found)) is.is_super refl refl
-    (c.a_super_block_is_its_bytes.ensures (next found) found.geometry.lawful c.in-Ok-find.ensures.boot)
-    (full (next found)) later c.in-Err-raise.fault (g.met.D.CrashDisk.whole c.raise.new.disk kept) keeps
+    later_refused before tree first holds found (next_super found) (super_bytes (next_super found)) is.is_super refl refl
+    (c.a_super_block_is_its_bytes.ensures (next_super found) found.geometry.lawful c.in-Ok-find.ensures.boot)
+    (full (next_super found)) later c.in-Err-raise.fault (g.met.D.CrashDisk.whole c.raise.new.disk kept) keeps
     (elim c.in-Err-raise.ensures.failure [
       | inl failed ↦ subst (λ cause. IsCauseOf cause before later first) (sym failed.0)
           (omega (arith, failed.1, c.in_default-install.ensures.failure, c.in-Ok-find.ensures.failure))
@@ -101,35 +136,35 @@ returns-clause-keeps g c = λ tree first holds kept.
     let log = c.install.new.core.log in
     let kept_now = c.install.ensures.model (c.raise.ensures.model kept) in
     let is = c.in-Ok-find.ensures.found kept_now holds.rest.unspoiled in
-    let brings = c.install.ensures.home before (super_bytes (next found))
-    (subst (λ (log : Log). BringsHome before (super_bytes (next found)) now log)
+    let brings = c.install.ensures.home before (super_bytes (next_super found))
+    (subst (λ (log : Log). BringsHome before (super_bytes (next_super found)) now log)
     (sym (ap (λ (core : CoreState). core.log) c.new-core.ensures))
-    (begins before tree first holds found c.in-Ok-find.found.1 now (super_bytes (next found))
+    (begins before holds.rest found c.in-Ok-find.found.1 now (super_bytes (next_super found))
     c.in-Ok-find.ensures.reads
     is c.lawful.ensures (g.met.D.CrashDisk.whole c.find.new.disk kept_now))) in
     let none = c.in_default-install.ensures.none in
     let empty = none_home log c.lawful-3.ensures.log none.0 c.install.ensures.quiet.installing none.1
     brings.coming.logged in
     let raises = c.in_default-raise.ensures.raised before log c.lawful-3.ensures.log empty brings in
-    let is_raised = c.a_super_block_is_its_bytes.ensures (next found) found.geometry.lawful
+    let is_raised = c.a_super_block_is_its_bytes.ensures (next_super found) found.geometry.lawful
     c.in-Ok-find.ensures.boot in
     let blocks = g.met.D.CrashDisk.whole c.raise.new.disk kept in
     let clean = c.in_default-install.ensures.clean
     (unspoiled_then before now c.in-Ok-find.ensures.reads holds.rest.unspoiled) in
-    let over = is_new before tree first holds found (next found) (super_bytes (next found))
+    let over = is_new before tree first holds found (next_super found) (super_bytes (next_super found))
     is.is_super refl refl
-    is_raised (full (next found)) home later log c.lawful-3.ensures.log empty raises blocks c.install.new.core
+    is_raised (full (next_super found)) home later log c.lawful-3.ensures.log empty raises blocks c.install.new.core
     c.install.new.core.log_calls c.install.new.core.inst_calls
     (c.install.ensures.bare
     ∙ ap₂ (λ (n b : ℕ). record (unused c.install.new.core) { inodes = n; boot = b })
     (c.install.ensures.inodes ∙ ap (λ (core : CoreState). core.inodes) c.new-core.ensures)
     (c.install.ensures.boot ∙ ap (λ (core : CoreState). core.boot) c.new-core.ensures))
     c.lawful-3.ensures.tidy c.install.ensures.fresh none.0 clean in (
-      next_boot before tree first holds found (next found) (super_bytes (next found)) is.is_super refl
-          refl is_raised (full (next found)),
+      next_boot before tree first holds found (next_super found) (super_bytes (next_super found)) is.is_super refl
+          refl is_raised (full (next_super found)),
       log.start,
-      is_opened before tree first holds found (next found) (super_bytes (next found)) is.is_super refl refl
-          is_raised (full (next found)) home later log c.lawful-3.ensures.log empty raises blocks
+      is_opened before tree first holds found (next_super found) (super_bytes (next_super found)) is.is_super refl refl
+          is_raised (full (next_super found)) home later log c.lawful-3.ensures.log empty raises blocks
           (c.in_default-raise.ensures.failure ∙ c.in_default-install.ensures.failure
           ∙ c.in-Ok-find.ensures.failure),
       over.0,
