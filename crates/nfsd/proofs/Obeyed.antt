@@ -20,9 +20,9 @@ use Rattle.server.specs.declared.serving.ServeFault.{ServeFault}
 use Rattle.server.specs.declared.serving.ServeFault.TheVariants as server
 use Rattle.nfsd.specs.declared.fault.Fault.{Fault}
 use Rattle.nfsd.specs.declared.fault.Fault.TheVariants as fault
-use Rattle.nfsd.specs.Done.{Answers, AreAsked, DoesCommand, FormatsDevice, IsWithoutMemory, Obeys, Outcome}
-use Rattle.nfsd.specs.Done.{ServesClients, ServesDevice, TellsOutcome, Told, device_of, formatted_line}
-use Rattle.nfsd.specs.Done.{moment_at, outcome_of_server}
+use Rattle.nfsd.specs.Done.{Answers, DoesCommand, FormatsDevice, FormatsImage, IsWithoutMemory, Obeys, Outcome}
+use Rattle.nfsd.specs.Done.{ServesClients, ServesDevice, ServesImage, ServesImageOnce, TellsOutcome, Told}
+use Rattle.nfsd.specs.Done.{formatted_line, moment_at, outcome_of_server}
 use Rattle.nfsd.specs.Faults.{status_of_outcome}
 use Rattle.nfsd.specs.Lines.{IsAnnouncedBy}
 use Rattle.nfsd.specs.Looked.{ChecksImage, ShowsImage}
@@ -33,21 +33,21 @@ pub obeys_command : (first : FirstContents) (words : List Text) (args : Args) (c
     (outcome : Outcome) (device : Option Device) (later : Client) → WordsAsk words args
     → DoesCommand first args client outcome device later → Obeys first words client outcome device later
 obeys_command first words (Format image blocks inodes time) client (Err fault.NotText) device later asks does =
-    absurd does.5
+    absurd does.1.4
 obeys_command first words (Once image time) client (Err fault.NotText) device later asks does = absurd does.3
 obeys_command first words (Format image blocks inodes time) client (Err fault.Memory) device later asks does =
-    absurd does.5
+    absurd does.1.4
 obeys_command first words (Once image time) client (Err fault.Memory) device later asks does = absurd does.3
 obeys_command first words (Format image blocks inodes time) client (Err (fault.Words e)) device later asks
-    does = absurd does.5
+    does = absurd does.1.4
 obeys_command first words (Once image time) client (Err (fault.Words e)) device later asks does =
     absurd does.3
 obeys_command first words (Serve image listen workers connections) client (Err fault.NotText) device later asks
-    does = absurd does.2
+    does = absurd does.1.1
 obeys_command first words (Serve image listen workers connections) client (Err fault.Memory) device later asks
-    does = absurd does.2
+    does = absurd does.1.1
 obeys_command first words (Serve image listen workers connections) client (Err (fault.Words e)) device later asks
-    does = absurd does.2
+    does = absurd does.1.1
 obeys_command first words (Check image) client (Err fault.NotText) device later asks does = absurd does.1.5
 obeys_command first words (Check image) client (Err fault.Memory) device later asks does = absurd does.1.5
 obeys_command first words (Check image) client (Err (fault.Words e)) device later asks does = absurd does.1.5
@@ -122,36 +122,30 @@ listens old written written' opened address ended outcome device opens printed b
     go (Err server.Output) whatever boot = (opened, opens)
     go (Err server.Device) line boot = (opened, opens, address, line)
 
--- the device of the image's file was formatted, so the command was done
-pub formats_command : (first : FirstContents) (image : _) (blocks : Option ℕ) (size inodes time : ℕ) (new : Device)
-    (client : Client) (outcome : Outcome) (device : Option Device) (later : Client) → AreAsked blocks size
-    → device ≡ Some new → later.unread ≡ client.unread
-    → FormatsDevice (device_of first size) inodes time client.written outcome new later.written
-    → DoesCommand first (Format image blocks inodes time) client outcome device later
-formats_command first image blocks size inodes time new client (Err (fault.File trouble)) device later asked back unread
-    formats = absurd formats
-formats_command first image blocks size inodes time new client outcome device later asked back unread formats =
-    (size, new, asked, back, unread, formats)
-
--- the device of the image's file was served from, so the command was done
-pub serves_command : (first : FirstContents) (image : _) (size time : ℕ) (new : Device) (client : Client)
-    (outcome : Outcome) (device : Option Device) (later : Client) → device ≡ Some new
-    → ServesDevice (device_of first size) time client outcome new later
-    → DoesCommand first (Once image time) client outcome device later
-serves_command first image size time new client (Err (fault.File trouble)) device later back serves = absurd serves
-serves_command first image size time new client outcome device later back serves = (size, new, back, serves)
-
--- clients were served from the device of the image's file, so the command was done
-pub listens_command : (first : FirstContents) (image listen : _) (workers connections size : ℕ) (client : Client)
+-- an image's file was formatted, so the command was done
+pub formats_command : (first : FirstContents) (image : _) (blocks : Option ℕ) (inodes time : ℕ) (client : Client)
     (outcome : Outcome) (device : Option Device) (later : Client) → later.unread ≡ client.unread
-    → ServesClients (device_of first size) client.written outcome device later.written
+    → FormatsImage first image.now blocks inodes time client.written outcome device later.written
+    → DoesCommand first (Format image blocks inodes time) client outcome device later
+formats_command first image blocks inodes time client (Err (fault.File trouble)) device later unread formats =
+    (same_client client later unread formats.0, formats.1, inl formats.2)
+formats_command first image blocks inodes time client outcome device later unread formats = (unread, formats)
+
+-- an image's file was served from, so the command was done
+pub serves_command : (first : FirstContents) (image : _) (time : ℕ) (client : Client) (outcome : Outcome)
+    (device : Option Device) (later : Client) → ServesImageOnce first image.now time client outcome device later
+    → DoesCommand first (Once image time) client outcome device later
+serves_command first image time client (Err (fault.File trouble)) device later serves =
+    (serves.0, serves.1, inl serves.2)
+serves_command first image time client outcome device later serves = serves
+
+pub listens_command : (first : FirstContents) (image listen : _) (workers connections : ℕ) (client : Client)
+    (outcome : Outcome) (device : Option Device) (later : Client) → later.unread ≡ client.unread
+    → ServesImage first image.now listen.now client.written outcome device later.written
     → DoesCommand first (Serve image listen workers connections) client outcome device later
-listens_command first image listen workers connections size client (Err (fault.File trouble)) device later unread serves =
-    absurd serves
-listens_command first image listen workers connections size client (Err (fault.Address trouble)) device later unread
-    serves = absurd serves
-listens_command first image listen workers connections size client outcome device later unread serves =
-    (size, unread, serves)
+listens_command first image listen workers connections client (Err (fault.File trouble)) device later unread serves =
+    (same_client client later unread serves.0, serves.1, inl serves.2)
+listens_command first image listen workers connections client outcome device later unread serves = (unread, serves)
 
 -- an image's file was looked at, so the command was done
 pub checks_command : (first : FirstContents) (image : _) (client : Client) (outcome : Outcome) (device : Option Device)
@@ -175,12 +169,8 @@ pub plays_command : (first : FirstContents) (script : _) (client : Client) (outc
     (later : Client) → device ≡ None → later.unread ≡ client.unread
     → PlaysScript script.now client.written outcome later.written
     → DoesCommand first (Sim script) client outcome device later
-plays_command first script client (Err (fault.File trouble)) device later none unread plays = (
-  ap (λ (bytes : Option (List ℕ)). client_of bytes later.written) unread
-      ∙ ap (λ (bytes : Option (List ℕ)). client_of client.unread bytes) plays.1,
-  none,
-  inl plays.0,
-)
+plays_command first script client (Err (fault.File trouble)) device later none unread plays =
+    (same_client client later unread plays.0, none, inl plays.1)
 plays_command first script client outcome device later none unread plays = (none, unread, plays)
 
 -- with status 2 the arguments have no meaning

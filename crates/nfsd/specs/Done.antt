@@ -118,6 +118,30 @@ abbrev pub AreAsked : Option ℕ → ℕ → Type 0
 AreAsked None size = size ≤ MOST_BLOCKS
 AreAsked (Some asked) size = size ≡ asked
 
+-- `format` of an image's file: what lies there was made an image; or it can't be had, and nothing was printed
+abbrev pub FormatsImage : FirstContents → Text → Option ℕ → ℕ → ℕ → Option (List ℕ) → Outcome → Option Device → Option (List ℕ) → Type 0
+FormatsImage first image blocks inodes time written (Err (fault.File trouble)) device written' =
+    (written' ≡ written) × (device ≡ None) × IsAbout trouble image
+FormatsImage first image blocks inodes time written outcome device written' = (size : ℕ) × (new : Device)
+    × AreAsked blocks size × (device ≡ Some new)
+    × FormatsDevice (device_of first size) inodes time written outcome new written'
+
+-- `once` of an image's file; or it can't be had, and nothing was read or printed
+abbrev pub ServesImageOnce : FirstContents → Text → ℕ → Client → Outcome → Option Device → Client → Type 0
+ServesImageOnce first image time client (Err (fault.File trouble)) device later =
+    (later ≡ client) × (device ≡ None) × IsAbout trouble image
+ServesImageOnce first image time client outcome device later = (size : ℕ) × (new : Device)
+    × (device ≡ Some new) × ServesDevice (device_of first size) time client outcome new later
+
+-- `serve` of an image's file at an address; or one of them can't be had, and nothing was printed
+abbrev pub ServesImage : FirstContents → Text → Text → Option (List ℕ) → Outcome → Option Device → Option (List ℕ) → Type 0
+ServesImage first image listen written (Err (fault.File trouble)) device written' =
+    (written' ≡ written) × (device ≡ None) × IsAbout trouble image
+ServesImage first image listen written (Err (fault.Address trouble)) device written' =
+    (written' ≡ written) × (device ≡ None) × IsAbout trouble listen
+ServesImage first image listen written outcome device written' = (size : ℕ)
+    × ServesClients (device_of first size) written outcome device written'
+
 -- the image of a command, or its script
 abbrev pub image_of : Args → Text
 image_of (Format image blocks inodes time) = image.now
@@ -133,16 +157,13 @@ image_of (Sim script) = script.now
 abbrev pub DoesCommand : FirstContents → Args → Client → Outcome → Option Device → Client → Type 0
 DoesCommand first args client (Err (fault.File trouble)) device later = (later ≡ client) × (device ≡ None)
     × (IsAbout trouble (image_of args) ⊎ IsAbout trouble (codes "/dev/null"))
-DoesCommand first (Format image blocks inodes time) client outcome device later = (size : ℕ) × (new : Device)
-    × AreAsked blocks size × (device ≡ Some new) × (later.unread ≡ client.unread)
-    × FormatsDevice (device_of first size) inodes time client.written outcome new later.written
-DoesCommand first (Once image time) client outcome device later = (size : ℕ) × (new : Device)
-    × (device ≡ Some new) × ServesDevice (device_of first size) time client outcome new later
-DoesCommand first (Serve image listen workers connections) client (Err (fault.Address trouble)) device later =
-    (later ≡ client) × (device ≡ None) × IsAbout trouble listen.now
-DoesCommand first (Serve image listen workers connections) client outcome device later = (size : ℕ)
-    × (later.unread ≡ client.unread)
-    × ServesClients (device_of first size) client.written outcome device later.written
+DoesCommand first (Format image blocks inodes time) client outcome device later = (later.unread ≡ client.unread)
+    × FormatsImage first image.now blocks inodes time client.written outcome device later.written
+DoesCommand first (Once image time) client outcome device later =
+    ServesImageOnce first image.now time client outcome device later
+DoesCommand first (Serve image listen workers connections) client outcome device later =
+    (later.unread ≡ client.unread)
+    × ServesImage first image.now listen.now client.written outcome device later.written
 DoesCommand first (Check image) client outcome device later = (later.unread ≡ client.unread)
     × ChecksImage first image.now client.written outcome device later.written
 DoesCommand first (Show image) client outcome device later = (later.unread ≡ client.unread)

@@ -6,18 +6,16 @@ ghost use Rattle.session.specs.Serving.{client_of};
 ghost use Rattle.nfsd.specs.Done.{Answers, DoesCommand, IsWithoutMemory, Obeys, TellsOutcome, device_in};
 ghost use Rattle.nfsd.specs.Faults.{status_of_outcome};
 
-use crate::device::{format_device, serve_device};
+use crate::device::{format_image, serve_image_once};
 use crate::fault::Fault;
 use crate::fault_stream::FaultStream;
 use crate::image_disk::ImageDisk;
-use crate::locked_files::{make_image, open_image};
 use crate::looking::{check_image, show_image};
 use crate::read_files::SharedFile;
 use crate::scripts::play_script;
 use crate::streams::{Streams, fill};
-use crate::tcp::{listen_at, serve_clients};
+use crate::tcp::serve_image;
 use crate::trouble::Trouble;
-use crate::watched_image::open_for_threads;
 use disk::{BlockFile, FirstContents};
 use nfsd_words::{Args, words};
 use session::Input;
@@ -127,8 +125,7 @@ where
     command(rt, alarm, args, first, reader, writer)
 }
 
-// Does a command to the device of the image's file, and hands it back. A refusal to format leaves a file with its
-// new length.
+// Does a command to the device of the image's file, and hands it back.
 fn command<'a, R, I, O>(
     rt: &R,
     alarm: &'a Alarm<'a, R>,
@@ -162,53 +159,25 @@ where
             blocks,
             inodes,
             time,
-        } => {
-            let made = match make_image(rt, image, blocks) {
-                Ok(made) => made,
-                Err(error) => {
-                    let trouble = Trouble::of_file(rt.alloc(), image, &error);
-                    return (None, Err(Fault::File(trouble)));
-                }
-            };
-            let mut disk = made.beginning_with(first);
-            let outcome = format_device(rt.alloc(), &mut disk, inodes, time, writer);
-            (Some(ImageDisk::Plain(disk)), outcome)
-        }
-        Args::Once { image, time } => {
-            let opened = match open_image(rt, image) {
-                Ok(opened) => opened,
-                Err(error) => {
-                    let trouble = Trouble::of_file(rt.alloc(), image, &error);
-                    return (None, Err(Fault::File(trouble)));
-                }
-            };
-            let disk = opened.beginning_with(first);
-            let (disk, outcome) = serve_device(rt.alloc(), disk, time, reader, writer);
-            (Some(ImageDisk::Plain(disk)), outcome)
-        }
+        } => format_image(rt, image, blocks, inodes, time, first, writer),
+        Args::Once { image, time } => serve_image_once(rt, image, time, first, reader, writer),
         Args::Serve {
             image,
             listen,
             workers,
             connections,
-        } => {
-            let listening = match listen_at(rt, rt.alloc(), listen) {
-                Ok(listening) => listening,
-                Err(trouble) => return (None, Err(Fault::Address(trouble))),
-            };
-            let opened = match open_for_threads(rt, image, alarm) {
-                Ok(opened) => opened,
-                Err(error) => {
-                    let trouble = Trouble::of_file(rt.alloc(), image, &error);
-                    return (None, Err(Fault::File(trouble)));
-                }
-            };
-            let disk = opened.beginning_with(first);
-            let alloc = rt.alloc();
-            serve_clients(rt, alloc, disk, &listening, workers, connections, writer)
-        }
-        Args::Sim { script } => (None, play_script(rt, script, writer)),
+        } => serve_image(
+            rt,
+            alarm,
+            image,
+            listen,
+            workers,
+            connections,
+            first,
+            writer,
+        ),
         Args::Check { image } => check_image(rt, image, first, writer),
         Args::Show { image } => show_image(rt, image, first, writer),
+        Args::Sim { script } => (None, play_script(rt, script, writer)),
     }
 }

@@ -1,17 +1,84 @@
-//! What the program does to a device.
+//! What the program does to the device of an image that it makes, or serves one client from.
 ghost use Rattle.std.specs.Prelude.{◌≡◌, ◌-◌, IfErr, OnOk};
 ghost use Rattle.std.specs.Io.KnownBytes.{Appends};
 ghost use Rattle.layout.specs.Geometry.{data_at};
 ghost use Rattle.session.specs.Reading.{unread_of};
 ghost use Rattle.session.specs.Serving.{client_of};
-ghost use Rattle.nfsd.specs.Done.{FormatsDevice, ServesDevice, formatted_line, moment_at};
+ghost use Rattle.nfsd.specs.Done.{FormatsDevice, FormatsImage, ServesDevice, ServesImageOnce, device_in};
+ghost use Rattle.nfsd.specs.Done.{formatted_line, moment_at};
 
 use crate::fault::Fault;
-use disk::CrashDisk;
+use crate::image_disk::ImageDisk;
+use crate::locked_files::{make_image, open_image};
+use crate::trouble::Trouble;
+use disk::{BlockFile, CrashDisk, FirstContents};
 use nfs_types::Moment;
 use session::Input;
 use std::alloc::Global;
+use std::fs::Files;
 use std::io::{Read, Write};
+
+/// Makes an image of a file or of a block device, prints its counts, and hands its device back. A refusal leaves a file
+/// with its new length.
+pub fn format_image<R, O, W>(
+    rt: &R,
+    image: &str,
+    blocks: Option<u32>,
+    inodes: u32,
+    time: u32,
+    first: FirstContents,
+    writer: &mut O,
+) -> (Option<ImageDisk<R::File, W>>, Result<(), Fault>)
+where
+    R: Files + AllocGlobal,
+    R::File: BlockFile,
+    O: Write,
+    W: BlockFile,
+    ensures { FormatsImage first image.now blocks inodes time (O.contents writer.old) result.1 (device_in result.0)
+        (O.contents writer.new) }
+{
+    let made = match make_image(rt, image, blocks) {
+        Ok(made) => made,
+        Err(error) => {
+            let trouble = Trouble::of_file(rt.alloc(), image, &error);
+            return (None, Err(Fault::File(trouble)));
+        }
+    };
+    let mut disk = made.beginning_with(first);
+    let outcome = format_device(rt.alloc(), &mut disk, inodes, time, writer);
+    (Some(ImageDisk::Plain(disk)), outcome)
+}
+
+/// Serves one client, of the reader and the writer, from the image of a file, and hands its device back.
+pub fn serve_image_once<R, I, O, W>(
+    rt: &R,
+    image: &str,
+    time: u32,
+    first: FirstContents,
+    reader: &mut Input<I>,
+    writer: &mut O,
+) -> (Option<ImageDisk<R::File, W>>, Result<(), Fault>)
+where
+    R: Files + AllocGlobal,
+    R::File: BlockFile,
+    I: Read,
+    O: Write,
+    W: BlockFile,
+    ensures { ServesImageOnce first image.now time
+        (client_of (unread_of I.remaining reader.old) (O.contents writer.old)) result.1 (device_in result.0)
+        (client_of (unread_of I.remaining reader.new) (O.contents writer.new)) }
+{
+    let opened = match open_image(rt, image) {
+        Ok(opened) => opened,
+        Err(error) => {
+            let trouble = Trouble::of_file(rt.alloc(), image, &error);
+            return (None, Err(Fault::File(trouble)));
+        }
+    };
+    let disk = opened.beginning_with(first);
+    let (disk, outcome) = serve_device(rt.alloc(), disk, time, reader, writer);
+    (Some(ImageDisk::Plain(disk)), outcome)
+}
 
 /// Makes a device an image, and prints its counts. The root is made at this second.
 pub fn format_device<D: CrashDisk, O: Write>(

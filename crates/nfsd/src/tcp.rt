@@ -1,7 +1,7 @@
 //! What the program does to a device whose files it serves over TCP.
 ghost use Rattle.std.specs.Prelude.{◌≡◌, IfErr, IfOk, string_bytes};
 ghost use Rattle.disk.specs.File.{file_device, first_in};
-ghost use Rattle.nfsd.specs.Done.{ServesClients, device_in, outcome_of_server};
+ghost use Rattle.nfsd.specs.Done.{ServesClients, ServesImage, device_in, outcome_of_server};
 ghost use Rattle.nfsd.specs.Lines.{IsAnnouncedBy};
 ghost use Rattle.nfsd.specs.Faults.{IsAbout};
 
@@ -9,16 +9,19 @@ use crate::announcement::Announcement;
 use crate::fault::Fault;
 use crate::image_disk::ImageDisk;
 use crate::trouble::Trouble;
-use disk::{BlockFile, FileDisk};
+use crate::watched_image::open_for_threads;
+use disk::{BlockFile, FileDisk, FirstContents};
 use server::{Ended, ServeFault, serve_store};
 use session::SessionFault;
 use std::alloc::Global;
-use std::io::Write;
+use std::fs::Files;
+use std::io::{Eprint, Write};
 use std::net::{Net, TcpListener, TcpStream};
 use std::sync::Wait;
 use std::thread::Threads;
 use std::time::Clock;
 use store_images::Store;
+use watched_files::{Alarm, WatchedFile};
 
 /// What listens at an address, and the address that it got, as text.
 #[derive(Drop)]
@@ -45,6 +48,51 @@ where
         Ok(address) => Ok(Listening { listener, address }),
         Err(_) => Err(None),
     }
+}
+
+/// Listens at an address, and serves so many connections, or without end where that is 0, from the image of a file. It
+/// listens before the file is opened. Of a write or a sync of the image that fails `alarm` tells.
+pub fn serve_image<'a, R, O>(
+    rt: &R,
+    alarm: &'a Alarm<'a, R>,
+    image: &str,
+    listen: &str,
+    workers: u32,
+    connections: u32,
+    first: FirstContents,
+    writer: &mut O,
+) -> (
+    Option<ImageDisk<R::File, WatchedFile<'a, R::File, R>>>,
+    Result<(), Fault>,
+)
+where
+    R: Files
+        + AllocGlobal
+        + Net<Listener = TcpListener, Stream = TcpStream>
+        + Threads
+        + Wait
+        + Clock
+        + Eprint
+        + Sync,
+    R::File: BlockFile + Send + Sync,
+    O: Write,
+    ensures { ServesImage first image.now listen.now (O.contents writer.old) result.1 (device_in result.0)
+        (O.contents writer.new) }
+{
+    let listening = match listen_at(rt, rt.alloc(), listen) {
+        Ok(listening) => listening,
+        Err(trouble) => return (None, Err(Fault::Address(trouble))),
+    };
+    let opened = match open_for_threads(rt, image, alarm) {
+        Ok(opened) => opened,
+        Err(error) => {
+            let trouble = Trouble::of_file(rt.alloc(), image, &error);
+            return (None, Err(Fault::File(trouble)));
+        }
+    };
+    let disk = opened.beginning_with(first);
+    let alloc = rt.alloc();
+    serve_clients(rt, alloc, disk, &listening, workers, connections, writer)
 }
 
 /// Opens a device as a store, prints where it listens once it can serve, and serves so many connections, or without end
