@@ -2,7 +2,7 @@
 use Rattle.std.proofs.Common.{◌≡◌, ℕ, ◌<◌, ap, ◌∙◌, refl, Bool, true, false, cond, replicate, arith}
 use Rattle.std.proofs.Common.{nat_le, nat_lt, take, drop, Err}
 use Rattle.std.proofs.lemmas.Bool.{lt-ltb}
-use Rattle.limits.specs.declared.TheConstants.{BLOCK_BYTES, FIRST_HOME_BLOCK, INODE_BYTES}
+use Rattle.limits.specs.declared.TheConstants.{BLOCK_BYTES, INODE_BYTES}
 use Rattle.disk.specs.Crash.{Image}
 use Rattle.layout.specs.declared.fault.LayoutFault.TheVariants.{Range}
 use Rattle.layout.specs.declared.geometry.Geometry.{Geometry}
