@@ -169,12 +169,8 @@ pub plays_command : (first : FirstContents) (script : _) (client : Client) (outc
     (later : Client) → device ≡ None → later.unread ≡ client.unread
     → PlaysScript script.now client.written outcome later.written
     → DoesCommand first (Sim script) client outcome device later
-plays_command first script client (Err (fault.File trouble)) device later none unread plays = (
-  ap (λ (bytes : Option (List ℕ)). client_of bytes later.written) unread
-      ∙ ap (λ (bytes : Option (List ℕ)). client_of client.unread bytes) plays.1,
-  none,
-  inl plays.0,
-)
+plays_command first script client (Err (fault.File trouble)) device later none unread plays =
+    (same_client client later unread plays.0, none, inl plays.1)
 plays_command first script client outcome device later none unread plays = (none, unread, plays)
 
 -- with status 2 the arguments have no meaning

@@ -34,5 +34,5 @@ PlaysText text written (Err other) written' = ⊥
 
 -- so it is of a text that was read; or the file of this name couldn't be read, and nothing was printed
 abbrev pub PlaysScript : List ℕ → Option (List ℕ) → Result (Unit {0}) Fault → Option (List ℕ) → Type 0
-PlaysScript path written (Err (fault.File trouble)) written' = IsAbout trouble path × (written' ≡ written)
+PlaysScript path written (Err (fault.File trouble)) written' = (written' ≡ written) × IsAbout trouble path
 PlaysScript path written outcome written' = (text : List ℕ) × PlaysText text written outcome written'

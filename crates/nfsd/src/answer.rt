@@ -177,8 +177,8 @@ where
             first,
             writer,
         ),
-        Args::Sim { script } => (None, play_script(rt, script, writer)),
         Args::Check { image } => check_image(rt, image, first, writer),
         Args::Show { image } => show_image(rt, image, first, writer),
+        Args::Sim { script } => (None, play_script(rt, script, writer)),
     }
 }
