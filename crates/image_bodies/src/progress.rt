@@ -7,6 +7,7 @@ pub trait Progress {
 }
 
 /// Nobody is told.
+#[derive(Drop)]
 pub struct Untold;
 
 impl Progress for Untold {

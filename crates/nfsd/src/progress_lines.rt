@@ -4,9 +4,9 @@ use std::io::Eprint;
 use std::time::{Clock, Duration};
 use store::Progress;
 
-// How long a check takes before it is told how far it is, and from each such line to the next.
-const QUIET: Duration = Duration::from_secs(2);
-const BETWEEN: Duration = Duration::from_secs(1);
+// How many seconds a check takes before it is told how far it is, and from each such line to the next.
+const QUIET: u64 = 2;
+const BETWEEN: u64 = 1;
 
 /// Tells on standard error how far the check of an image is, where that is a terminal: once it has taken two seconds, and
 /// then each second.
@@ -47,10 +47,10 @@ impl<R: Clock + Eprint> Progress for ProgressLines<'_, R> {
     }
 }
 
-// This long from now, where the clock can be read.
-fn due_after<R: Clock>(rt: &R, wait: Duration) -> Option<Duration> {
+// So many seconds from now, where the clock can be read.
+fn due_after<R: Clock>(rt: &R, seconds: u64) -> Option<Duration> {
     match rt.monotonic() {
-        Ok(now) => now.checked_add(wait),
+        Ok(now) => now.checked_add(Duration::from_secs(seconds)),
         Err(_) => None,
     }
 }
