@@ -23,4 +23,4 @@ returns-clause-reads c = λ within.
     subst (λ (s : State). IfSome s.begun.io (λ io. io.block.0 < c.args.core.now.log.blocks))
     (sym c.tell.ensures.worker)
     (stays_within (side c.args.one.now.state c.args.core.now) (side c.step_noted-step.new.self.state c.step_noted-step.new.core)
-    c.step_noted-step.result c.step_noted-step.ensures.step within)
+    c.step_noted-step.result.0 c.step_noted-step.ensures.step within)
