@@ -1,6 +1,6 @@
 -- What follows from what the program did.
 use Rattle.std.proofs.Common.{◌≡◌, ◌∙◌, ℕ, ◌-◌, ◌⊎◌, ap, inl, inr, List, Option, Ok, Err, arith, refl, subst}
-use Rattle.std.proofs.Common.{Result, Some, sym}
+use Rattle.std.proofs.Common.{Bor, None, Result, Some, sym}
 use Rattle.std.specs.Prelude.{IfErr, IfOk, OnOk}
 use Rattle.std.specs.Io.KnownBytes.{Appends}
 use Rattle.clap.specs.Words.{Text}
@@ -54,9 +54,9 @@ obeys_command first words (Check image) client (Err (fault.Words e)) device late
 obeys_command first words (Show image) client (Err fault.NotText) device later asks does = absurd does.1.5
 obeys_command first words (Show image) client (Err fault.Memory) device later asks does = absurd does.1.5
 obeys_command first words (Show image) client (Err (fault.Words e)) device later asks does = absurd does.1.5
-obeys_command first words (Sim script) client (Err fault.NotText) device later asks does = absurd does.3
-obeys_command first words (Sim script) client (Err fault.Memory) device later asks does = absurd does.3
-obeys_command first words (Sim script) client (Err (fault.Words e)) device later asks does = absurd does.3
+obeys_command first words (Sim script) client (Err fault.NotText) device later asks does = absurd does.2.1
+obeys_command first words (Sim script) client (Err fault.Memory) device later asks does = absurd does.2.1
+obeys_command first words (Sim script) client (Err (fault.Words e)) device later asks does = absurd does.2.1
 obeys_command first words args client outcome device later asks does = (args, asks, does)
 
 same_client : (client later : Client) → later.unread ≡ client.unread → later.written ≡ client.written → later ≡ client
@@ -123,7 +123,7 @@ listens old written written' opened address ended outcome device opens printed b
     go (Err server.Device) line boot = (opened, opens, address, line)
 
 -- an image's file was formatted, so the command was done
-pub formats_command : (first : FirstContents) (image : _) (blocks : Option ℕ) (inodes time : ℕ) (client : Client)
+pub formats_command : (first : FirstContents) (image : Bor Text) (blocks : Option ℕ) (inodes time : ℕ) (client : Client)
     (outcome : Outcome) (device : Option Device) (later : Client) → later.unread ≡ client.unread
     → FormatsImage first image.now blocks inodes time client.written outcome device later.written
     → DoesCommand first (Format image blocks inodes time) client outcome device later
@@ -132,14 +132,14 @@ formats_command first image blocks inodes time client (Err (fault.File trouble))
 formats_command first image blocks inodes time client outcome device later unread formats = (unread, formats)
 
 -- an image's file was served from, so the command was done
-pub serves_command : (first : FirstContents) (image : _) (time : ℕ) (client : Client) (outcome : Outcome)
+pub serves_command : (first : FirstContents) (image : Bor Text) (time : ℕ) (client : Client) (outcome : Outcome)
     (device : Option Device) (later : Client) → ServesImageOnce first image.now time client outcome device later
     → DoesCommand first (Once image time) client outcome device later
 serves_command first image time client (Err (fault.File trouble)) device later serves =
     (serves.0, serves.1, inl serves.2)
 serves_command first image time client outcome device later serves = serves
 
-pub listens_command : (first : FirstContents) (image listen : _) (workers connections : ℕ) (client : Client)
+pub listens_command : (first : FirstContents) (image listen : Bor Text) (workers connections : ℕ) (client : Client)
     (outcome : Outcome) (device : Option Device) (later : Client) → later.unread ≡ client.unread
     → ServesImage first image.now listen.now client.written outcome device later.written
     → DoesCommand first (Serve image listen workers connections) client outcome device later
@@ -148,7 +148,7 @@ listens_command first image listen workers connections client (Err (fault.File t
 listens_command first image listen workers connections client outcome device later unread serves = (unread, serves)
 
 -- an image's file was looked at, so the command was done
-pub checks_command : (first : FirstContents) (image : _) (client : Client) (outcome : Outcome) (device : Option Device)
+pub checks_command : (first : FirstContents) (image : Bor Text) (client : Client) (outcome : Outcome) (device : Option Device)
     (later : Client) → later.unread ≡ client.unread
     → ChecksImage first image.now client.written outcome device later.written
     → DoesCommand first (Check image) client outcome device later
@@ -156,7 +156,7 @@ checks_command first image client (Err (fault.File trouble)) device later unread
     (same_client client later unread checks.0, checks.1, inl checks.2)
 checks_command first image client outcome device later unread checks = (unread, checks)
 
-pub shows_command : (first : FirstContents) (image : _) (client : Client) (outcome : Outcome) (device : Option Device)
+pub shows_command : (first : FirstContents) (image : Bor Text) (client : Client) (outcome : Outcome) (device : Option Device)
     (later : Client) → later.unread ≡ client.unread
     → ShowsImage first image.now client.written outcome device later.written
     → DoesCommand first (Show image) client outcome device later
@@ -165,7 +165,7 @@ shows_command first image client (Err (fault.File trouble)) device later unread 
 shows_command first image client outcome device later unread shows = (unread, shows)
 
 -- a script was played, so the command was done
-pub plays_command : (first : FirstContents) (script : _) (client : Client) (outcome : Outcome) (device : Option Device)
+pub plays_command : (first : FirstContents) (script : Bor Text) (client : Client) (outcome : Outcome) (device : Option Device)
     (later : Client) → device ≡ None → later.unread ≡ client.unread
     → PlaysScript script.now client.written outcome later.written
     → DoesCommand first (Sim script) client outcome device later

@@ -4,12 +4,12 @@ use std::io::Write;
 
 /// Where a server listens, to be printed once it can serve.
 #[derive(Drop)]
-pub struct Announcement<'a, O> {
-    pub writer: &'a mut O,
+pub struct Announcement<'w, 'a, O> {
+    pub writer: &'w mut O,
     pub address: &'a str,
 }
 
-impl<O: Write> Announcer for Announcement<'_, O> {
+impl<O: Write> Announcer for Announcement<'_, '_, O> {
     ghost use Rattle.std.specs.Prelude.{◌≡◌, true};
     ghost use Rattle.std.specs.Io.KnownBytes.{Appends};
     ghost use Rattle.nfsd.specs.Lines.{listening_line};

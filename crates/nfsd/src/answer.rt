@@ -160,25 +160,37 @@ where
             blocks,
             inodes,
             time,
-        } => format_image(rt, image, blocks, inodes, time, first, writer),
-        Args::Once { image, time } => serve_image_once(rt, image, time, first, reader, writer),
+        } => {
+            return format_image(rt, image, blocks, inodes, time, first, writer);
+        }
+        Args::Once { image, time } => {
+            return serve_image_once(rt, image, time, first, reader, writer);
+        }
         Args::Serve {
             image,
             listen,
             workers,
             connections,
-        } => serve_image(
-            rt,
-            alarm,
-            image,
-            listen,
-            workers,
-            connections,
-            first,
-            writer,
-        ),
-        Args::Check { image } => check_image(rt, image, first, writer),
-        Args::Show { image } => show_image(rt, image, first, writer),
-        Args::Sim { script } => (None, play_script(rt, script, writer)),
+        } => {
+            return serve_image(
+                rt,
+                alarm,
+                image,
+                listen,
+                workers,
+                connections,
+                first,
+                writer,
+            );
+        }
+        Args::Check { image } => {
+            return check_image(rt, image, first, writer);
+        }
+        Args::Show { image } => {
+            return show_image(rt, image, first, writer);
+        }
+        Args::Sim { script } => {
+            return (None, play_script(rt, script, writer));
+        }
     }
 }

@@ -118,32 +118,45 @@ where
         Ok(store) => store,
         Err((disk, fault)) => return (Some(ImageDisk::Watched(disk)), Err(Fault::Open(fault))),
     };
-    let ended = serve_announced(rt, alloc, store, listening, workers, connections, writer);
+    let mut ended = Err(ServeFault::Memory);
+    serve_announced(
+        rt,
+        alloc,
+        store,
+        listening,
+        workers,
+        connections,
+        writer,
+        &mut ended,
+    );
     (None, outcome_of(ended))
 }
 
-// Serves from a store, and prints where it listens once it can serve.
-fn serve_announced<F, R, O>(
+// Serves from a store, and prints where it listens once it can serve. How the server ended lies in `ended` then, and the
+// writer comes back alone: of a reference that comes back beside what owns memory nothing is known.
+fn serve_announced<'w, F, R, O>(
     rt: &R,
     alloc: Global,
     store: Store<FileDisk<F>>,
     listening: &Listening,
     workers: u32,
     connections: u32,
-    writer: &mut O,
-) -> Result<Ended, ServeFault>
+    writer: &'w mut O,
+    ended: &mut Result<Ended, ServeFault>,
+) -> &'w mut O
 where
     F: BlockFile + Send + Sync,
     R: Threads + Wait + Clock + Sync,
     O: Write,
-    ensures boot { IfOk result (λ ended. ended.core.boot ≡ store.core.boot) }
-    ensures told { IsAnnouncedBy (O.contents writer.old) (string_bytes listening.now.address) result
-        (O.contents writer.new) }
+    ensures boot { IfOk ended.new (λ core. core.core.boot ≡ store.core.boot) }
+    ensures same_reference { result.ghost_name ≡ writer.entry.ghost_name }
+    ensures told { IsAnnouncedBy (O.contents writer.old) (string_bytes listening.now.address) ended.new
+        (O.contents result.now) }
 {
     let address = listening.address.as_str();
     let announcement = Announcement { writer, address };
     let listener = &listening.listener;
-    let (_, ended) = serve_store(
+    let (announcement, came) = serve_store(
         rt,
         alloc,
         store,
@@ -152,7 +165,9 @@ where
         connections,
         announcement,
     );
-    ended
+    *ended = came;
+    let Announcement { writer, address: _ } = announcement;
+    writer
 }
 
 // What comes of a server by how it ended.
