@@ -615,6 +615,16 @@ ONES = {
 }
 
 
+def single_bytes(*blocks):
+    """The bytes of these blocks that the program is asked about, one by one, with what each shows at 255: the first of each,
+    and few behind. With EVERY_BYTE in the environment it is asked about all."""
+    for block in blocks:
+        for part, fault in ONES[block]:
+            for at in part:
+                if at < 320 or at % 64 == 0 or "EVERY_BYTE" in os.environ:
+                    yield block, at, fault
+
+
 def test_each_byte_of_three_blocks_of_a_fresh_image_at_255(place):
     image = bytearray(contents(images.Image(images.new_root(), 1024, 64).write(place.path("image"))))
     for block, parts in ONES.items():

@@ -2,7 +2,7 @@
 
 import struct
 
-from cases import checking, images, nfs, wire
+from cases import checking, images, looking, nfs, wire
 from cases.running import MADE, NEW_MODE, contents, expect, same
 
 BLOCK_BYTES = 4096
@@ -138,6 +138,24 @@ def test_of_a_full_log_the_last_position_wins(place):
         put(image, FIRST_SLOT + slot, 0, changed)
         put(image, HEADER, 0, header)
         place.attributes(image, mode, second, f"slot {slot}")
+
+
+def test_single_bytes_of_two_blocks_of_a_fresh_image_at_255_are_opened_as_the_reader_reads_them(place):
+    path = images.Image(images.new_root(), 1024, 64).write(place.path("image"))
+    whole = contents(path)
+    for block, at, fault in checking.single_bytes(SUPER, START):
+        what = f"byte {at} of block {block}"
+        put(path, block, at, b"\xff")
+        ran = place.once(path, wire.null_call(1))
+        if fault:
+            expect(what, ran, 1, b"", looking.line(fault))
+        else:
+            expect(what, ran, 0, wire.null_reply(1), b"")
+            # The number of the opening, which begins at byte 24 of block 0.
+            boot = 1 + (255 << 8 * (at - 24) if block == SUPER else 0)
+            same(f"{what}: the boot number", put(path, SUPER, 24, bytes(8)), struct.pack("<Q", boot))
+        put(path, block, at, whole[BLOCK_BYTES * block + at :][:1])
+    same("the fresh image", contents(path), whole)
 
 
 # Bytes of the root's inode, by the offset of their field, with values that no inode of a directory without blocks has.

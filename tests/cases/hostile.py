@@ -12,7 +12,7 @@ import struct
 import threading
 import time
 
-from cases import checking, images, nfs, wire
+from cases import images, looking, nfs, wire
 from cases.conversing import ROOT
 from cases.running import expect, is_so, same
 from cases.tcp import MOUNT_PROGRAM, Server, is_closed, mounted, replies
@@ -171,7 +171,7 @@ class Hostile:
         self.first.close()
         self.stream.close()
         self.server.kill()
-        same("why the image is bad", checking.why_bad(self.image), None)
+        looking.assert_good(self.place, self.image, "behind all of them")
         expect("once", self.place.once(self.image, wire.null_call(1)), 0, wire.null_reply(1), b"")
 
 

@@ -3,9 +3,9 @@ behind all that is there. An image is written with holes where blocks are zeros,
 
 import os
 
-from cases import checking, images, nfs
+from cases import checking, images, looking, nfs
 from cases.conversing import NO_VERIFIER, ROOT
-from cases.running import is_so, same
+from cases.running import MADE, expect, is_so, same
 from cases.tcp import Server
 
 BLOCK, SPAN = images.BLOCK_BYTES, images.DIRECT + images.INDIRECT
@@ -55,6 +55,8 @@ def assert_served(place, image, data):
     root, (files, blocks) = read.files[images.ROOT], read.counts()
     for name, content in wanted.items():
         same(f"{name} of the image", root.below(name).bytes(), content)
+    expect("check", looking.check(place, path), 0, looking.clean(files, blocks), b"")
+    expect("show", looking.show(place, path), 0, looking.shown(read), b"")
     server = Server(place, path, connections=1)
     client = server.client()
     same("the bytes of the new file", client.read(client.find(ROOT, b"new")), new)
@@ -85,6 +87,18 @@ def test_an_image_of_the_most_blocks_that_is_full(place):
     image, data = filled(MOST_BLOCKS, 1024, 1)
     is_so(f"{image.free_blocks} blocks are free", image.free_blocks < 2000)
     assert_served(place, image, data)
+
+
+def test_an_image_of_the_most_blocks_and_inodes_is_made(place):
+    path, made = place.path("image"), images.Image(images.new_root(), MOST_BLOCKS, MOST_INODES)
+    ran = place.run(["format", path, "--blocks", str(MOST_BLOCKS), "--inodes", str(MOST_INODES), "--time", str(MADE)])
+    line = f"formatted {MOST_BLOCKS} blocks {MOST_INODES} inodes {MOST_BLOCKS - made.data} data\n"
+    expect("format", ran, 0, line.encode(), b"")
+    with checking.HoledFile(path) as file:
+        for number in sorted({*made.content, *file.held}):
+            same(f"block {number}", file[BLOCK * number : BLOCK * (number + 1)], made.block(number))
+    expect("check", looking.check(place, path), 0, looking.clean(1, 0), b"")
+    expect("show", looking.show(place, path), 0, looking.shown(checking.reader_of(path)), b"")
 
 
 def listed(client, directory, procedure, cookie, *counts):
@@ -125,4 +139,4 @@ def test_a_directory_of_10000_names(place):
         (found, *_) = client.do(nfs.READDIR, many.handle(), cookie - 1, NO_VERIFIER, 200).entries
         same(f"{name}: where it is listed", (found.name, found.cookie), (name, cookie))
     server.kill()
-    same("why the image is bad", checking.why_bad(path), None)
+    looking.assert_good(place, path, "behind a kill")

@@ -155,15 +155,13 @@ def test_single_bytes_of_three_blocks_of_a_fresh_image_at_255(place):
     path = images.Image(images.new_root(), 1024, 64).write(place.path("image"))
     whole = contents(path)
     with open(path, "r+b", buffering=0) as file:
-        for block, parts in checking.ONES.items():
-            for at in [*range(320), *range(320, BLOCK_BYTES, 64)]:
-                fault = next(it for part, it in parts if at in part)
-                file.seek(BLOCK_BYTES * block + at)
-                file.write(b"\xff")
-                wanted = (1, b"", line(fault)) if fault else (0, clean(1, 0), b"")
-                expect(f"byte {at} of block {block}", check(place, path), *wanted)
-                file.seek(BLOCK_BYTES * block + at)
-                file.write(whole[BLOCK_BYTES * block + at :][:1])
+        for block, at, fault in checking.single_bytes(*checking.ONES):
+            file.seek(BLOCK_BYTES * block + at)
+            file.write(b"\xff")
+            wanted = (1, b"", line(fault)) if fault else (0, clean(1, 0), b"")
+            expect(f"byte {at} of block {block}", check(place, path), *wanted)
+            file.seek(BLOCK_BYTES * block + at)
+            file.write(whole[BLOCK_BYTES * block + at :][:1])
     same("the fresh image", contents(path), whole)
 
 

@@ -154,6 +154,31 @@ def test_a_kill_before_a_commit_is_answered_is_told_by_the_verifier(place):
     server.end()
 
 
+def test_behind_a_kill_no_file_has_the_handle_of_one_that_was_lost(place):
+    """A file that was never settled was seen by another client before the kill."""
+    signs, caller = Signs(place), nfs.credential(*ROOT_USER)
+    server = Server(place, place.image(), workers=2, **signs.given)
+    first, second = server.client(), server.client()
+    signs.set("hold barrier")
+    first.stream.sendall(nfs.CREATE.call(9, caller, ROOT, b"lost", (nfs.GUARDED, nfs.new_attributes())))
+    signs.wait()
+    lost = second.find(ROOT, b"lost")
+    is_so("a new file was answered before it was settled", not select.select([first.stream], [], [], 0)[0])
+    server.kill()
+    signs.clear("hold barrier")
+    server = Server(place, place.path("image"), connections=1)
+    client = server.client()
+    client.refuse(nfs.STALE, nfs.GETATTR, lost)
+    file = client.create(ROOT, b"lost", b"another's")
+    # Both have the least free number.
+    same("the number of the new file", file[:4], lost[:4])
+    for procedure, *more in (nfs.GETATTR,), (nfs.READ, 0, 100), (nfs.WRITE, 0, 1, nfs.FILE_SYNC, b"x"), (nfs.COMMIT, 0, 0):
+        client.refuse(nfs.STALE, procedure, lost, *more)
+    same("what the new file has", client.read(file), b"another's")
+    client.close()
+    server.end()
+
+
 def test_calls_are_answered_while_a_change_is_brought_home(place):
     signs = Signs(place)
     server = Server(place, place.image(), connections=2, workers=2, **signs.given)
