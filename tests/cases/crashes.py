@@ -16,13 +16,15 @@ from cases.allocations import library
 from cases.running import BLOCKS, INODES, MADE, NEW_MODE, contents, expect, is_so, same
 
 # What is noted: a kind, a number and a count of bytes behind it. The call of the file whose number is in FAILED_CALL
-# fails, and with HALF_DONE a write is made all the same.
+# fails, which is noted too, and with HALF_DONE a write is made all the same. With FAILED_SYNC the file as a whole can't be
+# settled, as an opening of it asks for.
 LIBRARY = r"""
 #define _GNU_SOURCE
 #include <dlfcn.h>
 #include <errno.h>
 #include <fcntl.h>
 #include <stdlib.h>
+#include <sys/uio.h>
 #include <unistd.h>
 
 typedef ssize_t reads(int, void *, size_t, off_t);
@@ -33,15 +35,19 @@ static unsigned long called;
 
 static void note(char kind, unsigned long number, const void *bytes, unsigned long count) {
     unsigned long head[3] = {kind, number, count};
+    struct iovec parts[2] = {{head, sizeof head}, {(void *)bytes, count}};
     int file = open(getenv("NOTED_CALLS"), O_WRONLY | O_CREAT | O_APPEND, 0600);
-    writes *next = (writes *)dlsym(RTLD_NEXT, "write");
-    if (next(file, head, sizeof head) < 0 || next(file, bytes, count) < 0)
+    if (writev(file, parts, 2) < 0)
         _exit(99);
     close(file);
 }
+/* Threads make calls at once. */
 static int is_due(void) {
     const char *failed = getenv("FAILED_CALL");
-    return failed && ++called == strtoul(failed, 0, 10);
+    if (!failed || __atomic_add_fetch(&called, 1, __ATOMIC_SEQ_CST) != strtoul(failed, 0, 10))
+        return 0;
+    note('f', 0, "", 0);
+    return 1;
 }
 ssize_t pread(int file, void *bytes, size_t count, off_t at) {
     if (is_due()) {
@@ -78,6 +84,13 @@ int fdatasync(int file) {
     note('s', 0, "", 0);
     return ((settles *)dlsym(RTLD_NEXT, "fdatasync"))(file);
 }
+int fsync(int file) {
+    if (getenv("FAILED_SYNC")) {
+        errno = EIO;
+        return -1;
+    }
+    return ((settles *)dlsym(RTLD_NEXT, "fsync"))(file);
+}
 ssize_t write(int file, const void *bytes, size_t count) {
     ssize_t done = ((writes *)dlsym(RTLD_NEXT, "write"))(file, bytes, count);
     if (file == 1 && done > 0)
@@ -95,18 +108,28 @@ CHANGING = [nfs.SETATTR, nfs.WRITE, nfs.CREATE, nfs.MKDIR, nfs.SYMLINK, nfs.REMO
 MOST_CHOICES, EACH_CHOICE = 40, 1 << 20
 
 
-def run_noted(place, shared, arguments, data=b"", **given):
-    """Runs the program, and gives what came of it and what it noted: kind, number and bytes of each."""
+def noting(place, shared, **given):
+    """The environment of a program that notes its calls."""
     noted = place.path("noted")
     if os.path.exists(noted):
         os.remove(noted)
-    ran = place.run(arguments, data, env={**os.environ, "LD_PRELOAD": shared, "NOTED_CALLS": noted, **given})
+    return {**os.environ, "LD_PRELOAD": shared, "NOTED_CALLS": noted, **given}
+
+
+def events_of(place):
+    """What the last program noted: kind, number and bytes of each."""
+    noted = place.path("noted")
     found, at, events = contents(noted) if os.path.exists(noted) else b"", 0, []
     while at < len(found):
         kind, number, count = struct.unpack_from("<QQQ", found, at)
         events.append((chr(kind), number, found[at + 24 : at + 24 + count]))
         at += 24 + count
-    return ran, events
+    return events
+
+
+def run_noted(place, shared, arguments, data=b"", **given):
+    """Runs the program, and gives what came of it and what it noted."""
+    return place.run(arguments, data, env=noting(place, shared, **given)), events_of(place)
 
 
 def left_by_a_crash(before, events, drawn, most=MOST_CHOICES):

@@ -175,17 +175,20 @@ class Hostile:
         expect("once", self.place.once(self.image, wire.null_call(1)), 0, wire.null_reply(1), b"")
 
 
-def tree():
-    names = {
+def names():
+    return {
         b"file": images.regular((0, b"hello there")), b"link": images.link(b"target"),
         b"directory": images.directory({b"below": images.regular(), b"empty": images.directory({})}, free={1}),
     }
-    return images.Image(images.directory(names), BLOCKS, INODES)
 
 
-def calls():
-    """A call of each procedure, and another of those that have several forms: program, number, and its arguments."""
-    root = tree().root
+def tree():
+    return images.Image(images.directory(names()), BLOCKS, INODES)
+
+
+def calls_of(root):
+    """A call of each procedure on a tree with these names, and another of those that have several forms: program, number,
+    and its arguments."""
     file, link, directory = (root.below(it).handle() for it in (b"file", b"link", b"directory"))
     some = nfs.new_attributes(0o644, 0, 0, 5, nfs.client_time(1, 2), nfs.SERVER_TIME)
     none = bytes(8)
@@ -276,7 +279,7 @@ def case_of(call):
     return is_hostile
 
 
-CALLS = calls()
+CALLS = calls_of(tree().root)
 for name in CALLS:
     globals()["test_hostile_bytes_of_" + name.replace(" ", "_")] = case_of(CALLS[name])
 

@@ -107,9 +107,8 @@ class Image:
         free = iter(order(list(range(self.data, blocks))))
         taken = {number for file in self.files for number in self.lay(file, free)}
         self.free_blocks, self.free_files = blocks - self.data - len(taken), inodes - 1 - len(self.files)
-        self.mark(BITMAP, lambda k: k < self.data or k in taken or k >= blocks, blocks)
-        numbers = {0} | {file.number for file in self.files}
-        self.mark(self.inode_bitmap, lambda k: k in numbers or k >= inodes, inodes)
+        self.mark(BITMAP, [*range(self.data), *taken], blocks)
+        self.mark(self.inode_bitmap, [0, *(file.number for file in self.files)], inodes)
 
     def number_files(self):
         """Numbers the files that have no number, each directory before its files, and counts their links."""
@@ -145,12 +144,14 @@ class Image:
         self.content[at] = bytes(block)
         return [*numbers.values(), *([indirect] if indirect else [])]
 
-    def mark(self, first, is_marked, count):
-        """Writes a bitmap, bit k of which is bit k mod 8, the least first, of byte k / 8."""
-        for block in range(-(-count // BITS)):
-            bits = [is_marked(it) for it in range(BITS * block, BITS * (block + 1))]
-            value = int("".join("1" if it else "0" for it in reversed(bits)), 2)
-            self.content[first + block] = value.to_bytes(BLOCK_BYTES, "little")
+    def mark(self, first, numbers, count):
+        """Writes a bitmap, bit k of which is bit k mod 8, the least first, of byte k / 8. Those from the count on are set."""
+        blocks = -(-count // BITS)
+        digits = bytearray(b"0" * count + b"1" * (BITS * blocks - count))
+        for it in numbers:
+            digits[it] = ord("1")
+        found = int(digits[::-1], 2).to_bytes(BLOCK_BYTES * blocks, "little")
+        self.content.update((first + it, found[BLOCK_BYTES * it :][:BLOCK_BYTES]) for it in range(blocks))
 
     def into_log(self, numbers, start=0, old=lambda block: bytes(BLOCK_BYTES)):
         """Moves these blocks, from 514 on, into the log, in this order: at home lies what they were before."""

@@ -60,10 +60,10 @@ def set_attributes(client, file):
     file.ctime = nfs.Time(NOW, 0)
 
 
-def made(place, root):
+def made(place, root, blocks=BLOCKS, inodes=INODES):
     """A client of a plain program that has this tree, and the image that it would have."""
-    image = images.Image(root, BLOCKS, INODES)
-    client = conversing.with_plain(place, plain.command_of(place), BLOCKS, INODES, NOW)
+    image = images.Image(root, blocks, inodes)
+    client = conversing.with_plain(place, plain.command_of(place), blocks, inodes, NOW)
     for file in image.files:
         file.is_made = file is image.root
     make(client, image.root)

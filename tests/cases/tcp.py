@@ -6,7 +6,7 @@ import socket
 import struct
 
 from cases import conversing, wire
-from cases.running import SECONDS, is_so, read_exactly, same, wait_until
+from cases.running import SECONDS, Ended, is_so, read_exactly, same, wait_until
 
 MOUNT_PROGRAM, MNT, UMNT = 100005, 1, 3
 LOCAL = "127.0.0.1"
@@ -49,19 +49,17 @@ class Server:
     def client(self):
         return Client(self.connect())
 
+    def ended(self):
+        """It ends by itself: what came of it."""
+        output, errors = self.ran.communicate(timeout=SECONDS)
+        return Ended(self.ran.returncode, output, errors)
+
     def end(self, status=0, errors=b""):
         """It ends by itself, with this status."""
-        output, told = self.ran.communicate(timeout=SECONDS)
-        same("what the server printed, told and ended with", (output, told, self.ran.returncode), (b"", errors, status))
+        same("what the server ended with, printed and told", self.ended(), Ended(status, b"", errors))
 
     def end_broken(self, pattern):
-        """It ends by itself with the fault of a device, behind a line with the time that has this pattern."""
-        output, errors = self.ran.communicate(timeout=SECONDS)
-        same("what the server printed and ended with", (output, self.ran.returncode), (b"", 1))
-        line, _, rest = errors.partition(b"\n")
-        date = rb"[A-Z][a-z]{2}, \d\d [A-Z][a-z]{2} \d{4} \d\d:\d\d:\d\d GMT"
-        is_so(f"what it told at once: {line}", re.fullmatch(rb"nfsd: " + date + rb": " + pattern, line) is not None)
-        same("what it told at the end", rest, b"nfsd: 6 Device\n")
+        assert_broken("the server", self.ended(), pattern)
 
     def wait_until_idle(self):
         """Waits until each of its threads waits: with no call under way none of them goes on by itself."""
@@ -71,6 +69,15 @@ class Server:
     def kill(self):
         self.ran.kill()
         self.ran.communicate(timeout=SECONDS)
+
+
+def assert_broken(what, ran, pattern, fault=b"nfsd: 6 Device\n"):
+    """A server has ended with the fault of a device, behind a line with the time that has this pattern."""
+    same(f"{what}: status and standard output", (ran.status, ran.output), (1, b""))
+    line, _, rest = ran.errors.partition(b"\n")
+    date = rb"[A-Z][a-z]{2}, \d\d [A-Z][a-z]{2} \d{4} \d\d:\d\d:\d\d GMT"
+    is_so(f"{what}: what it told at once: {line}", re.fullmatch(rb"nfsd: " + date + rb": " + pattern, line) is not None)
+    same(f"{what}: what it told at the end", rest, fault)
 
 
 class Client(conversing.Client):

@@ -6,6 +6,7 @@ use store::Progress;
 
 // How many seconds a check takes before it is told how far it is, and from each such line to the next.
 const QUIET: u64 = 2;
+
 const BETWEEN: u64 = 1;
 
 /// Tells on standard error how far the check of an image is, where that is a terminal: once it has taken two seconds, and

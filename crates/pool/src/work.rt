@@ -236,7 +236,6 @@ fn advance(
         × (worker.new.state ≡ told state) × (result.1 ≡ state.work.answer) }
 {
     let made = worker.step(alloc, core);
-    drop(worker.take_entry());
     let given = worker.take_answer();
     (made, given)
 }

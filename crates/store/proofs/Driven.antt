@@ -885,12 +885,6 @@ left_same (Refused why) work core = refl
 left_same Again work core = refl
 left_same (Waiting place) work core = refl
 
--- its entry and its answer are taken
-pub taken_both : (mid one new : State) → one ≡ record mid { work = record mid.work { answer = None } }
-    → new ≡ record one { work = record one.work { entry = None } } → new ≡ telling.told mid
-taken_both mid one new answer entry =
-    entry ∙ ap (λ (s : State). record s { work = record s.work { entry = None } }) answer
-
 goes_round : (bound : ℕ) (mid new : State) (core : CoreState) (result : Option CallAnswer)
     → HasGoneOn bound mid core
     → result ≡ mid.work.answer → result ≡ None → new ≡ telling.told mid → IsNearer bound new core
@@ -902,19 +896,17 @@ goes_round bound mid new core result (inr on) is none same =
       less = subst (λ n. n < bound) (sym (left_same mid.phase mid.work core)) on.less;
     })
 
-pub still_under_way : (bound : ℕ) (mid one new : State) (core : CoreState) (result : Option CallAnswer)
-    → HasGoneOn bound mid core → result ≡ mid.work.answer → result ≡ None
-    → one ≡ record mid { work = record mid.work { answer = None } }
-    → new ≡ record one { work = record one.work { entry = None } } → IsUnderWay new core
-still_under_way bound mid one new core result on is none answer entry =
-    (goes_round bound mid new core result on is none (taken_both mid one new answer entry)).under_way
+pub still_under_way : (bound : ℕ) (mid new : State) (core : CoreState) (result : Option CallAnswer)
+    → HasGoneOn bound mid core → result ≡ mid.work.answer → result ≡ None → new ≡ telling.told mid
+    → IsUnderWay new core
+still_under_way bound mid new core result on is none same =
+    (goes_round bound mid new core result on is none same).under_way
 
-pub less_is_left : (bound : ℕ) (mid one new : State) (core : CoreState) (result : Option CallAnswer)
-    → HasGoneOn bound mid core → result ≡ mid.work.answer → result ≡ None
-    → one ≡ record mid { work = record mid.work { answer = None } }
-    → new ≡ record one { work = record one.work { entry = None } } → steps_left new core < bound
-less_is_left bound mid one new core result on is none answer entry =
-    (goes_round bound mid new core result on is none (taken_both mid one new answer entry)).less
+pub less_is_left : (bound : ℕ) (mid new : State) (core : CoreState) (result : Option CallAnswer)
+    → HasGoneOn bound mid core → result ≡ mid.work.answer → result ≡ None → new ≡ telling.told mid
+    → steps_left new core < bound
+less_is_left bound mid new core result on is none same =
+    (goes_round bound mid new core result on is none same).less
 
 -- a call that was taken is under way
 pub starts : (state old : State) (core : CoreState) (ctx : Ctx) (call : Call) → state ≡ with_call ctx call old

@@ -88,7 +88,6 @@ fn answer<D: CrashDisk>(alloc: Global, store: &mut Store<D>, worker: &mut Worker
         if let Some(answered) = worker.take_answer() {
             return answered.verdict;
         }
-        drop(worker.take_entry());
     }
 }
 

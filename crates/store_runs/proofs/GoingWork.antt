@@ -53,6 +53,7 @@ use Rattle.store_runs.specs.Going.{IsGoing, IsNextEvent, IsSoFar, KeepsCore, Not
 use Rattle.store_workers.specs.Noting.{NotesAnswers, NotesHistory, NotesProcedure, NotesWork}
 use Rattle.store_workers.specs.Seen.{Seen, seen_in}
 use Rattle.store_workers.specs.Stages.{IsWorkerAt, claimed_in, held_in, progress_of}
+use Rattle.store_workers.specs.Notes.{committed_by}
 use Rattle.store_workers.specs.Telling.{HasWorked, entries_told, told}
 use Rattle.store_workers.specs.WorkTells.{HasReplies, progress_after}
 use Rattle.store_workers.specs.WorkerSteps.{Side, side}
@@ -427,7 +428,7 @@ module _ (b : Beginning) (number clock : ℕ) (store : StoreSide) (workers all_t
           ++ entries_told number (length before.steps.items) clock (Some goes_with.taken.entry)
       history_is = worked.tells.history
           ∙ ap (λ ready. before.history.items ++ entries_told number (length before.steps.items) clock ready)
-          goes_with.taken.ready
+          (ap (λ m. committed_by m worked.state) goes_with.taken.named ∙ goes_with.taken.ready)
 
       entries_then : entries_of (transcript_of mid) ≡ entries_of t ++ entry ∷ []
       entries_then = ap (map entry_of) history_is ∙ map-append entry_of before.history.items

@@ -12,6 +12,7 @@ use Rattle.store_promise.specs.declared.events.Step.{Step}
 use Rattle.store_promise.specs.declared.events.Step.TheVariants as step
 use Rattle.store_promise.specs.declared.transcript.Run.{Run}
 use Rattle.store_workers.proofs.StepTells.{step_tells}
+use Rattle.store_workers.specs.Notes.{committed_by}
 use Rattle.store_workers.specs.Noting.{NotesAnswers, NotesHistory, NotesProcedure, NotesWork}
 use Rattle.store_workers.specs.Stages.{IsWorkerAt, progress_of}
 use Rattle.store_workers.specs.Telling.{HasWorked, answers_told, entries_told, told}
@@ -33,9 +34,42 @@ module _ (boot number clock : ℕ) (old : Side) (made : Option Step) (new : Side
   tells = step_tells boot number (entries_of (transcript_of before)) old (side has.state new.core) at booted
       (places ∙ sym (length-map before.history.items entry_of)) made has.goes
 
+  -- what the step committed is what lies ready
+  as_ready : (made : Option Step) → TellsEntry boot (length (entries_of (transcript_of before)))
+      (progress_of old.worker) made has.state.work.entry → committed_by made has.state ≡ has.state.work.entry
+  as_ready None is = sym is
+  as_ready (Some (step.Commit added (committing.Committed place))) is = refl
+  as_ready (Some (step.Commit added committing.Full)) is = sym is
+  as_ready (Some (step.Commit added committing.Foreign)) is = sym is
+  as_ready (Some (step.Commit added committing.NoMemory)) is = sym is
+  as_ready (Some (step.Commit added committing.Broken)) is = sym is
+  as_ready (Some (step.Commit added committing.Spent)) is = sym is
+  as_ready (Some step.Called) is = sym is
+  as_ready (Some step.Replied) is = sym is
+  as_ready (Some (step.Begun a)) is = sym is
+  as_ready (Some (step.Wanted a b c)) is = sym is
+  as_ready (Some (step.Claimed a b)) is = sym is
+  as_ready (Some (step.Fetched a)) is = sym is
+  as_ready (Some (step.FetchFailed a)) is = sym is
+  as_ready (Some (step.Ended a)) is = sym is
+  as_ready (Some (step.Stable a b)) is = sym is
+  as_ready (Some (step.Read a b)) is = sym is
+  as_ready (Some (step.LogNext a)) is = sym is
+  as_ready (Some (step.LogIo a)) is = sym is
+  as_ready (Some (step.LogDone a)) is = sym is
+  as_ready (Some (step.InstNext a)) is = sym is
+  as_ready (Some (step.InstIo a)) is = sym is
+  as_ready (Some (step.InstDone a)) is = sym is
+
+  committed : after.history.items
+      ≡ before.history.items ++ entries_told number (length before.steps.items) clock has.state.work.entry
+  committed = has.tells.history
+      ∙ ap (λ e. before.history.items ++ entries_told number (length before.steps.items) clock e)
+      (as_ready made tells.entry)
+
   noted_entries : entries_of (transcript_of after)
       ≡ with_ready number (entries_of (transcript_of before)) has.state
-  noted_entries = ap (map entry_of) has.tells.history
+  noted_entries = ap (map entry_of) committed
       ∙ map-append entry_of before.history.items
       (entries_told number (length before.steps.items) clock has.state.work.entry)
       ∙ ap (λ more. map entry_of before.history.items ++ more)
@@ -139,7 +173,7 @@ module _ (boot number clock : ℕ) (old : Side) (made : Option Step) (new : Side
   pub work_noted : NotesWork boot number clock old made new before after
   work_noted = record {
     progress = progress_same ∙ tells.progress;
-    history = history_noted made has.state.work.entry has.tells.history tells.entry;
+    history = history_noted made has.state.work.entry committed tells.entry;
     answers = answered has.state.work.answer _
         (tells.answer.ends ∙ ap (λ p. not (is_idle (progress_of old.worker)) && is_idle p) (sym progress_same))
         has.tells.answers

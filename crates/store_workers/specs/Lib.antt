@@ -2,6 +2,7 @@ pub mod Alone
 pub mod Asked
 pub mod Knowing
 pub mod Ended
+pub mod Notes
 pub mod Noting
 pub mod Phases
 pub mod Seen

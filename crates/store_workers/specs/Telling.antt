@@ -9,6 +9,7 @@ use Rattle.store_promise.specs.declared.events.Step.TheVariants as step
 use Rattle.store_promise.specs.declared.transcript.Answer.{Answer}
 use Rattle.store_promise.specs.declared.transcript.Committed.{Committed}
 use Rattle.store_promise.specs.declared.transcript.Run.{Run}
+use Rattle.store_workers.specs.Notes.{committed_by}
 use Rattle.store_workers.specs.Worker.{with_call}
 use Rattle.store_workers.specs.WorkerSteps.{GoesOn, Side, side}
 use Rattle.store_workers.specs.declared.workers.parts.Phase.TheVariants.{Idle}
@@ -44,11 +45,12 @@ answers_told worker event clock (Some answer) = record {
 } ∷ []
 
 -- what a run tells with these
-pub record TellsWork (worker clock : ℕ) (work : State) (before after : Run) : Type 0 where
+pub record TellsWork (worker clock : ℕ) (entry : Option Entry) (answer : Option CallAnswer) (before after : Run)
+    : Type 0 where
   pub history : after.history.items
-      ≡ before.history.items ++ entries_told worker (length before.steps.items) clock work.work.entry
+      ≡ before.history.items ++ entries_told worker (length before.steps.items) clock entry
   pub answers : after.answers.items
-      ≡ before.answers.items ++ answers_told worker (length before.steps.items) clock work.work.answer
+      ≡ before.answers.items ++ answers_told worker (length before.steps.items) clock answer
   pub steps : after.steps ≡ before.steps
   pub boot : after.boot ≡ before.boot
 
@@ -62,4 +64,4 @@ pub record HasWorked (worker clock : ℕ) (old : Side) (made : Option Step) (new
   pub state : State
   pub goes : GoesOn old.worker.phase old made (side state new.core)
   pub taken : new.worker ≡ told state
-  pub tells : TellsWork worker clock state before after
+  pub tells : TellsWork worker clock (committed_by made state) state.work.answer before after

@@ -3,6 +3,8 @@
 mod asked;
 mod committing;
 mod known;
+mod last_entry;
+mod note;
 mod parts;
 mod planning;
 mod sourced;
@@ -16,7 +18,9 @@ ghost use Rattle.store_workers.specs.Stages.{HasSoundJob};
 use asked::Asked;
 use disk::{BlockNo, CrashDisk};
 use known::Known;
+use last_entry::LastEntry;
 use nfs_types::{Call, Credential, Ctx, Moment};
+use note::Note;
 use parts::{Begun, Job, Phase, State, Work};
 use procs::Done;
 use std::alloc::Global;
@@ -50,7 +54,9 @@ impl Worker {
     ghost use Rattle.model.specs.Sound.{SoundTime};
     ghost use Rattle.nfs_types.specs.Fits.{CallFits};
     ghost use Rattle.store_workers.specs.Knowing.{nothing_known};
+    ghost use Rattle.store_workers.specs.Notes.{IsNoted, committed_by};
     ghost use Rattle.store_workers.specs.Phases.{block_due};
+    ghost use Rattle.store_workers.specs.Telling.{told};
     ghost use Rattle.store_workers.specs.Worker.{Fits, at_rest, ctx_of, with_call};
     ghost use Rattle.store_workers.specs.WorkerReads.{HasReadBlock};
     ghost use Rattle.store_workers.specs.WorkerSteps.{GoesOn, KeepsHomeOf, KeepsReadsOf, side};
@@ -68,7 +74,7 @@ impl Worker {
                     snap: None,
                     reply: None,
                     broken_reply: None,
-                    entry: None,
+                    entry: LastEntry::none(),
                     answer: None,
                 },
                 begun: Begun { tx: None, io: None },
@@ -153,7 +159,41 @@ impl Worker {
         ensures home { KeepsHomeOf (side self.old.state core.old) (side self.new.state core.new) }
         ensures stays { KeepsReadsOf (side self.old.state core.old) (side self.new.state core.new) }
     {
-        self.state.step(alloc, core)
+        let mut note = Note::unwanted();
+        self.make(alloc, core, &mut note)
+    }
+
+    /// The same, with the procedure that the step committed, if it committed one: its reply is a copy, which is made
+    /// before the commit.
+    pub fn step_noted(
+        &mut self,
+        alloc: Global,
+        core: &mut Core<Done>,
+    ) -> (Option<Step>, Option<Entry>)
+        ensures fits { Fits self.old core.old → Fits self.new core.new }
+        ensures frame { SameFrame core.old core.new }
+        ensures step { GoesOn self.old.state.phase (side self.old.state core.old) result.0
+            (side self.new.state core.new) }
+        ensures entry { result.1 ≡ committed_by result.0 self.new.state }
+        ensures home { KeepsHomeOf (side self.old.state core.old) (side self.new.state core.new) }
+        ensures stays { KeepsReadsOf (side self.old.state core.old) (side self.new.state core.new) }
+    {
+        let mut note = Note::wanted();
+        let made = self.make(alloc, core, &mut note);
+        (made, note.entry)
+    }
+
+    // Makes the next step, with a note of it where one is wanted.
+    fn make(&mut self, alloc: Global, core: &mut Core<Done>, note: &mut Note) -> Option<Step>
+        ensures fits { Fits self.old core.old → Fits self.new core.new }
+        ensures frame { SameFrame core.old core.new }
+        ensures step { GoesOn self.old.state.phase (side self.old.state core.old) result
+            (side self.new.state core.new) }
+        ensures note { IsNoted result self.new.state note.old note.new }
+        ensures home { KeepsHomeOf (side self.old.state core.old) (side self.new.state core.new) }
+        ensures stays { KeepsReadsOf (side self.old.state core.old) (side self.new.state core.new) }
+    {
+        self.state.step(alloc, core, note)
     }
 
     /// Has a call that plans begin again with the next step, as one that knows nothing.
@@ -169,23 +209,13 @@ impl Worker {
         }
     }
 
-    /// Takes the procedure that the last step committed, if it committed one.
-    pub fn take_entry(&mut self) -> Option<Entry>
-        ensures result { result ≡ self.old.state.work.entry }
-        ensures rest { self.new.state
-            ≡ record self.old.state { work = record self.old.state.work { entry = None } } }
-        ensures fits { (core : CoreState) → Fits self.old core → Fits self.new core }
-    {
-        self.state.work.entry.take()
-    }
-
-    /// Takes the answer that the last step gave, if it gave one.
+    /// Takes the answer that the last step gave, if it gave one. All that the step gave is told then.
     pub fn take_answer(&mut self) -> Option<CallAnswer>
         ensures result { result ≡ self.old.state.work.answer }
-        ensures rest { self.new.state
-            ≡ record self.old.state { work = record self.old.state.work { answer = None } } }
+        ensures rest { self.new.state ≡ told self.old.state }
         ensures fits { (core : CoreState) → Fits self.old core → Fits self.new core }
     {
+        self.state.work.entry = LastEntry::none();
         self.state.work.answer.take()
     }
 

@@ -342,20 +342,19 @@ fn work_of(
         run.old run.new }
     ensures core { KeepsCore (side one.old.state core.old) (side one.new.state core.new) }
 {
-    let step = one.step(alloc, core);
-    tell(one, number, clock, run);
+    let (step, entry) = one.step_noted(alloc, core);
+    tell(one, number, clock, entry, run);
     core.lawful();
     step
 }
 
 // What a worker's last step committed and answered is told, and doesn't lie ready any more.
-fn tell(one: &mut Worker, number: usize, clock: u64, run: &mut Run)
+fn tell(one: &mut Worker, number: usize, clock: u64, entry: Option<Entry>, run: &mut Run)
     requires { HasRoom run.old }
     ensures fits { KeepsFits one.old one.new }
     ensures worker { one.new.state ≡ told one.old.state }
-    ensures run { TellsWork number clock one.old.state run.old run.new }
+    ensures run { TellsWork number clock entry one.old.state.work.answer run.old run.new }
 {
-    let entry = one.take_entry();
     let answer = one.take_answer();
     note_entry(run, number, clock, entry);
     note_answer(run, number, clock, answer);

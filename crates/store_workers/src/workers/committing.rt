@@ -1,135 +1,159 @@
 //! The commit of what a worker's plan ended in.
-ghost use Rattle.std.specs.Prelude.{◌≡◌, ℕ, None, true, is_some, IfOk, IfSome};
+ghost use Rattle.std.specs.Prelude.{◌≡◌, ℕ, None, true, is_some, IfSome};
+ghost use Rattle.store_promise.specs.declared.events.Committing.TheVariants as committing;
 
+use super::last_entry::LastEntry;
+use super::note::Note;
 use super::parts::{Job, Phase, State};
 use groups::blocks_of_objects;
-use nfs_types::{Call, Reply, Status};
+use nfs_types::{Reply, Status};
 use procs::{Done, is_answered_stable, refused_reply};
-use std::alloc::{AllocError, Global};
-use store_promise::{Cause, Changed, Committing, Entry, Step, Verdict};
-use txn::{Change, Commit, Core, Seq, Tx};
+use std::alloc::Global;
+use std::snapshot::Snapshot;
+use store_promise::{Cause, Changed, Committing, Step, Verdict};
+use txn::{Change, Commit, Core, Receipt, Seq, Tx};
 
 impl State {
     ghost use Rattle.model.specs.Calls.{is_answered_stable};
     ghost use Rattle.store_images.specs.Counts.{SameFrame};
+    ghost use Rattle.store_workers.specs.Notes.{IsNoted, committed_as, copied};
     ghost use Rattle.store_workers.specs.Worker.{IsSound, IsHeld};
     ghost use Rattle.store_workers.specs.WorkerAnswers.{after_commit, committed, committing_of};
-    ghost use Rattle.store_workers.specs.WorkerAnswers.{told_of, with_entry};
-    ghost use Rattle.store_workers.specs.WorkerAnswers.{with_replies};
+    ghost use Rattle.store_workers.specs.WorkerAnswers.{told_of, with_replies};
     ghost use Rattle.store_workers.specs.WorkerSteps.{EndsBy, side};
     ghost use Rattle.txn.specs.CoreWindow.{KeepsHome, KeepsReads};
+    ghost use Rattle.txn.specs.Outcomes.{IsGiven};
 
-    // Commits what the plan ended in. The replies are made before.
+    // Commits what the plan ended in. The copy of its reply that a note needs is made before.
     pub(super) fn commit(
         &mut self,
         alloc: Global,
         core: &mut Core<Done>,
         tx: Tx,
         done: Done,
+        note: &mut Note,
     ) -> Step
         requires { IsHeld self.old }
         ensures sound { IsSound self.new }
         ensures frame { SameFrame core.old core.new }
         ensures step { EndsBy tx done (side self.old core.old) result (side self.new core.new) }
+        ensures note { IsNoted (Some result) self.new note.old note.new }
         ensures home { KeepsHome core.old core.new }
         ensures stays { (other : ℕ) → (other ≡ tx → ⊥) → KeepsReads core.old core.new other }
     {
-        let Ok((told, kept)) = twice(done.reply()) else {
+        let Ok(copy) = note.copy_of(done.reply()) else {
             return self.lack(core, tx);
         };
         done.finished();
+        let plan = Snapshot::of(&done);
         let blocks = Changed::of(&blocks_of_objects(done.written()));
         let answer = core.commit(alloc, tx, done);
-        let committing = self.ended(told, kept, answer);
+        let committing = self.ended(plan, answer, copy, note);
         Step::Commit(blocks, committing)
     }
 
-    // Goes on by what came of a commit, of a plan with this reply, of which there are two copies.
-    fn ended(&mut self, told: Reply, kept: Reply, answer: Commit<Done>) -> Committing
+    // Goes on by what came of the commit of a plan, of whose reply there is a copy where a note is wanted.
+    fn ended(
+        &mut self,
+        plan: Snapshot<Done>,
+        answer: Commit<Done>,
+        copy: Option<Reply>,
+        note: &mut Note,
+    ) -> Committing
         requires job { is_some self.old.work.job ≡ true }
-        requires same { kept ≡ told }
         requires none { (self.old.begun.tx ≡ None) × (self.old.begun.io ≡ None) }
+        requires given { IsGiven plan.value answer }
+        requires copy { copy ≡ copied note.old.wanted plan.value.reply }
         ensures committing { result ≡ committing_of answer }
-        ensures state { IfSome self.old.work.job (λ job. self.new ≡ after_commit job told answer self.old) }
+        ensures state { IfSome self.old.work.job
+            (λ job. self.new ≡ after_commit job plan.value.reply answer self.old) }
+        ensures note { note.old.wanted ≡ true → note.old.entry ≡ None
+            → note.new.entry ≡ committed_as result self.new }
     {
+        let _ = plan;
         match answer {
-            Commit::Committed(receipt) => {
-                let place = receipt.place();
-                self.committed(place, told, kept);
-                Committing::Committed(place)
-            }
-            Commit::Full(tx, _) => {
-                self.go_on(tx, Phase::Planning);
+            Commit::Committed(receipt) => self.committed(receipt, copy, note),
+            Commit::Full(tx, change) => {
+                self.come_back(tx, change, Phase::Planning);
                 Committing::Full
             }
-            Commit::Foreign(tx, _) => {
+            Commit::Foreign(tx, change) => {
                 self.known.not_off();
-                self.go_on(tx, Phase::Again);
+                self.come_back(tx, change, Phase::Again);
                 Committing::Foreign
             }
-            Commit::NoMemory(tx, _) => {
-                self.go_on(tx, Phase::Refused(Cause::NoMemory));
+            Commit::NoMemory(tx, change) => {
+                self.come_back(tx, change, Phase::Refused(Cause::NoMemory));
                 Committing::NoMemory
             }
-            Commit::Broken(tx, _) => {
-                self.go_on(tx, Phase::Refused(Cause::Io));
+            Commit::Broken(tx, change) => {
+                self.come_back(tx, change, Phase::Refused(Cause::Io));
                 Committing::Broken
             }
-            Commit::Spent(tx, _) => {
-                self.go_on(tx, Phase::Refused(Cause::Spent));
+            Commit::Spent(tx, change) => {
+                self.come_back(tx, change, Phase::Refused(Cause::Spent));
                 Committing::Spent
             }
         }
     }
 
-    // The procedure was committed at this place. It is answered at once, or when its place is settled.
-    fn committed(&mut self, place: Seq, told: Reply, kept: Reply)
+    // The worker goes on with its transaction, whose change wasn't committed and is let go.
+    fn come_back(&mut self, tx: Tx, change: Done, phase: Phase)
+        requires { self.old.begun.tx ≡ None }
+        ensures { self.new ≡ record self.old {
+          phase = phase;
+          begun = record self.old.begun { tx = Some tx };
+        } }
+    {
+        drop(change);
+        self.go_on(tx, phase);
+    }
+
+    // The procedure was committed, as the receipt shows. It is answered at once, or when its place is settled, and
+    // the worker has no call any more.
+    fn committed(
+        &mut self,
+        receipt: Receipt<Done>,
+        copy: Option<Reply>,
+        note: &mut Note,
+    ) -> Committing
         requires job { is_some self.old.work.job ≡ true }
-        requires same { kept ≡ told }
-        ensures { IfSome self.old.work.job (λ job. self.new ≡ committed job told place self.old) }
+        requires copy { copy ≡ copied note.old.wanted receipt.change.reply }
+        ensures committing { result ≡ committing.Committed receipt.place }
+        ensures state { IfSome self.old.work.job
+            (λ job. self.new ≡ committed job receipt.change.reply receipt.place self.old) }
+        ensures note { note.old.wanted ≡ true → note.new.entry ≡ self.new.work.entry }
     {
         let Some(job) = self.work.job.take() else {
             unreachable!();
         };
-        self.tell(&job, place, told);
-        self.note_entry(job, kept);
+        let place = receipt.place();
+        let reply = receipt.into_change().into_reply();
+        self.work.entry = LastEntry::of(&job, &reply);
+        self.tell(&job, place, reply);
+        note.take(job, copy);
+        Committing::Committed(place)
     }
 
     // Answers the reply of the procedure, or keeps it until its place is settled.
-    fn tell(&mut self, job: &Job, place: Seq, told: Reply)
-        ensures { self.new ≡ told_of (is_answered_stable job.now.call) job.now told place self.old }
+    fn tell(&mut self, job: &Job, place: Seq, reply: Reply)
+        ensures { self.new ≡ told_of (is_answered_stable job.now.call) job.now reply place self.old }
     {
         if is_answered_stable(&job.call) {
-            self.wait_for(job, place, told);
+            self.wait_for(job, place, reply);
         } else {
-            self.give(Verdict::Reply(told), Some(place));
+            self.give(Verdict::Reply(reply), Some(place));
         }
     }
 
     // The procedure is answered once its place is settled: so, or, if the store breaks before, by IO.
-    fn wait_for(&mut self, job: &Job, place: Seq, told: Reply)
-        ensures { self.new ≡ with_replies job.now told place self.old }
+    fn wait_for(&mut self, job: &Job, place: Seq, reply: Reply)
+        ensures { self.new ≡ with_replies job.now reply place self.old }
     {
         let broken = refused_reply(&job.call, Status::Io);
-        drop(self.work.reply.replace(told));
+        drop(self.work.reply.replace(reply));
         drop(self.work.broken_reply.replace(broken));
         self.asked.wait_with(job);
         self.phase = Phase::Waiting(place);
     }
-
-    // The entry of a committed procedure lies ready to be taken, and the worker has no call any more.
-    fn note_entry(&mut self, job: Job, reply: Reply)
-        requires { self.old.work.job ≡ None }
-        ensures { self.new ≡ with_entry job reply self.old }
-    {
-        let Job { ctx, call } = job;
-        drop(self.work.entry.replace(Entry { ctx, call, reply }));
-    }
-}
-
-// Two copies of a reply: one is answered, and one is kept for the history.
-fn twice(reply: &Reply) -> Result<(Reply, Reply), AllocError>
-    ensures { IfOk result (λ both. (both.0 ≡ reply.now) × (both.1 ≡ reply.now)) }
-{
-    Ok((reply.clone()?, reply.clone()?))
 }

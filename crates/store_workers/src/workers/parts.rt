@@ -6,9 +6,10 @@ ghost use Rattle.store_images.specs.Fetches.{FetchesOnly, KeepsFetches};
 
 use super::asked::Asked;
 use super::known::Known;
+use super::last_entry::LastEntry;
 use nfs_types::{Call, Ctx, Reply};
 use procs::{Done, Snap};
-use store_promise::{CallAnswer, Cause, Entry};
+use store_promise::{CallAnswer, Cause};
 use txn::{Core, FetchIo, Seq, Tx};
 
 // A call that was handed over, with what its procedure is run with.
@@ -57,7 +58,7 @@ pub(crate) struct Work {
     // broken.
     pub(crate) reply: Option<Reply>,
     pub(crate) broken_reply: Option<Reply>,
-    pub(crate) entry: Option<Entry>,
+    pub(crate) entry: LastEntry,
     pub(crate) answer: Option<CallAnswer>,
 }
 

@@ -3,6 +3,7 @@
 ghost use Rattle.std.specs.Prelude.{◌≡◌, ◌⊎◌, ℕ, None, Some, [], true, length};
 ghost use Rattle.store_promise.specs.declared.aims.Aim.TheVariants as aim;
 
+use super::note::Note;
 use super::parts::{Phase, State};
 use crate::options::put;
 use disk::BlockNo;
@@ -17,6 +18,7 @@ impl State {
     ghost use Rattle.store_images.specs.Counts.{SameFrame};
     ghost use Rattle.store_workers.specs.Phases.{is_planned};
     ghost use Rattle.store_workers.specs.Knowing.{IsNextOf, first_of};
+    ghost use Rattle.store_workers.specs.Notes.{IsNoted};
     ghost use Rattle.store_workers.specs.Seen.{seen_in};
     ghost use Rattle.store_workers.specs.Stages.{HasSoundJob};
     ghost use Rattle.store_workers.specs.Worker.{IsSound, HasBytes, HasRoom, HasRoomFor, IsHeld};
@@ -31,7 +33,12 @@ impl State {
     ghost use Rattle.txn.specs.CoreWindow.{KeepsHome, KeepsReads};
 
     // Takes again the first of what is left, or goes by the plan.
-    pub(super) fn go_within(&mut self, alloc: Global, core: &mut Core<Done>) -> Step
+    pub(super) fn go_within(
+        &mut self,
+        alloc: Global,
+        core: &mut Core<Done>,
+        note: &mut Note,
+    ) -> Step
         requires sound { IsSound self.old }
         requires asked { ∥ HasSoundJob self.old ∥₁ }
         requires phase { self.old.phase ≡ Planning }
@@ -39,12 +46,13 @@ impl State {
         ensures frame { SameFrame core.old core.new }
         ensures step { GoesByPlan (side self.old core.old) result (side self.new core.new)
             ⊎ TakesAgain (side self.old core.old) result (side self.new core.new) }
+        ensures note { IsNoted (Some result) self.new note.old note.new }
         ensures home { KeepsHome core.old core.new }
         ensures stays { KeepsReadsOf (side self.old core.old) (side self.new core.new) }
     {
         match self.known.next() {
             Some(next) => self.take_again(alloc, core, next),
-            None => self.go_by_plan(alloc, core),
+            None => self.go_by_plan(alloc, core, note),
         }
     }
 
@@ -67,7 +75,7 @@ impl State {
     }
 
     // Makes the step that the plan asks for. Where the plan finds no memory the transaction is ended.
-    fn go_by_plan(&mut self, alloc: Global, core: &mut Core<Done>) -> Step
+    fn go_by_plan(&mut self, alloc: Global, core: &mut Core<Done>, note: &mut Note) -> Step
         requires sound { IsSound self.old }
         requires asked { ∥ HasSoundJob self.old ∥₁ }
         requires phase { self.old.phase ≡ Planning }
@@ -75,6 +83,7 @@ impl State {
         ensures sound { IsSound self.new }
         ensures frame { SameFrame core.old core.new }
         ensures step { GoesByPlan (side self.old core.old) result (side self.new core.new) }
+        ensures note { IsNoted (Some result) self.new note.old note.new }
         ensures home { KeepsHome core.old core.new }
         ensures stays { KeepsReadsOf (side self.old core.old) (side self.new core.new) }
     {
@@ -83,7 +92,7 @@ impl State {
         match next {
             Plan::Need(addr, mode) => self.want(alloc, core, tx, addr, mode),
             Plan::Claim(block) => self.claim(core, tx, block),
-            Plan::Done(done) => self.commit(alloc, core, tx, done),
+            Plan::Done(done) => self.commit(alloc, core, tx, done, note),
             Plan::NoMemory => self.lack(core, tx),
         }
     }

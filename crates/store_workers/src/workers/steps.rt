@@ -2,6 +2,7 @@
 ghost use Rattle.std.specs.Prelude.{◌≡◌, ◌<◌, ℕ, Some, None, true, is_some, IfSome};
 ghost use Rattle.store_promise.specs.Verdicts.{cause_of, refusal};
 
+use super::note::Note;
 use super::parts::{Job, Phase, State};
 use crate::options::put;
 use disk::CrashDisk;
@@ -18,6 +19,7 @@ impl State {
     ghost use Rattle.store_workers.specs.declared.workers.parts.Phase.TheVariants.{Read, Refused, Again};
     ghost use Rattle.store_workers.specs.declared.workers.parts.Phase.TheVariants.{Waiting};
     ghost use Rattle.store_images.specs.Counts.{SameFrame};
+    ghost use Rattle.store_workers.specs.Notes.{IsNoted};
     ghost use Rattle.store_workers.specs.Stages.{HasSoundJob};
     ghost use Rattle.store_workers.specs.Worker.{IsSound, with_call};
     ghost use Rattle.store_workers.specs.WorkerAnswers.{with_answer};
@@ -26,20 +28,26 @@ impl State {
     ghost use Rattle.store_workers.specs.WorkerSteps.{HasToldBroken, HasToldReply};
     ghost use Rattle.store_workers.specs.WorkerSteps.{KeepsHomeOf, KeepsReadsOf, Refuses, Waits, side};
 
-    // Makes the next step.
-    pub(super) fn step(&mut self, alloc: Global, core: &mut Core<Done>) -> Option<Step>
+    // Makes the next step, with a note of it where one is wanted.
+    pub(super) fn step(
+        &mut self,
+        alloc: Global,
+        core: &mut Core<Done>,
+        note: &mut Note,
+    ) -> Option<Step>
         requires sound { IsSound self.old }
         requires asked { ∥ HasSoundJob self.old ∥₁ }
         ensures sound { IsSound self.new }
         ensures frame { SameFrame core.old core.new }
         ensures step { GoesOn self.old.phase (side self.old core.old) result (side self.new core.new) }
+        ensures note { IsNoted result self.new note.old note.new }
         ensures home { KeepsHomeOf (side self.old core.old) (side self.new core.new) }
         ensures stays { KeepsReadsOf (side self.old core.old) (side self.new core.new) }
     {
         match self.phase {
             Phase::Idle | Phase::Reading => None,
             Phase::Called => Some(self.begin(alloc, core)),
-            Phase::Planning => Some(self.go_within(alloc, core)),
+            Phase::Planning => Some(self.go_within(alloc, core, note)),
             Phase::Read(ok) => Some(self.give_back(core, ok)),
             Phase::Refused(why) => Some(self.refuse(core, why)),
             Phase::Again => Some(self.begin_again(core)),

@@ -4,7 +4,6 @@ use Rattle.store.specs.Calling.{IsCalling}
 use Rattle.store_images.specs.Opening.{store_of}
 use Rattle.store_workers.specs.declared.workers.parts.State.{State}
 use Rattle.store.proofs.CallEvents.{answered}
-use Rattle.store.proofs.Driven.{taken_both}
 use Rattle.store.proofs.one_call.answer.Goals as goal
 
 pub returns-in-Some-clause-boot : goal.returns-in-Some-clause-boot
@@ -35,7 +34,6 @@ steps-preserved g c = (
       let store = c.go_on.new.store in
       let so_far = c.steps.invariant.6 o (c.go_on.ensures.model keeps) calling in
       subst (λ (s : State). IsCalling o (store_of (g.D.CrashDisk.device store.disk) store.core store.boot) s)
-      (sym (taken_both c.go_on.new.worker.state c.take_answer.new.self.state c.take_entry.new.self.state
-      c.take_answer.ensures.rest c.take_entry.ensures.rest))
+      (sym c.take_answer.ensures.rest)
       (c.go_on.ensures.going o keeps so_far).calling,
 )

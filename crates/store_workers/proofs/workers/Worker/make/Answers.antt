@@ -2,7 +2,7 @@ use Rattle.std.proofs.Math.Logic.{∥∥₁_map}
 use Rattle.store_workers.specs.WorkerSteps.{side}
 use Rattle.store_workers.proofs.StillAsked.{still_asked}
 use Rattle.store_workers.proofs.StillFits.{still_fits}
-use Rattle.store_workers.proofs.workers.Worker.step.Goals as goal
+use Rattle.store_workers.proofs.workers.Worker.make.Goals as goal
 
 pub invariant_of-self-clause-asked : goal.invariant_of-self-clause-asked
 invariant_of-self-clause-asked c = ∥∥₁_map c.args.self.now.asked (λ asked.
