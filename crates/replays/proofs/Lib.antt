@@ -1,0 +1,5 @@
+pub mod Put
+pub mod AtHome
+pub mod Reading
+pub mod Begun
+pub mod Entries
