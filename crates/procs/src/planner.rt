@@ -11,7 +11,7 @@ use crate::next::Plan;
 use crate::work::plan;
 use disk::BlockNo;
 use inode::Snap;
-use layout::Geometry;
+use layout::{Geometry, PIECE_BITS};
 use nfs_types::{Call, Ctx};
 use objects::{Addr, Mode, SharedBytes};
 use std::alloc::{AllocError, Global};
@@ -25,14 +25,15 @@ pub struct Planner {
 }
 
 impl Planner {
-    /// Nothing was read yet.
-    pub fn new(alloc: Global, geometry: Geometry) -> Planner
+    /// Nothing was read yet, and free blocks are looked for from a piece of their bitmap on.
+    pub fn new(alloc: Global, geometry: Geometry, from: u32) -> Planner
         ensures geometry { result.snap.geometry ≡ geometry }
         ensures objects { result.snap.objects.items ≡ [] }
         ensures claims { result.snap.claims.items ≡ [] }
+        ensures from { result.snap.from ≡ from }
     {
         Planner {
-            snap: Snap::new(alloc, geometry),
+            snap: Snap::new(alloc, geometry, from),
             ahead: Ahead::Nothing,
         }
     }
@@ -67,6 +68,15 @@ impl Planner {
         ensures objects { self.new.snap.objects.items ≡ self.old.snap.objects.items }
     {
         self.snap.claimed(block);
+    }
+
+    /// The piece of the bitmap in which the last block was claimed, or, if none was, from which free blocks are looked for:
+    /// where the next call may look for them first.
+    pub fn room(&self) -> u32 {
+        match self.snap.claims.last() {
+            Some(block) => block.0 / PIECE_BITS,
+            None => self.snap.from,
+        }
     }
 
     /// What a call needs next, or what comes of it, by what was read so far: what `plan` answers. The procedure is run
