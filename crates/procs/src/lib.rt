@@ -1,12 +1,14 @@
 //! The procedures: what is to be read for a call, and what comes of it.
 #![tactic(auto)]
 
+mod ahead;
 mod asks;
 mod changing;
 mod done;
 mod draft;
 mod ends;
 mod next;
+mod planner;
 mod reading;
 mod refused;
 mod rules;
@@ -21,6 +23,7 @@ pub use done::Done;
 pub use ends::{a_reply_that_no_step_has_is_no_plan, other_bytes_than_the_files_are_no_plan};
 pub use inode::Snap;
 pub use next::Plan;
+pub use planner::Planner;
 pub use refused::refused_reply;
 pub use rules::{begins_transaction, is_answered_stable};
 pub use work::plan;

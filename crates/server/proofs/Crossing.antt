@@ -12,7 +12,7 @@ use Rattle.std.specs.declared.sync.ledger.Ledger
 use Rattle.crossbeam_channel.proofs.channel.Receiver.TheSendSync as receiver
 use Rattle.crossbeam_channel.proofs.channel.Sender.TheSendSync as sender
 use Rattle.http_server.proofs.log.Log.TheSendSync as logs
-use Rattle.inode.proofs.snap.Snap.TheSendSync as snap
+use Rattle.procs.proofs.planner.Planner.TheSendSync as planner
 use Rattle.locks.proofs.table.Table.TheSendSync as table
 use Rattle.objects.proofs.residency.Residency.TheSendSync as residency
 use Rattle.wal.proofs.memory.Wal.TheSendSync as wal
@@ -70,7 +70,7 @@ worker_send = struct_send (Declared.shape Worker.the_type) (
     reply.the_send,
     call.the_field_send,
     ctx.the_field_send,
-    snap.the_send,
+    planner.the_send,
     aim.the_send,
     entry.the_send,
     given.the_send,

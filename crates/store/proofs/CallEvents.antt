@@ -419,20 +419,20 @@ again_goes o now worker stepped planning with =
           notes = tt;
         };
         so_far = so_far_again o now was.entry worker.work.job
-            (begun_of worker.begun.tx (seen_in worker.work.snap) worker.known)
-            (begun_of worker.begun.tx (seen_in worker.work.snap) nothing_known) refl
+            (begun_of worker.begun.tx (seen_in worker.work.planner) worker.known)
+            (begun_of worker.begun.tx (seen_in worker.work.planner) nothing_known) refl
             (subst (λ (p : phases.Phase). IsSoFar o was.entry now (progress_in p worker.work.job
-            (begun_of worker.begun.tx (seen_in worker.work.snap) worker.known) worker.asked worker.known)) planning
+            (begun_of worker.begun.tx (seen_in worker.work.planner) worker.known) worker.asked worker.known)) planning
             was.so_far);
         counted = was.counted;
         further = was.further;
         broken = was.broken;
       };
       ends = λ some. ends_again worker.work.job
-          (begun_of worker.begun.tx (seen_in worker.work.snap) worker.known)
-          (begun_of worker.begun.tx (seen_in worker.work.snap) nothing_known)
+          (begun_of worker.begun.tx (seen_in worker.work.planner) worker.known)
+          (begun_of worker.begun.tx (seen_in worker.work.planner) nothing_known)
           (subst (λ (p : phases.Phase). is_idle (progress_in p worker.work.job
-          (begun_of worker.begun.tx (seen_in worker.work.snap) worker.known) worker.asked worker.known)
+          (begun_of worker.begun.tx (seen_in worker.work.planner) worker.known) worker.asked worker.known)
           ≡ true) planning (stepped.ends some));
       answer = stepped.answer;
     }
@@ -494,7 +494,7 @@ none_of : (P : WorkJob → Type 0) (found : Option WorkJob) (stage : Stage) → 
 none_of P found stage has idle = let (job, is, rest) = some_of found has in no_stage found job stage is idle
 
 idle_by : (boot : ℕ) (done : List Entry) (state : State) (phase : phases.Phase) → StandsAt boot done phase state
-    → is_idle (progress_in phase state.work.job (begun_of state.begun.tx (seen_in state.work.snap)
+    → is_idle (progress_in phase state.work.job (begun_of state.begun.tx (seen_in state.work.planner)
     state.known) state.asked state.known) ≡ true
     → phase ≡ Phase.Idle
 idle_by boot done state Phase.Idle stands idle = refl

@@ -412,7 +412,7 @@ module _ (o : Outset) (now : Opened) (worker : State) (new : Side) (made : Optio
         where
           phase_is : worker.phase ≡ Phase.Called
           phase_is = phase_called worker.phase worker.work.job
-              (begun_of worker.begun.tx (seen_in worker.work.snap) worker.known) worker.asked worker.known job known
+              (begun_of worker.begun.tx (seen_in worker.work.planner) worker.known) worker.asked worker.known job known
               (so_far ∙ ap (λ (at : Stage). At job at) stage_is)
 
           core_is : new.core ≡ now.core

@@ -49,7 +49,7 @@ use Rattle.store_promise.specs.declared.events.Cause.{Cause}
 use Rattle.store_promise.specs.declared.events.Step.{Step}
 use Rattle.store_promise.specs.declared.events.Step.TheVariants as step
 use Rattle.store.proofs.AtHand.{at_most_all, fewer_away}
-use Rattle.store_workers.proofs.LoneWorker.{has_of, seen_of}
+use Rattle.store_workers.proofs.LoneWorker.{has_of}
 use Rattle.store.proofs.LogRoom.{no_room}
 use Rattle.store_workers.proofs.StepKinds.{Beginning, IsTold, beginning, ending}
 use Rattle.store_workers.proofs.StepKinds.{begun, refused, replied, lacked, committed}
@@ -65,7 +65,7 @@ use Rattle.store.specs.Driving.{whole_round}
 use Rattle.store_images.specs.Counts.{SameFrame}
 use Rattle.store_images.specs.Opening.{IsSettled}
 use Rattle.store_images.specs.Settling.{SameNumbers}
-use Rattle.store_workers.specs.Seen.{Seen, seen_in, with_claim, with_object}
+use Rattle.store_workers.specs.Seen.{Seen, seen_in, seen_of, with_claim, with_object}
 use Rattle.store_workers.specs.WorkerAnswers.{after_commit, begun_wanted, claim_wish, committing_of}
 use Rattle.store_workers.specs.WorkerAnswers.{phase_claimed, phase_wanted, seen_claimed, seen_wanted}
 use Rattle.store_workers.specs.WorkerAnswers.{told_of, wish_of, with_answer}
@@ -140,7 +140,7 @@ pub record IsToRead (old new : Side) : Type 0 where
   pub fetched : IsFetched old.core tx addr mode io new.core
   pub within : addr.block.0 < old.core.log.blocks
   pub job : new.worker.work.job ≡ old.worker.work.job
-  pub seen : seen_in new.worker.work.snap ≡ seen_in old.worker.work.snap
+  pub seen : seen_in new.worker.work.planner ≡ seen_in old.worker.work.planner
   pub entry : new.worker.work.entry ≡ old.worker.work.entry
   pub answer : new.worker.work.answer ≡ old.worker.work.answer
 
@@ -177,12 +177,12 @@ goes_by phase old made what new on is unkept none =
 
 -- ---- what was read
 
-untaken_is : (work : Work) (seen : Seen) (blocks : ℕ) → seen_in work.snap ≡ Some seen
+untaken_is : (work : Work) (seen : Seen) (blocks : ℕ) → seen_in work.planner ≡ Some seen
     → untaken work blocks ≡ most_taken blocks - (length seen.objects + length seen.claims)
 untaken_is work seen blocks seen_is = ap (λ (o : Option Seen). most_taken blocks - count_of o) seen_is
 
 untaken_within : (work : Work) (blocks : ℕ) → untaken work blocks ≤ most_taken blocks
-untaken_within work blocks = within (most_taken blocks) (count_of (seen_in work.snap))
+untaken_within work blocks = within (most_taken blocks) (count_of (seen_in work.planner))
   where
     within : (a b : ℕ) → a - b ≤ a
     within a b = omega arith
@@ -194,7 +194,7 @@ all_taken objects claims blocks few fewer = omega (arith, few, fewer)
 
 -- with one more that was taken less is left
 less_taken : (old new : Side) (snap : Snap) (now_seen : Seen)
-    → seen_in old.worker.work.snap ≡ seen_in (Some snap) → seen_in new.worker.work.snap ≡ Some now_seen
+    → seen_in old.worker.work.planner ≡ Some (seen_of snap) → seen_in new.worker.work.planner ≡ Some now_seen
     → new.core.log ≡ old.core.log
     → count_of (Some now_seen) ≡ length snap.objects.items + length snap.claims.items + 1
     → length snap.objects.items + length snap.claims.items + 1 ≤ most_taken old.core.log.blocks
@@ -264,7 +264,7 @@ called old new made (replied made_is is) =
 
 module _ (old new : Side) (addr : Addr) (mode : Mode) (job : Job) (tx : ℕ) (snap : Snap)
     (job_is : old.worker.work.job ≡ Some job)
-    (snap_is : seen_in old.worker.work.snap ≡ seen_in (Some snap))
+    (snap_is : seen_in old.worker.work.planner ≡ Some (seen_of snap))
     (has : HasOfCall tx old.core (seen_of snap))
     (is_plan : IsPlanFor snap (plan.Need addr mode))
     (same_job : new.worker.work.job ≡ old.worker.work.job) where
@@ -272,7 +272,7 @@ module _ (old new : Side) (addr : Addr) (mode : Mode) (job : Job) (tx : ℕ) (sn
   left = left_in Planning old.worker.work old.core
 
   held : (bytes : List ℕ) → new.worker.phase ≡ Planning → new.core.log ≡ old.core.log
-      → seen_in new.worker.work.snap ≡ with_object addr bytes (seen_in old.worker.work.snap)
+      → seen_in new.worker.work.planner ≡ with_object addr bytes (seen_in old.worker.work.planner)
       → HasGoneOn left new.worker new.core
   held bytes phase log seen = nearer left new.worker new.core Planning phase tt less
     where
@@ -302,7 +302,7 @@ module _ (old new : Side) (addr : Addr) (mode : Mode) (job : Job) (tx : ℕ) (sn
       → made ≡ step.Wanted addr mode (wish_of answer)
       → IsWanted old.core tx addr mode answer new.core → new.worker.phase ≡ phase_wanted addr mode answer old.worker.known
       → new.worker.begun ≡ begun_wanted answer
-      → seen_in new.worker.work.snap ≡ seen_wanted [] addr answer (seen_in old.worker.work.snap)
+      → seen_in new.worker.work.planner ≡ seen_wanted [] addr answer (seen_in old.worker.work.planner)
       → new.worker.work.entry ≡ old.worker.work.entry → new.worker.work.answer ≡ old.worker.work.answer
       → Came Planning old (Some made) new
   wanted made free (want.Held back bytes) made_is core phase got seen entry answer =
@@ -337,14 +337,14 @@ module _ (old new : Side) (addr : Addr) (mode : Mode) (job : Job) (tx : ℕ) (sn
 -- ---- a wish to claim
 
 module _ (old new : Side) (block : BlockNo) (addr : Addr) (tx : ℕ) (snap : Snap)
-    (snap_is : seen_in old.worker.work.snap ≡ seen_in (Some snap))
+    (snap_is : seen_in old.worker.work.planner ≡ Some (seen_of snap))
     (has : HasOfCall tx old.core (seen_of snap))
     (is_plan : IsPlanFor snap (plan.Claim block)) where
   abbrev left_to_claim : ℕ
   left_to_claim = left_in Planning old.worker.work old.core
 
   claim_held : new.worker.phase ≡ Planning → new.core.log ≡ old.core.log
-      → seen_in new.worker.work.snap ≡ with_claim block (seen_in old.worker.work.snap)
+      → seen_in new.worker.work.planner ≡ with_claim block (seen_in old.worker.work.planner)
       → HasGoneOn left_to_claim new.worker new.core
   claim_held phase log seen = nearer left_to_claim new.worker new.core Planning phase tt
       (less_taken old new snap now_seen snap_is (seen ∙ ap (with_claim block) snap_is) log more within)
@@ -368,7 +368,7 @@ module _ (old new : Side) (block : BlockNo) (addr : Addr) (tx : ℕ) (snap : Sna
   claimed : (made : Step) → is_kept_off (Some made) ≡ false → (answer : Claim)
       → made ≡ step.Claimed block (claim_wish answer)
       → IsClaimed old.core tx addr answer new.core → new.worker.phase ≡ phase_claimed block answer old.worker.known
-      → seen_in new.worker.work.snap ≡ seen_claimed [] block answer (seen_in old.worker.work.snap)
+      → seen_in new.worker.work.planner ≡ seen_claimed [] block answer (seen_in old.worker.work.planner)
       → Came Planning old (Some made) new
   claimed made free (claim.Held back) made_is core phase seen =
       goes_by Planning old made _ new (claim_held phase (ap (λ (c : CoreState). c.log) core.2.only) seen)
@@ -470,13 +470,13 @@ goes old new tx made next tx_is none is taken free goes_so = of_next next is.pla
         (has_of old.worker old.core is.job tx (seen_of is.snap) is.job_is tx_is is.snap_is taken) planned
         (ap (λ (s : State). s.work.job) wish.worker) made free wish.answer wish.made_is wish.core
         (ap (λ (s : State). s.phase) wish.worker) (ap (λ (s : State). s.begun) wish.worker)
-        (wish.seen ∙ ap (λ (left : List Aim). seen_wanted left addr wish.answer (seen_in old.worker.work.snap)) none)
+        (wish.seen ∙ ap (λ (left : List Aim). seen_wanted left addr wish.answer (seen_in old.worker.work.planner)) none)
         (ap (λ (s : State). s.work.entry) wish.worker) (ap (λ (s : State). s.work.answer) wish.worker)
     of_next (plan.Claim block) planned wish =
         claimed old new block wish.core.0 tx is.snap is.snap_is
         (has_of old.worker old.core is.job tx (seen_of is.snap) is.job_is tx_is is.snap_is taken) planned
         made free wish.answer wish.made_is wish.core.2 (ap (λ (s : State). s.phase) wish.worker)
-        (wish.seen ∙ ap (λ (left : List Aim). seen_claimed left block wish.answer (seen_in old.worker.work.snap)) none)
+        (wish.seen ∙ ap (λ (left : List Aim). seen_claimed left block wish.answer (seen_in old.worker.work.planner)) none)
     of_next (plan.Done done) planned end = elim (ending old new tx done made end) [
       | lacked has ↦ lacked_so old new tx made has
       | committed job job_is has ↦
@@ -598,8 +598,8 @@ given old mid new is read back made same work true has =
     left : ℕ
     left = left_in Planning old.worker.work old.core
 
-    seen : seen_in new.worker.work.snap ≡ seen_in old.worker.work.snap
-    seen = ap (λ (s : State). seen_in s.work.snap) has.worker ∙ ap (λ (w : Work). seen_in w.snap) work ∙ is.seen
+    seen : seen_in new.worker.work.planner ≡ seen_in old.worker.work.planner
+    seen = ap (λ (s : State). seen_in s.work.planner) has.worker ∙ ap (λ (w : Work). seen_in w.snap) work ∙ is.seen
 
     log : new.core.log ≡ old.core.log
     log = ap (λ (c : CoreState). c.log) has.only ∙ ap (λ (c : CoreState). c.log) is.fetched.only
@@ -610,8 +610,8 @@ given old mid new is read back made same work true has =
     count : Option Seen → Log → ℕ
     count s l = rounds_left l + (3 + ((most_taken l.blocks - count_of s) * (l.blocks + 1) + away new.core))
 
-    now : left_in Planning new.worker.work new.core ≡ count (seen_in old.worker.work.snap) old.core.log
-    now = ap (λ s. count s new.core.log) seen ∙ ap (λ l. count (seen_in old.worker.work.snap) l) log
+    now : left_in Planning new.worker.work new.core ≡ count (seen_in old.worker.work.planner) old.core.log
+    now = ap (λ s. count s new.core.log) seen ∙ ap (λ l. count (seen_in old.worker.work.planner) l) log
 
     less : left_in Planning new.worker.work new.core < left
     less =

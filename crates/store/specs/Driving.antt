@@ -47,7 +47,7 @@ count_of (Some seen) = length seen.objects + length seen.claims
 
 -- how much more may be taken
 abbrev pub untaken : Work → ℕ → ℕ
-untaken work blocks = most_taken blocks - count_of (seen_in work.snap)
+untaken work blocks = most_taken blocks - count_of (seen_in work.planner)
 
 -- What is read or claimed leaves less to take, and each block that is fetched fewer that aren't at hand.
 abbrev pub reads_left : Work → CoreState → ℕ

@@ -37,7 +37,7 @@ use Rattle.store_promise.specs.declared.events.Step.TheVariants as step
 use Rattle.store_runs.proofs.AtWorkStays.{some_of}
 use Rattle.store_workers.proofs.WorkCases.{Cases, by_cases}
 use Rattle.store_runs.specs.AtWork.{HasTakenPlace, IsSeenIn, entry_by, fetches_in, fetches_of, has_committed}
-use Rattle.store_workers.specs.Seen.{Seen}
+use Rattle.store_workers.specs.Seen.{Seen, seen_of}
 use Rattle.store_workers.specs.Stages.{IsJobIn, IsWorkerAt, StandsAt}
 use Rattle.store_workers.specs.WorkerAnswers.{after_commit, begun_claimed, begun_wanted, committing_of}
 use Rattle.store_workers.specs.WorkerAnswers.{phase_claimed, phase_off, phase_wanted, told_of, with_answer}
@@ -179,10 +179,6 @@ module _ (old new : Side) (boot number : ℕ) (entries : List Committed) where
     inodes = next.plan.0.named.inodes;
     step = subst (λ (j : Job). IsStepOf next.snap.geometry j.ctx j.call done) same next.is_step;
   }
-
-  -- what was read and claimed
-  abbrev seen_of : Snap → Seen
-  seen_of snap = record { geometry = snap.geometry; objects = snap.objects.items; claims = snap.claims.items }
 
   was_seen : (snap : Snap) (object : ObjectBytes) → IsWritable snap object → IsSeenIn (seen_of snap) object
   was_seen snap object (inl read) = inl read

@@ -68,7 +68,7 @@ use Rattle.wal_law.proofs.Tail.{tail_length}
 use Rattle.store_promise.specs.LogTold.{added_told, tail_told_after}
 use Rattle.txn_law.proofs.Once.{once_of}
 use Rattle.store_runs.proofs.AtWorkStays.{some_of}
-use Rattle.store_workers.proofs.LoneWorker.{has_of, never_kept_off, seen_of}
+use Rattle.store_workers.proofs.LoneWorker.{has_of, never_kept_off}
 use Rattle.store_workers.proofs.PlansStay.{wish_by}
 use Rattle.store_workers.proofs.WorkCases.{Cases, IsWished, by_cases}
 use Rattle.store_workers.specs.Alone.{HasOfCall, LeavesNothing, PlansAlone, is_kept_off}
@@ -77,7 +77,7 @@ use Rattle.store_workers.specs.Knowing.{Knowing, known_in}
 use Rattle.store_runs.specs.AtWork.{IsAimLoaded, IsCoreAtWork, Loads, LoadsFor, NotesFor}
 use Rattle.store_runs.proofs.NamedBlocks.{named_alone}
 use Rattle.store_runs.proofs.KeptOff.{IsCaused}
-use Rattle.store_workers.specs.Seen.{Seen, seen_in}
+use Rattle.store_workers.specs.Seen.{Seen, seen_in, seen_of}
 use Rattle.store_workers.specs.Stages.{IsFetchOf, IsJobIn, IsWorkerAt, RunsIn, StandsAt, alone, at_fetch}
 use Rattle.store_workers.specs.Stages.{at_stage, begun_of}
 use Rattle.store_workers.specs.Stages.{progress_in, progress_of}
@@ -293,7 +293,7 @@ module _ (o : Setting) (told : Told) (number : ℕ) (base : Image) (store : Stor
   old = side worker store.core
 
   abbrev all_begun : Begun
-  all_begun = begun_of worker.begun.tx (seen_in worker.work.snap) worker.known
+  all_begun = begun_of worker.begun.tx (seen_in worker.work.planner) worker.known
 
   -- the step may be made by a worker that is so far
   abbrev MayFrom : Progress → Option Step → Type 0
@@ -337,7 +337,7 @@ module _ (o : Setting) (told : Told) (number : ℕ) (base : Image) (store : Stor
 
   -- it goes by a plan
   from_plan : (job : Job) (tx : ℕ) (seen : Seen) (made : Step) → worker.work.job ≡ Some job
-      → worker.begun.tx ≡ Some tx → seen_in worker.work.snap ≡ Some seen → worker.known.left ≡ []
+      → worker.begun.tx ≡ Some tx → seen_in worker.work.planner ≡ Some seen → worker.known.left ≡ []
       → IsStepByPlan o told number (begun_of (Some tx) (Some seen) worker.known) made
       → MayFrom (at_stage worker.work.job (how.Planning all_begun)) (Some made)
   from_plan job tx seen made job_is tx_is seen_is none may =
@@ -381,7 +381,7 @@ module _ (o : Setting) (told : Told) (number : ℕ) (base : Image) (store : Stor
             want_may told number store.core tx worker.known (out_in tx tx_is) loaded addr mode
                 (subst (λ (n : ℕ). IsHomeOn n addr.block) of_call.blocks
                 (at_home it.snap.geometry addr it.is_aim))
-                worker.begun.tx (seen_in worker.work.snap) new.core has.answer has.core caused,
+                worker.begun.tx (seen_in worker.work.planner) new.core has.answer has.core caused,
           )
 
   claimed_so : (tx : ℕ) (block : BlockNo) (made : Step) → worker.begun.tx ≡ Some tx
@@ -437,7 +437,7 @@ module _ (o : Setting) (told : Told) (number : ℕ) (base : Image) (store : Stor
   lacked_so tx made tx_is none has at plans loads stands caused = by worker.work.job plans
     where
       by : (job : Option Job) → IsSomeAnd job (λ job. IsSomeAnd worker.begun.tx (λ t.
-          IsSomeAnd (seen_in worker.work.snap) (λ seen. HasOfCall t store.core seen)))
+          IsSomeAnd (seen_in worker.work.planner) (λ seen. HasOfCall t store.core seen)))
           → MayFrom (at_stage job (how.Planning all_begun)) (Some (step.Ended ending.NoMemory))
       by None plans = absurd plans
       by (Some job) plans = subst (λ (left : List Aim). IsStepBeside left o told number all_begun

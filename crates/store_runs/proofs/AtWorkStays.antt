@@ -304,18 +304,18 @@ module _ (old new : Side) where
 
   full_so : (tx : ℕ) (job : Job) (done : Outcome) (base : State) (answer : Commit Outcome) (added : List BlockNo)
       → old.worker.begun.tx ≡ Some tx → base.work.job ≡ old.worker.work.job
-      → base.work.snap ≡ new.worker.work.snap
+      → base.work.planner ≡ new.worker.work.planner
       → IsCommit old.core tx (planned_of done) done answer new.core
       → new.worker ≡ after_commit job done.reply answer base
-      → seen_in new.worker.work.snap ≡ seen_in old.worker.work.snap
+      → seen_in new.worker.work.planner ≡ seen_in old.worker.work.planner
       → Full Planning (Some (step.Commit added (committing_of answer)))
   full_so tx job done base (commit.Full back change) added tx_is job_is snap_is core is seen room plans =
       subst (λ (p : Phase). PlansAlone p new.worker new.core) (sym (ap (λ (s : State). s.phase) is))
       (subst (λ (j : Option Job). IsSomeAnd j (λ job. IsSomeAnd new.worker.begun.tx (λ t.
-      IsSomeAnd (seen_in new.worker.work.snap) (λ s. HasOfCall t new.core s))))
+      IsSomeAnd (seen_in new.worker.work.planner) (λ s. HasOfCall t new.core s))))
       (sym (ap (λ (s : State). s.work.job) is ∙ job_is))
       (subst (λ (t : Option ℕ). IsSomeAnd old.worker.work.job (λ job. IsSomeAnd t (λ t.
-      IsSomeAnd (seen_in new.worker.work.snap) (λ s. HasOfCall t new.core s))))
+      IsSomeAnd (seen_in new.worker.work.planner) (λ s. HasOfCall t new.core s))))
       (tx_is ∙ ap (λ (n : ℕ). Some n) (sym core.0.transaction) ∙ sym (ap (λ (s : State). s.begun.tx) is))
       (subst (λ (found : Option Seen). IsSomeAnd old.worker.work.job (λ job. IsSomeAnd old.worker.begun.tx (λ t.
       IsSomeAnd found (λ s. HasOfCall t new.core s)))) (sym seen)

@@ -146,14 +146,14 @@ module _ (old new : CoreState) (kept : KeepsTransactions old new)
   same_taken : (worker : State) → HasTaken worker old → HasTaken worker new
   same_taken worker has =
       map_some (λ (job : Job). IsSomeAnd worker.begun.tx (λ tx.
-      IsSomeAnd (seen_in worker.work.snap) (λ seen. HasOfCall tx old seen)))
+      IsSomeAnd (seen_in worker.work.planner) (λ seen. HasOfCall tx old seen)))
       (λ (job : Job). IsSomeAnd worker.begun.tx (λ tx.
-      IsSomeAnd (seen_in worker.work.snap) (λ seen. HasOfCall tx new seen)))
+      IsSomeAnd (seen_in worker.work.planner) (λ seen. HasOfCall tx new seen)))
       worker.work.job (λ job.
-      map_some (λ (tx : ℕ). IsSomeAnd (seen_in worker.work.snap) (λ seen. HasOfCall tx old seen))
-      (λ (tx : ℕ). IsSomeAnd (seen_in worker.work.snap) (λ seen. HasOfCall tx new seen))
+      map_some (λ (tx : ℕ). IsSomeAnd (seen_in worker.work.planner) (λ seen. HasOfCall tx old seen))
+      (λ (tx : ℕ). IsSomeAnd (seen_in worker.work.planner) (λ seen. HasOfCall tx new seen))
       worker.begun.tx (λ tx.
-      map_some (HasOfCall tx old) (HasOfCall tx new) (seen_in worker.work.snap) (same_call job tx))) has
+      map_some (HasOfCall tx old) (HasOfCall tx new) (seen_in worker.work.planner) (same_call job tx))) has
 
   same_plans : (phase : Phase) (worker : State) → PlansAlone phase worker old → PlansAlone phase worker new
   same_plans Idle worker has = tt

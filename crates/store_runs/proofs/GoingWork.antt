@@ -478,7 +478,7 @@ module _ (b : Beginning) (number clock : ℕ) (store : StoreSide) (workers all_t
       counted = length-map before.history.items entry_of
 
       others : (j : Job) (begun : Begun) → progress_of worker ≡ At j (Planning begun) → (seen : Option Seen)
-          → seen_in worker.work.snap ≡ seen → IsSomeAnd seen
+          → seen_in worker.work.planner ≡ seen → IsSomeAnd seen
           (λ seen. All (IsSeenIn seen) goes_with.taken.plan.written)
           → KeepsOthers b.opened.size begun (file_blocks going.base store.core) now
       others j begun planned None is own = absurd own
@@ -510,7 +510,7 @@ module _ (b : Beginning) (number clock : ℕ) (store : StoreSide) (workers all_t
             (sym (late (length t.history + 1) (let same = counted in omega (arith, same))))
             (subst (λ (here : Image). KeepsOthers b.opened.size begun here now)
             (sym (early (length t.history) (let same = counted in omega (arith, same)) ∙ before_it))
-            (others j begun planned (seen_in worker.work.snap) refl goes_with.taken.own));
+            (others j begun planned (seen_in worker.work.planner) refl goes_with.taken.own));
         unnamed = λ block within lacks.
             ap (λ (image : Image). image block.0)
             (late (length t.history + 1) (let same = counted in omega (arith, same)) ∙ goes_with.writes)

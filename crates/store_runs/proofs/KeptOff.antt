@@ -66,13 +66,13 @@ use Rattle.store_promise.specs.declared.events.Wish.TheVariants as wish
 use Rattle.store_runs.specs.AtWork.{IsAtWork, IsLoadedBut, LoadsFor}
 use Rattle.store_runs.specs.AtWork as at_work
 use Rattle.store_runs.proofs.LeftFree.{left_free, none_loaded_beside}
-use Rattle.store_workers.proofs.LoneWorker.{had, has_of, own_change, seen_of, was_read}
+use Rattle.store_workers.proofs.LoneWorker.{had, has_of, own_change, was_read}
 use Rattle.store_workers.proofs.PlansStay.{wish_by}
 use Rattle.store_workers.proofs.WorkCases.{Cases, IsWished, by_cases}
 use Rattle.store_workers.specs.Alone.{HasOfCall, PlansAlone}
 use Rattle.store_workers.specs.Beside.{IsFetchAt, IsLeftOf, IsNoted, IsOneOf, NotesTaken, ShareCore}
 use Rattle.store_workers.specs.Phases.{has_fetch, has_transaction}
-use Rattle.store_workers.specs.Seen.{Seen, seen_in}
+use Rattle.store_workers.specs.Seen.{Seen, seen_in, seen_of}
 use Rattle.store_workers.specs.Stages.{IsFetchOf, IsJobIn, IsWorkerAt, RunsIn, StandsAt, at_fetch, at_stage, begun_of}
 use Rattle.store_workers.specs.Stages.{handed, taken_as, progress_in, progress_of}
 use Rattle.store_workers.specs.WorkerAnswers.{claim_wish, committing_of, wish_of as answer_of}
@@ -178,7 +178,7 @@ taken_is core hold tidy there =
 
 module _ (boot : ℕ) (entries : List Entry) (w : State) where
   abbrev begun : Begun
-  begun = begun_of w.begun.tx (seen_in w.work.snap) w.known
+  begun = begun_of w.begun.tx (seen_in w.work.planner) w.known
 
   at_job : (wished : Wished) (stage : Stage) → stage_takes wished stage ≡ true → (job : Option Job)
       → IsSomeAnd job (IsJobIn boot w.begun.tx) → has_taken wished (at_stage job stage) ≡ true
@@ -566,10 +566,10 @@ pub left_at : (g : Geometry) (core : CoreState) (worker : State) → HasTakenWel
     → ((one other : Geometry) → one.blocks ≡ other.blocks → one.inodes ≡ other.inodes → one ≡ other)
     → PlansAlone worker.phase worker core → worker.phase ≡ Planning → IsLeftOf worker
 left_at g core worker well blocks inodes one_geometry plans phase_is next later some =
-    by worker.work.job worker.begun.tx (seen_in worker.work.snap)
+    by worker.work.job worker.begun.tx (seen_in worker.work.planner)
     (subst (λ (p : Phase). PlansAlone p worker core) phase_is plans)
     (subst (λ (p : Phase). HasTakenWell g (progress_in p worker.work.job
-    (begun_of worker.begun.tx (seen_in worker.work.snap) worker.known) worker.asked worker.known)) phase_is
+    (begun_of worker.begun.tx (seen_in worker.work.planner) worker.known) worker.asked worker.known)) phase_is
     well)
   where
     there : Contains (worker.known.taken ++ worker.known.left) next
@@ -579,7 +579,7 @@ left_at g core worker well blocks inodes one_geometry plans phase_is next later 
     by : (job : Option Job) (tx : Option ℕ) (seen : Option Seen)
         → IsSomeAnd job (λ j. IsSomeAnd tx (λ t. IsSomeAnd seen (λ s. HasOfCall t core s)))
         → HasTakenWell g (at_stage job (how.Planning
-        (begun_of worker.begun.tx (seen_in worker.work.snap) worker.known))) → IsSomeAnd seen (λ s. IsAim s.geometry next)
+        (begun_of worker.begun.tx (seen_in worker.work.planner) worker.known))) → IsSomeAnd seen (λ s. IsAim s.geometry next)
     by None tx seen has well = absurd has
     by (Some job) None seen has well = absurd has
     by (Some job) (Some tx) None has well = absurd has

@@ -96,7 +96,7 @@ whole_shares block addr other same whole =
 
 module _ (w : State) where
   abbrev mine : Begun
-  mine = begun_of w.begun.tx (seen_in w.work.snap) w.known
+  mine = begun_of w.begun.tx (seen_in w.work.planner) w.known
 
   -- what it is told to have taken it has noted, in a transaction
   module _ (wished : Wished) where

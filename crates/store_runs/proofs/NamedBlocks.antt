@@ -23,7 +23,8 @@ use Rattle.store_promise.specs.Aims.{IsAsMuch}
 use Rattle.store_promise.specs.Progress.{is_part_alone}
 use Rattle.store_promise.specs.declared.aims.Aim.{Aim}
 use Rattle.store_promise.specs.declared.aims.Aim.TheVariants as aim
-use Rattle.store_workers.proofs.LoneWorker.{had, seen_of, was_read}
+use Rattle.store_workers.proofs.LoneWorker.{had, was_read}
+use Rattle.store_workers.specs.Seen.{seen_of}
 use Rattle.store_workers.specs.Alone.{HasOfCall}
 use Rattle.store_workers.specs.Beside.{IsNoted, NotesTaken}
 use Rattle.store_runs.proofs.OwnChanges.{any_of}

@@ -79,9 +79,9 @@ planned_in (phases.Waiting place) job mine asked knowing j b is = by asked.waiti
 
 -- it is what its worker has read and claimed
 pub planned_has : (state : State) (j : told.Job) (b : Begun) → progress_of state ≡ At j (Planning b)
-    → (b.held ≡ held_in (seen_in state.work.snap)) × (b.claimed ≡ claimed_in (seen_in state.work.snap))
+    → (b.held ≡ held_in (seen_in state.work.planner)) × (b.claimed ≡ claimed_in (seen_in state.work.planner))
 planned_has state j b is =
-    let mine = begun_of state.begun.tx (seen_in state.work.snap) state.known in
+    let mine = begun_of state.begun.tx (seen_in state.work.planner) state.known in
     let same = planned_in state.phase state.work.job mine state.asked state.known j b is in
     (sym (ap (λ (b : Begun). b.held) same), sym (ap (λ (b : Begun). b.claimed) same))
 

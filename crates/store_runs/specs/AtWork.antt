@@ -156,7 +156,7 @@ pub record HasTakenPlace (boot number : ℕ) (made : Option Step) (old new : Sid
   pub took : TakesPlace old.core tx plan place new.core
   pub ready : new.worker.work.entry ≡ Some entry
   pub tells : TellsOf boot plan (entry_by number entry)
-  pub own : IsSomeAnd (seen_in old.worker.work.snap) (λ seen. All (IsSeenIn seen) plan.written)
+  pub own : IsSomeAnd (seen_in old.worker.work.planner) (λ seen. All (IsSeenIn seen) plan.written)
   pub named : made ≡ Some (step.Commit (blocks_of plan.written) (committing.Committed (record { 0 = place })))
 
 -- A place was taken, the next one. In the setting that has from it on the blocks that stand for the files

@@ -30,7 +30,7 @@ by_answer worker (commit.Broken back same) reply job job_is held = search rules
 by_answer worker (commit.Spent back same) reply job job_is held = search rules
 
 by_job : {C : Type 0} (worker made : State) (answer : Commit C) (reply : Reply) (found : Option Job)
-    → worker.work.job ≡ found → (is_served found && is_some worker.work.snap) ≡ true → IsHeld worker
+    → worker.work.job ≡ found → (is_served found && is_some worker.work.planner) ≡ true → IsHeld worker
     → IfSome found (λ job. made ≡ after_commit job reply answer worker) → IsSound made
 by_job worker made answer reply None found planned held made_is = absurd (true≢false (sym planned))
 by_job worker made answer reply (Some job) found planned held made_is =

@@ -41,7 +41,7 @@ use Rattle.store_workers.specs.declared.workers.parts.State.{State}
 takes_none : (boot : ℕ) (entries : List Entry) (state : State) (phase : Phase)
     → StandsAt boot entries phase state
     → (phase ≡ Idle → ⊥)
-    → IsStepOfCall (progress_in phase state.work.job (begun_of state.begun.tx (seen_in state.work.snap)
+    → IsStepOfCall (progress_in phase state.work.job (begun_of state.begun.tx (seen_in state.work.planner)
     state.known) state.asked state.known) None
 takes_none boot entries state phase stands busy = by phase stands busy
   where
@@ -57,7 +57,7 @@ takes_none boot entries state phase stands busy = by phase stands busy
     runs stage stands = has (IsJobIn boot state.begun.tx) stage stands
 
     by : (phase : Phase) → StandsAt boot entries phase state → (phase ≡ Idle → ⊥)
-        → IsStepOfCall (progress_in phase state.work.job (begun_of state.begun.tx (seen_in state.work.snap)
+        → IsStepOfCall (progress_in phase state.work.job (begun_of state.begun.tx (seen_in state.work.planner)
         state.known) state.asked state.known) None
     by Idle stands busy = absurd (busy refl)
     by Called stands busy = has IsJobOf (told.Called (known_in state.known)) stands
@@ -74,7 +74,7 @@ pub call_told : (boot : ℕ) (entries : List Entry) (credential : Credential) (m
     → TakesCall (ctx_of credential moment) call old made new
     → TellsCall boot entries (record { credential = credential; moment = moment; call = call }) old made new
 call_told boot entries credential moment call old new (Some made) sound at takes = record {
-  may = subst (λ p. IsStepOfCall (progress_in p old.work.job (begun_of old.begun.tx (seen_in old.work.snap)
+  may = subst (λ p. IsStepOfCall (progress_in p old.work.job (begun_of old.begun.tx (seen_in old.work.planner)
       old.known) old.asked old.known) (Some made)) (sym takes.1) (ap (λ m. Some m) takes.0);
   progress = ap progress_of takes.2;
   stands = subst (λ s. IsWorkerAt boot entries s) (sym takes.2) (record {
@@ -163,7 +163,7 @@ no_read_told boot entries old at not = record {
 module _ (boot : ℕ) (entries : List Entry) (old : State) (ok : Bool) (io : Fetch) (content : Content)
     (phase_is : old.phase ≡ Reading) (io_is : old.begun.io ≡ Some io) (at : IsWorkerAt boot entries old) where
   abbrev begun_then : told.Begun
-  begun_then = begun_of old.begun.tx (seen_in old.work.snap) old.known
+  begun_then = begun_of old.begun.tx (seen_in old.work.planner) old.known
 
   stood : RunsIn boot old × IsFetchOf old
   stood = subst (λ p. StandsAt boot entries p old) phase_is at.stands

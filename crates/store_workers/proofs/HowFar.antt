@@ -39,7 +39,7 @@ use Rattle.store_promise.specs.declared.events.Step.TheVariants as step
 use Rattle.store_workers.proofs.WorkCases.{Cases, IsWished, by_cases}
 use Rattle.store_workers.specs.Asked.{Asking}
 use Rattle.store_workers.specs.Knowing.{Knowing, known_in, with_aim, with_off, without_off}
-use Rattle.store_workers.specs.Seen.{Seen, seen_in}
+use Rattle.store_workers.specs.Seen.{Seen, seen_in, seen_of}
 use Rattle.store_workers.specs.Stages.{IsWorkerAt, StandsAt, alone, taken_as}
 use Rattle.store_workers.specs.Stages.{at_fetch, at_stage, begun_of, claimed_in, handed, held_in}
 use Rattle.store_workers.specs.Stages.{progress_in, progress_of}
@@ -202,17 +202,17 @@ module _ (broken : Bool) (job : Job) (tx : ℕ) (seen : Seen) (asked : Asking) (
         back_is back is.0 (Refused cause.NoMemory) (Some seen) asked knows
 
     with_it : (base : State) (phase : Phase) (back : ℕ) (then' : Knowing) → base.work.job ≡ Some job
-        → seen_in base.work.snap ≡ Some seen → base.asked ≡ asked → back ≡ tx
-        → progress_as phase base.work.job (Some back) (seen_in base.work.snap) base.asked then'
+        → seen_in base.work.planner ≡ Some seen → base.asked ≡ asked → back ≡ tx
+        → progress_as phase base.work.job (Some back) (seen_in base.work.planner) base.asked then'
         ≡ progress_as phase (Some job) (Some tx) (Some seen) asked then'
     with_it base phase back then' job_is seen_is asked_is is =
-        ap (λ j. progress_as phase j (Some back) (seen_in base.work.snap) base.asked then') job_is
+        ap (λ j. progress_as phase j (Some back) (seen_in base.work.planner) base.asked then') job_is
         ∙ ap (λ s. progress_as phase (Some job) (Some back) s base.asked then') seen_is
         ∙ ap (λ a. progress_as phase (Some job) (Some back) (Some seen) a then') asked_is
         ∙ back_is back is phase (Some seen) asked then'
 
     pub commit_told : (old new : CoreState) (done : Outcome) (added : List BlockNo) (planned : _) (answer : Commit Outcome)
-        (base : State) → base.work.job ≡ Some job → seen_in base.work.snap ≡ Some seen → base.asked ≡ asked
+        (base : State) → base.work.job ≡ Some job → seen_in base.work.planner ≡ Some seen → base.asked ≡ asked
         → base.known ≡ knows → IsCommit old tx planned done answer new
         → progress_of (after_commit job done.reply answer base)
         ≡ progress_after broken (Some (step.Commit added (committing_of answer)))
@@ -274,7 +274,7 @@ module _ (boot : ℕ) (entries : List Entry) (old new : Side) where
   -- how far the worker was, in this phase and with this call
   abbrev was_with : Phase → Option Job → Progress
   was_with phase job =
-      progress_as phase job old.worker.begun.tx (seen_in old.worker.work.snap) old.worker.asked old.worker.known
+      progress_as phase job old.worker.begun.tx (seen_in old.worker.work.planner) old.worker.asked old.worker.known
 
   abbrev was : Phase → Progress
   was phase = was_with phase old.worker.work.job
@@ -301,7 +301,7 @@ module _ (boot : ℕ) (entries : List Entry) (old new : Side) where
       → IsToldBy Called (Some (step.Begun (Ok number)))
   begins job number job_is has phase_is stands =
       ap progress_of has.worker
-      ∙ nothing_read old.core (handed job) number (known_in old.worker.known) (seen_in new.worker.work.snap) has.seen
+      ∙ nothing_read old.core (handed job) number (known_in old.worker.known) (seen_in new.worker.work.planner) has.seen
       ∙ sym (with_call Called job (step.Begun (Ok number)) job_is)
 
   answers : (phase : Phase) (job : Job) (made : Step) → old.worker.work.job ≡ Some job
@@ -313,14 +313,14 @@ module _ (boot : ℕ) (entries : List Entry) (old new : Side) where
 
   -- what it was while it planned
   planned : (made : Step) (job : Job) (tx : ℕ) (seen : Seen) → old.worker.work.job ≡ Some job
-      → old.worker.begun.tx ≡ Some tx → seen_in old.worker.work.snap ≡ Some seen
+      → old.worker.begun.tx ≡ Some tx → seen_in old.worker.work.planner ≡ Some seen
       → progress_after old.core.log.broken (Some made) (was Planning)
       ≡ progress_after old.core.log.broken (Some made)
       (progress_as Planning (Some job) (Some tx) (Some seen) old.worker.asked old.worker.known)
   planned made job tx seen job_is tx_is seen_is =
       with_call Planning job made job_is
       ∙ ap (λ t. progress_after old.core.log.broken (Some made)
-      (progress_as Planning (Some job) t (seen_in old.worker.work.snap) old.worker.asked old.worker.known)) tx_is
+      (progress_as Planning (Some job) t (seen_in old.worker.work.planner) old.worker.asked old.worker.known)) tx_is
       ∙ ap (λ s. progress_after old.core.log.broken (Some made)
       (progress_as Planning (Some job) (Some tx) s old.worker.asked old.worker.known)) seen_is
 
@@ -351,7 +351,7 @@ module _ (boot : ℕ) (entries : List Entry) (old new : Side) where
       (known_wanted addr mode has.answer knows_then))
       (has.seen ∙ ap (seen_wanted old.worker.known.left addr has.answer) next.snap_is)
       ∙ ap (λ j. progress_as (phase_wanted addr mode has.answer old.worker.known) j (begun_wanted has.answer).tx
-      (seen_wanted old.worker.known.left addr has.answer (seen_in (Some next.snap)))
+      (seen_wanted old.worker.known.left addr has.answer (Some (seen_of next.snap)))
       (asked_wanted addr mode has.answer old.worker.asked) (known_wanted addr mode has.answer knows_then)) next.job_is
       ∙ wanted_told old.core.log.broken next.job tx _ old.worker.asked old.worker.known new.worker.known.room
       old.core new.core addr mode has.answer (new_to addr mode next) has.core
@@ -367,7 +367,7 @@ module _ (boot : ℕ) (entries : List Entry) (old new : Side) where
       (begun_claimed has.answer).tx s old.worker.asked (known_claimed block has.answer knows_then))
       (has.seen ∙ ap (seen_claimed old.worker.known.left block has.answer) next.snap_is)
       ∙ ap (λ j. progress_as (phase_claimed block has.answer old.worker.known) j (begun_claimed has.answer).tx
-      (seen_claimed old.worker.known.left block has.answer (seen_in (Some next.snap))) old.worker.asked
+      (seen_claimed old.worker.known.left block has.answer (Some (seen_of next.snap))) old.worker.asked
       (known_claimed block has.answer knows_then)) next.job_is
       ∙ claimed_told old.core.log.broken next.job tx _ old.worker.asked old.worker.known new.worker.known.room
       old.core new.core block has.core.0 has.answer has.core.2
@@ -400,9 +400,9 @@ module _ (boot : ℕ) (entries : List Entry) (old new : Side) where
       let (job, job_is, rest) = some_of old.worker.work.job stands.0 in
       let (addr, wish_is, same) = some_of old.worker.asked.wish stands.1 in
       ap progress_of has.worker
-      ∙ ap (λ j. progress_as (phase_given ok) j old.worker.begun.tx (seen_in old.worker.work.snap)
+      ∙ ap (λ j. progress_as (phase_given ok) j old.worker.begun.tx (seen_in old.worker.work.planner)
       old.worker.asked old.worker.known) job_is
-      ∙ given_told old.core.log.broken io job old.worker.begun.tx (seen_in old.worker.work.snap)
+      ∙ given_told old.core.log.broken io job old.worker.begun.tx (seen_in old.worker.work.planner)
       old.worker.asked old.worker.known ok addr wish_is
       ∙ sym (with_call (Read ok) job (given_step ok io) job_is)
 

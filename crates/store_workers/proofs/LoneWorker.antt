@@ -48,7 +48,7 @@ use Rattle.store_workers.proofs.StepKinds.{begun, refused, replied, lacked, comm
 use Rattle.store_workers.specs.Alone.{HasOfCall, HasTaken, IsOutAlone, LeavesNothing, PlansAlone, is_kept_off}
 use Rattle.store_images.specs.Fetches.{FetchesOnly}
 use Rattle.store_workers.specs.Phases.{has_fetch}
-use Rattle.store_workers.specs.Seen.{Seen, seen_in}
+use Rattle.store_workers.specs.Seen.{Seen, seen_in, seen_of}
 use Rattle.store_workers.specs.WorkerAnswers.{claim_wish, committing_of, wish_of}
 use Rattle.store_workers.specs.WorkerSteps.{GoesByNext, GoesOn, HasGivenBack, HasLeft, HasRefused}
 use Rattle.store_workers.specs.WorkerSteps.{IsNext, Side, TakesAgain}
@@ -61,9 +61,6 @@ use Rattle.store_workers.specs.declared.workers.parts.Phase.TheVariants.{Refused
 use Rattle.store_workers.specs.declared.workers.parts.State.{State}
 
 -- ---- what was read
-
-abbrev pub seen_of : Snap → Seen
-seen_of snap = record { geometry = snap.geometry; objects = snap.objects.items; claims = snap.claims.items }
 
 -- an address that was seen is one of an object that was read
 seen_there : (addr : Addr) (objects : List ObjectBytes) → is_seen addr objects ≡ true
@@ -101,22 +98,22 @@ claimed_so P block (c ∷ cs) all some =
 
 -- what a worker has of its call, by its job, its transaction and what was read
 pub has_of : (worker : State) (core : CoreState) (job : Job) (tx : ℕ) (seen : Seen) → worker.work.job ≡ Some job
-    → worker.begun.tx ≡ Some tx → seen_in worker.work.snap ≡ Some seen → HasTaken worker core
+    → worker.begun.tx ≡ Some tx → seen_in worker.work.planner ≡ Some seen → HasTaken worker core
     → HasOfCall tx core seen
 has_of worker core job tx seen job_is tx_is seen_is has =
     subst (λ (o : Option Seen). IsSomeAnd o (λ s. HasOfCall tx core s)) seen_is
-    (subst (λ (o : Option ℕ). IsSomeAnd o (λ t. IsSomeAnd (seen_in worker.work.snap)
+    (subst (λ (o : Option ℕ). IsSomeAnd o (λ t. IsSomeAnd (seen_in worker.work.planner)
     (λ s. HasOfCall t core s)))
     tx_is (subst (λ (o : Option Job). IsSomeAnd o (λ j. IsSomeAnd worker.begun.tx (λ t.
-    IsSomeAnd (seen_in worker.work.snap) (λ s. HasOfCall t core s)))) job_is has))
+    IsSomeAnd (seen_in worker.work.planner) (λ s. HasOfCall t core s)))) job_is has))
 
 pub has_so : (worker : State) (core : CoreState) (job : Job) (tx : ℕ) (seen : Seen) → worker.work.job ≡ Some job
-    → worker.begun.tx ≡ Some tx → seen_in worker.work.snap ≡ Some seen → HasOfCall tx core seen
+    → worker.begun.tx ≡ Some tx → seen_in worker.work.planner ≡ Some seen → HasOfCall tx core seen
     → HasTaken worker core
 has_so worker core job tx seen job_is tx_is seen_is has =
     subst (λ (o : Option Job). IsSomeAnd o (λ j. IsSomeAnd worker.begun.tx (λ t.
-    IsSomeAnd (seen_in worker.work.snap) (λ s. HasOfCall t core s)))) (sym job_is)
-    (subst (λ (o : Option ℕ). IsSomeAnd o (λ t. IsSomeAnd (seen_in worker.work.snap)
+    IsSomeAnd (seen_in worker.work.planner) (λ s. HasOfCall t core s)))) (sym job_is)
+    (subst (λ (o : Option ℕ). IsSomeAnd o (λ t. IsSomeAnd (seen_in worker.work.planner)
     (λ s. HasOfCall t core s)))
     (sym tx_is) (subst (λ (o : Option Seen). IsSomeAnd o (λ s. HasOfCall tx core s)) (sym seen_is) has))
 

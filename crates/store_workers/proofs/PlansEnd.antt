@@ -11,7 +11,7 @@ use Rattle.store_workers.specs.declared.workers.parts.Begun.{Begun}
 use Rattle.store_workers.specs.declared.workers.parts.Job.{Job}
 use Rattle.store_workers.specs.declared.workers.parts.State.{State}
 
-module _ (old planned : State) (taken : Begun) (seen : seen_in planned.work.snap ≡ seen_in old.work.snap)
+module _ (old planned : State) (taken : Begun) (seen : seen_in planned.work.planner ≡ seen_in old.work.planner)
     (tx : ℕ) (done : Outcome) (before after : CoreState) (new : State) where
   -- the worker with its plan, without its transaction
   abbrev pub worker : State

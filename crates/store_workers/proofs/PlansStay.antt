@@ -45,13 +45,13 @@ use Rattle.store_promise.specs.declared.aims.Aim.TheVariants as aim
 use Rattle.store_promise.specs.declared.answers.Verdict.TheVariants as verdict
 use Rattle.store_promise.specs.declared.events.Step.{Step}
 use Rattle.store_workers.proofs.HowFar.{without_broken_reply, without_reply}
-use Rattle.store_workers.proofs.LoneWorker.{has_of, has_so, seen_of}
+use Rattle.store_workers.proofs.LoneWorker.{has_of, has_so}
 use Rattle.store_workers.proofs.StaysAlone.{all_alone, all_asked, all_claimed, moved, new_alone, one_whole}
 use Rattle.store_workers.proofs.StaysAlone.{same_taken}
 use Rattle.store_workers.proofs.WorkCases.{Cases, IsWished, by_cases}
 use Rattle.store_workers.specs.Alone.{HasOfCall, HasTaken, PlansAlone}
 use Rattle.store_workers.specs.Beside.{IsLeftOf, NoneTakenBeyond}
-use Rattle.store_workers.specs.Seen.{Seen, seen_in, with_claim, with_object}
+use Rattle.store_workers.specs.Seen.{Seen, seen_in, seen_of, with_claim, with_object}
 use Rattle.store_workers.specs.WorkerAnswers.{after_commit, begun_claimed, begun_wanted, phase_claimed}
 use Rattle.store_workers.specs.WorkerAnswers.{phase_off, phase_wanted, seen_claimed, seen_held, seen_taken}
 use Rattle.store_workers.specs.WorkerAnswers.{seen_wanted, told_of, with_answer, with_entry}
@@ -152,7 +152,7 @@ module _ (worker : State) where
     pub job : Job
     pub job_is : worker.work.job ≡ Some job
     pub snap : Snap
-    pub snap_is : seen_in worker.work.snap ≡ seen_in (Some snap)
+    pub snap_is : seen_in worker.work.planner ≡ Some (seen_of snap)
     pub is_aim : IsAim snap.geometry one
     pub new_to_it : worker.known.left ≡ [] → P (seen_of snap)
 
@@ -204,9 +204,9 @@ module _ (old new : Side) (keeps : KeepsReadsOf old new) (beyond : NoneTakenBeyo
   begins : (job : Job) (number : ℕ) → HasBegun job old number new
       → PlansAlone new.worker.phase new.worker new.core
   begins job number has = by_phase Planning (ap (λ (s : State). s.phase) has.worker)
-      (by (seen_in new.worker.work.snap) refl has.seen)
+      (by (seen_in new.worker.work.planner) refl has.seen)
     where
-      by : (found : Option Seen) → seen_in new.worker.work.snap ≡ found → IsSomeAnd found (SawNothing old.core)
+      by : (found : Option Seen) → seen_in new.worker.work.planner ≡ found → IsSomeAnd found (SawNothing old.core)
           → HasTaken new.worker new.core
       by None at saw = absurd saw
       by (Some seen) at saw =
@@ -236,7 +236,7 @@ module _ (old new : Side) (keeps : KeepsReadsOf old new) (beyond : NoneTakenBeyo
   -- ---- a wish
 
   module _ (tx : ℕ) (tx_is : old.worker.begun.tx ≡ Some tx) (job : Job) (job_is : old.worker.work.job ≡ Some job)
-      (seen : Seen) (seen_is : seen_in old.worker.work.snap ≡ Some seen) (new_job : new.worker.work.job ≡ Some job)
+      (seen : Seen) (seen_is : seen_in old.worker.work.planner ≡ Some seen) (new_job : new.worker.work.job ≡ Some job)
       (has : HasOfCall tx old.core seen) where
     -- an object is new to what was read, and asked for alone
     abbrev IsNewTo : Addr → Mode → Type 0
@@ -250,13 +250,13 @@ module _ (old new : Side) (keeps : KeepsReadsOf old new) (beyond : NoneTakenBeyo
       reads : KeepsReads old.core new.core tx
       reads = keeps tx (λ _. new_tx)
 
-      as_before : new.core ≡ old.core → seen_in new.worker.work.snap ≡ seen_in old.worker.work.snap
+      as_before : new.core ≡ old.core → seen_in new.worker.work.planner ≡ seen_in old.worker.work.planner
           → HasTaken new.worker new.core
       as_before core seen_same =
           has_so new.worker new.core job tx seen new_job new_tx (seen_same ∙ seen_is)
           (subst (λ (c : CoreState). HasOfCall tx c seen) (sym core) has)
 
-      off : (wished : Aim) → new.core ≡ old.core → seen_in new.worker.work.snap ≡ seen_in old.worker.work.snap
+      off : (wished : Aim) → new.core ≡ old.core → seen_in new.worker.work.planner ≡ seen_in old.worker.work.planner
           → PlansAlone (phase_off wished old.worker.known) new.worker new.core
       off wished core seen_same = by (is_barred wished old.worker.known.taken)
         where
@@ -267,32 +267,32 @@ module _ (old new : Side) (keeps : KeepsReadsOf old new) (beyond : NoneTakenBeyo
       held : (addr : Addr) (mode : Mode) (bytes : List ℕ) → Asks seen.geometry addr
           → (old.worker.known.left ≡ [] → IsNewTo addr mode)
           → IsHeld old.core tx addr mode bytes new.core
-          → seen_in new.worker.work.snap
-          ≡ seen_held old.worker.known.left addr bytes (seen_in old.worker.work.snap)
+          → seen_in new.worker.work.planner
+          ≡ seen_held old.worker.known.left addr bytes (seen_in old.worker.work.planner)
           → HasTaken new.worker new.core
       held addr mode bytes asks new_to_it is then_seen = by old.worker.known.left refl
         where
           by : (left : List Aim) → old.worker.known.left ≡ left → HasTaken new.worker new.core
           by [] none = has_so new.worker new.core job tx _ new_job new_tx
-              (then_seen ∙ ap (λ l. seen_held l addr bytes (seen_in old.worker.work.snap)) none
+              (then_seen ∙ ap (λ l. seen_held l addr bytes (seen_in old.worker.work.planner)) none
               ∙ ap (with_object addr bytes) seen_is)
               (with_read old.core new.core tx seen addr mode asks reads has bytes (new_to_it none).0 (new_to_it none).1
               is)
           by (next ∷ later) some = has_so new.worker new.core job tx seen new_job new_tx
-              (then_seen ∙ ap (λ l. seen_held l addr bytes (seen_in old.worker.work.snap)) some ∙ seen_is)
+              (then_seen ∙ ap (λ l. seen_held l addr bytes (seen_in old.worker.work.planner)) some ∙ seen_is)
               (with_held old.core new.core tx seen addr mode asks reads has bytes is)
 
       fetched : (addr : Addr) (mode : Mode) (io : Fetch) → Asks seen.geometry addr
           → IsFetched old.core tx addr mode io new.core
-          → seen_in new.worker.work.snap ≡ seen_in old.worker.work.snap → HasTaken new.worker new.core
+          → seen_in new.worker.work.planner ≡ seen_in old.worker.work.planner → HasTaken new.worker new.core
       fetched addr mode io asks is seen_same = has_so new.worker new.core job tx seen new_job new_tx
           (seen_same ∙ seen_is) (with_fetch old.core new.core tx seen addr mode asks reads has io is)
 
       claims : (block : BlockNo) (addr : Addr) → Claims seen.geometry block
           → (old.worker.known.left ≡ [] → is_claimed block seen.claims ≡ false) → IsWhole block addr
           → IsTaken old.core tx addr new.core
-          → seen_in new.worker.work.snap
-          ≡ seen_taken old.worker.known.left block (seen_in old.worker.work.snap)
+          → seen_in new.worker.work.planner
+          ≡ seen_taken old.worker.known.left block (seen_in old.worker.work.planner)
           → HasTaken new.worker new.core
       claims block addr may new_to_it whole is then_seen = by old.worker.known.left refl
         where
@@ -301,19 +301,19 @@ module _ (old new : Side) (keeps : KeepsReadsOf old new) (beyond : NoneTakenBeyo
 
           by : (left : List Aim) → old.worker.known.left ≡ left → HasTaken new.worker new.core
           by [] none = has_so new.worker new.core job tx _ new_job new_tx
-              (then_seen ∙ ap (λ l. seen_taken l block (seen_in old.worker.work.snap)) none
+              (then_seen ∙ ap (λ l. seen_taken l block (seen_in old.worker.work.planner)) none
               ∙ ap (with_claim block) seen_is)
               (with_claimed old.core new.core tx seen addr asks reads has block may (new_to_it none) whole is)
           by (next ∷ later) some = has_so new.worker new.core job tx seen new_job new_tx
-              (then_seen ∙ ap (λ l. seen_taken l block (seen_in old.worker.work.snap)) some ∙ seen_is)
+              (then_seen ∙ ap (λ l. seen_taken l block (seen_in old.worker.work.planner)) some ∙ seen_is)
               (with_whole old.core new.core tx seen addr asks reads has is)
 
     wants : (addr : Addr) (mode : Mode) (answer : Want) → Asks seen.geometry addr
         → (old.worker.known.left ≡ [] → IsNewTo addr mode)
         → IsWanted old.core tx addr mode answer new.core
         → new.worker.begun ≡ begun_wanted answer
-        → seen_in new.worker.work.snap
-        ≡ seen_wanted old.worker.known.left addr answer (seen_in old.worker.work.snap)
+        → seen_in new.worker.work.planner
+        ≡ seen_wanted old.worker.known.left addr answer (seen_in old.worker.work.planner)
         → PlansAlone (phase_wanted addr mode answer old.worker.known) new.worker new.core
     wants addr mode (want.Held back bytes) asks new_to_it is got then_seen =
         held back is.0 (ap (λ (b : Begun). b.tx) got) addr mode bytes asks new_to_it is.2 then_seen
@@ -330,8 +330,8 @@ module _ (old new : Side) (keeps : KeepsReadsOf old new) (beyond : NoneTakenBeyo
         → (old.worker.known.left ≡ [] → is_claimed block seen.claims ≡ false) → IsWhole block addr
         → IsClaimed old.core tx addr answer new.core
         → new.worker.begun ≡ begun_claimed answer
-        → seen_in new.worker.work.snap
-        ≡ seen_claimed old.worker.known.left block answer (seen_in old.worker.work.snap)
+        → seen_in new.worker.work.planner
+        ≡ seen_claimed old.worker.known.left block answer (seen_in old.worker.work.planner)
         → PlansAlone (phase_claimed block answer old.worker.known) new.worker new.core
     takes block addr (claim.Held back) may new_to_it whole is got then_seen =
         claims back is.0 (ap (λ (b : Begun). b.tx) got) block addr may new_to_it whole is.2 then_seen
@@ -409,7 +409,7 @@ module _ (old new : Side) (keeps : KeepsReadsOf old new) (beyond : NoneTakenBeyo
     where
       by : (ok : Bool) → PlansAlone (phase_given ok) new.worker new.core
       by true = same_taken old.worker new.worker old.core new.core (ap (λ (s : State). s.work.job) has.worker)
-          (ap (λ (s : State). s.begun.tx) has.worker) (ap (λ (s : State). seen_in s.work.snap) has.worker)
+          (ap (λ (s : State). s.begun.tx) has.worker) (ap (λ (s : State). seen_in s.work.planner) has.worker)
           (λ job tx seen tx_is of_call. moved tx seen old.core new.core
           (ap (λ (c : CoreState). c.log.blocks) has.only) (ap (λ (c : CoreState). c.inodes) has.only)
           (λ addr. has.leaves.holds tx addr)

@@ -51,7 +51,7 @@ use Rattle.store_promise.specs.declared.events.Cause.TheVariants as cause
 use Rattle.store_promise.specs.declared.events.Step.{Step}
 use Rattle.store_promise.specs.declared.events.Step.TheVariants as step
 use Rattle.store_workers.proofs.LeavesNothing.{leaves_nothing}
-use Rattle.store_workers.proofs.LoneWorker.{has_of, has_so, never_kept_off, no_fetch, seen_of}
+use Rattle.store_workers.proofs.LoneWorker.{has_of, has_so, never_kept_off, no_fetch}
 use Rattle.store_workers.proofs.StillFits.{still_alone}
 use Rattle.store_workers.proofs.StepKinds.{Beginning, IsTold, beginning, ending}
 use Rattle.store_workers.proofs.StepKinds.{begun, refused, replied, lacked, committed}
@@ -62,7 +62,7 @@ use Rattle.store_promise.specs.declared.aims.Aim.{Aim}
 use Rattle.store_promise.specs.declared.aims.Aim.TheVariants as aim
 use Rattle.store_images.specs.Fetches.{FetchesOnly, is_fetch_of}
 use Rattle.store_workers.specs.Phases.{has_fetch, has_transaction}
-use Rattle.store_workers.specs.Seen.{Seen, seen_in, with_claim, with_object}
+use Rattle.store_workers.specs.Seen.{Seen, seen_in, seen_of, with_claim, with_object}
 use Rattle.store_workers.specs.WorkerAnswers.{after_commit, begun_claimed, begun_wanted, committing_of}
 use Rattle.store_workers.specs.WorkerAnswers.{phase_claimed, phase_off, phase_wanted, seen_claimed}
 use Rattle.store_workers.specs.WorkerAnswers.{seen_held, seen_taken, seen_wanted, told_of}
@@ -102,15 +102,15 @@ moved tx seen core mid blocks inodes same reads has = record {
 
 -- a worker with the same call, transaction and reads has what it had
 pub same_taken : (was now : State) (core mid : CoreState) → now.work.job ≡ was.work.job
-    → now.begun.tx ≡ was.begun.tx → seen_in now.work.snap ≡ seen_in was.work.snap
+    → now.begun.tx ≡ was.begun.tx → seen_in now.work.planner ≡ seen_in was.work.planner
     → ((job : Job) (tx : ℕ) (seen : Seen) → was.begun.tx ≡ Some tx → HasOfCall tx core seen
     → HasOfCall tx mid seen)
     → HasTaken was core → HasTaken now mid
 same_taken was now core mid job tx seen keeps has =
-    by was.work.job refl was.begun.tx refl (seen_in was.work.snap) refl has
+    by was.work.job refl was.begun.tx refl (seen_in was.work.planner) refl has
   where
     by : (j : Option Job) → was.work.job ≡ j → (t : Option ℕ) → was.begun.tx ≡ t → (s : Option Seen)
-        → seen_in was.work.snap ≡ s
+        → seen_in was.work.planner ≡ s
         → IsSomeAnd j (λ j. IsSomeAnd t (λ t. IsSomeAnd s (λ s. HasOfCall t core s))) → HasTaken now mid
     by None j_is t t_is s s_is has = absurd has
     by (Some j) j_is None t_is s s_is has = absurd has
@@ -332,9 +332,9 @@ module _ (old new : Side) (tidy : AreTidy old.core) (alone : IsOutAlone old.work
       alone_by made new.worker new.core Planning None (ap (λ (s : State). s.phase) has.worker)
       (ap (λ (s : State). s.begun.io) has.worker)
       (subst (λ (c : CoreState). FetchesOnly None c) (sym has.core) none)
-      (λ room. by (seen_in new.worker.work.snap) refl has.seen)
+      (λ room. by (seen_in new.worker.work.planner) refl has.seen)
     where
-      by : (found : Option Seen) → seen_in new.worker.work.snap ≡ found → IsSomeAnd found (SawNothing old.core)
+      by : (found : Option Seen) → seen_in new.worker.work.planner ≡ found → IsSomeAnd found (SawNothing old.core)
           → HasTaken new.worker new.core
       by None at saw = absurd saw
       by (Some seen) at saw =
@@ -373,7 +373,7 @@ module _ (old new : Side) (tidy : AreTidy old.core) (alone : IsOutAlone old.work
         (λ block. has.leaves.fetches block ∙ none block) (λ room. plans new.worker new.core)
 
     module _ (job : Job) (snap : Snap) (job_is : old.worker.work.job ≡ Some job)
-        (snap_is : seen_in old.worker.work.snap ≡ seen_in (Some snap))
+        (snap_is : seen_in old.worker.work.planner ≡ Some (seen_of snap))
         (has : HasOfCall tx old.core (seen_of snap)) (left : old.worker.known.left ≡ [])
       where
         -- who is kept off has what it had
@@ -403,7 +403,7 @@ module _ (old new : Side) (tidy : AreTidy old.core) (alone : IsOutAlone old.work
             or_none false = refl
 
             same_core : new.core ≡ old.core → new.worker.begun.tx ≡ Some tx
-                → seen_in new.worker.work.snap ≡ seen_in old.worker.work.snap → HasTaken new.worker new.core
+                → seen_in new.worker.work.planner ≡ seen_in old.worker.work.planner → HasTaken new.worker new.core
             same_core core new_tx seen =
                 has_so new.worker new.core job tx (seen_of snap) new_job new_tx (seen ∙ snap_is)
                 (subst (λ (c : CoreState). HasOfCall tx c (seen_of snap)) (sym core) has)
@@ -414,8 +414,8 @@ module _ (old new : Side) (tidy : AreTidy old.core) (alone : IsOutAlone old.work
             by : (answer : Want) → IsWanted old.core tx addr mode answer new.core
                 → new.worker.phase ≡ phase_wanted addr mode answer old.worker.known
                 → new.worker.begun ≡ begun_wanted answer
-                → seen_in new.worker.work.snap
-                ≡ seen_wanted old.worker.known.left addr answer (seen_in old.worker.work.snap)
+                → seen_in new.worker.work.planner
+                ≡ seen_wanted old.worker.known.left addr answer (seen_in old.worker.work.planner)
                 → StaysLeft (Some made) new.worker new.core
             by (want.Held back bytes) is phase got seen =
                 let new_tx : new.worker.begun.tx ≡ Some tx =
@@ -423,7 +423,7 @@ module _ (old new : Side) (tidy : AreTidy old.core) (alone : IsOutAlone old.work
                 alone_by (Some made) new.worker new.core Planning None phase (ap (λ (b : Begun). b.io) got)
                 (λ block. is.2.leaves.fetches block ∙ none block)
                 (λ room. has_so new.worker new.core job tx _ new_job new_tx
-                (seen ∙ ap (λ l. seen_held l addr bytes (seen_in old.worker.work.snap)) left
+                (seen ∙ ap (λ l. seen_held l addr bytes (seen_in old.worker.work.planner)) left
                 ∙ ap (with_object addr bytes) snap_is)
                 (read_one old.core new.core tx snap addr mode has is_plan (reads new_tx) bytes is.2))
             by (want.Fetch back io) is phase got seen =
@@ -460,7 +460,7 @@ module _ (old new : Side) (tidy : AreTidy old.core) (alone : IsOutAlone old.work
             new_job = ap (λ (s : State). s.work.job) claims.worker ∙ job_is
 
             same_core : new.core ≡ old.core → new.worker.begun.tx ≡ Some tx
-                → seen_in new.worker.work.snap ≡ seen_in old.worker.work.snap → HasTaken new.worker new.core
+                → seen_in new.worker.work.planner ≡ seen_in old.worker.work.planner → HasTaken new.worker new.core
             same_core core new_tx seen =
                 has_so new.worker new.core job tx (seen_of snap) new_job new_tx (seen ∙ snap_is)
                 (subst (λ (c : CoreState). HasOfCall tx c (seen_of snap)) (sym core) has)
@@ -471,8 +471,8 @@ module _ (old new : Side) (tidy : AreTidy old.core) (alone : IsOutAlone old.work
             by : (answer : Claim) → IsClaimed old.core tx claims.core.0 answer new.core
                 → new.worker.phase ≡ phase_claimed block answer old.worker.known
                 → new.worker.begun ≡ begun_claimed answer
-                → seen_in new.worker.work.snap
-                ≡ seen_claimed old.worker.known.left block answer (seen_in old.worker.work.snap)
+                → seen_in new.worker.work.planner
+                ≡ seen_claimed old.worker.known.left block answer (seen_in old.worker.work.planner)
                 → StaysLeft (Some made) new.worker new.core
             by (claim.Held back) is phase got seen =
                 let new_tx : new.worker.begun.tx ≡ Some tx =
@@ -480,7 +480,7 @@ module _ (old new : Side) (tidy : AreTidy old.core) (alone : IsOutAlone old.work
                 alone_by (Some made) new.worker new.core Planning None phase (ap (λ (b : Begun). b.io) got)
                 (λ block. is.2.leaves.fetches block ∙ none block)
                 (λ room. has_so new.worker new.core job tx _ new_job new_tx
-                (seen ∙ ap (λ l. seen_taken l block (seen_in old.worker.work.snap)) left
+                (seen ∙ ap (λ l. seen_taken l block (seen_in old.worker.work.planner)) left
                 ∙ ap (with_claim block) snap_is)
                 (claim_one old.core new.core tx snap block claims.core.0 has is_plan
                 (keeps tx (λ _. new_tx)) claims.core.1 is.2))
@@ -589,7 +589,7 @@ module _ (old new : Side) (tidy : AreTidy old.core) (alone : IsOutAlone old.work
 
       same : HasTaken new.worker new.core
       same = same_taken old.worker new.worker old.core new.core (ap (λ (s : State). s.work.job) has.worker)
-          (ap (λ (s : State). s.begun.tx) has.worker) (ap (λ (s : State). seen_in s.work.snap) has.worker)
+          (ap (λ (s : State). s.begun.tx) has.worker) (ap (λ (s : State). seen_in s.work.planner) has.worker)
           (λ job tx seen tx_is of_call. moved tx seen old.core new.core
           (ap (λ (c : CoreState). c.log.blocks) has.only) (ap (λ (c : CoreState). c.inodes) has.only)
           (λ addr. has.leaves.holds tx addr)

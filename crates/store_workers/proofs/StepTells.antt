@@ -142,7 +142,7 @@ at_some P found x is so = subst (λ o. IsSomeAnd o P) is so
 module _ (boot number : ℕ) (entries : List Entry) (old new : Side) (at : IsWorkerAt boot entries old.worker)
     (booted : old.core.boot ≡ boot) (places : old.core.log.places ≡ length entries) where
   abbrev old_begun : told.Begun
-  old_begun = begun_of old.worker.begun.tx (seen_in old.worker.work.snap) old.worker.known
+  old_begun = begun_of old.worker.begun.tx (seen_in old.worker.work.planner) old.worker.known
 
   -- how far the worker was, in this phase
   abbrev was : Phase → Progress

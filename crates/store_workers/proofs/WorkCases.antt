@@ -12,6 +12,7 @@ use Rattle.procs.specs.Outcome.{Outcome}
 use Rattle.procs.specs.declared.next.Plan.{Plan}
 use Rattle.procs.specs.declared.next.Plan.TheVariants as plan
 use Rattle.inode.specs.declared.snap.Snap.{Snap}
+use Rattle.procs.specs.declared.planner.Planner.{Planner}
 use Rattle.txn.specs.Fetch.{Fetch}
 use Rattle.txn.specs.Group.{blocks_of}
 use Rattle.txn.specs.declared.outcomes.BeginFault.{BeginFault}
@@ -24,7 +25,7 @@ use Rattle.store_promise.specs.declared.events.Ending.TheVariants as ending
 use Rattle.store_promise.specs.declared.events.Step.{Step}
 use Rattle.store_promise.specs.declared.events.Step.TheVariants as step
 use Rattle.store_workers.specs.Phases.{is_planned, is_served}
-use Rattle.store_workers.specs.Seen.{seen_in}
+use Rattle.store_workers.specs.Seen.{seen_in, seen_of}
 use Rattle.store_workers.specs.WorkerAnswers.{claim_wish, committing_of, wish_of, with_answer}
 use Rattle.store_workers.specs.WorkerSteps.{BeginsBy, EndsBy, GoesByAim, GoesByNext, GoesOn, HasBegun, HasClaimed}
 use Rattle.store_workers.specs.WorkerSteps.{HasCommitted, HasGivenBack, HasLacked, HasLeft}
@@ -42,7 +43,7 @@ pub record IsWished (worker : State) (one : Aim) (next : Plan) : Type 0 where
   pub job : Job
   pub job_is : worker.work.job ≡ Some job
   pub snap : Snap
-  pub snap_is : seen_in worker.work.snap ≡ seen_in (Some snap)
+  pub snap_is : seen_in worker.work.planner ≡ Some (seen_of snap)
   pub why : ((worker.known.left ≡ []) × IsNext worker next)
       ⊎ ((later : List Aim) × (worker.known.left ≡ one ∷ later))
 
@@ -172,21 +173,21 @@ module _ (old new : Side) (P : Phase → Option Step → Type 0) (cases : Cases 
   module _ (tx : ℕ) (tx_is : old.worker.begun.tx ≡ Some tx) (planned : is_planned old.worker.work ≡ true)
       (one : Aim) (later : List Aim) (left : old.worker.known.left ≡ one ∷ later) where
     again : (next : Plan) → IsWished old.worker one next
-    again next = by old.worker.work.job refl old.worker.work.snap refl planned
+    again next = by old.worker.work.job refl old.worker.work.planner refl planned
       where
-        by : (job : Option Job) → old.worker.work.job ≡ job → (snap : Option Snap) → old.worker.work.snap ≡ snap
-            → (is_served job && is_some snap) ≡ true → IsWished old.worker one next
-        by None job_is snap snap_is planned = absurd (true≢false (sym planned))
-        by (Some job) job_is None snap_is planned = absurd (none_planned (begins_transaction job.call) planned)
+        by : (job : Option Job) → old.worker.work.job ≡ job → (planner : Option Planner) → old.worker.work.planner ≡ planner
+            → (is_served job && is_some planner) ≡ true → IsWished old.worker one next
+        by None job_is planner planner_is planned = absurd (true≢false (sym planned))
+        by (Some job) job_is None planner_is planned = absurd (none_planned (begins_transaction job.call) planned)
           where
             none_planned : (b : Bool) → (b && false) ≡ true → ⊥
             none_planned true is = true≢false (sym is)
             none_planned false is = true≢false (sym is)
-        by (Some job) job_is (Some snap) snap_is planned = record {
+        by (Some job) job_is (Some planner) planner_is planned = record {
           job = job;
           job_is = job_is;
-          snap = snap;
-          snap_is = ap seen_in snap_is;
+          snap = planner.snap;
+          snap_is = ap seen_in planner_is;
           why = inr (later, left);
         }
 

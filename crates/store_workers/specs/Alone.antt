@@ -40,7 +40,7 @@ pub record HasOfCall (tx : ℕ) (core : CoreState) (seen : Seen) : Type 0 where
 -- the worker has a call and a transaction, and so much of them
 abbrev pub HasTaken : State → CoreState → Type 0
 HasTaken worker core = IsSomeAnd worker.work.job (λ job. IsSomeAnd worker.begun.tx (λ tx.
-    IsSomeAnd (seen_in worker.work.snap) (λ seen. HasOfCall tx core seen)))
+    IsSomeAnd (seen_in worker.work.planner) (λ seen. HasOfCall tx core seen)))
 
 -- and so it is while it plans
 abbrev pub PlansAlone : Phase → State → CoreState → Type 0

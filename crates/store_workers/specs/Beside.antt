@@ -52,7 +52,7 @@ NoneTakenBeyond core = (addr : Addr) (hold : Hold) → taken_by core (core.begun
 -- the first of what is left to be taken again is of the image
 abbrev pub IsLeftOf : State → Type 0
 IsLeftOf worker = (next : Aim) (later : List Aim) → worker.known.left ≡ next ∷ later
-    → IsSomeAnd (seen_in worker.work.snap) (λ seen. IsAim seen.geometry next)
+    → IsSomeAnd (seen_in worker.work.planner) (λ seen. IsAim seen.geometry next)
 
 -- ---- whose a fetch is
 

@@ -39,7 +39,7 @@ is_served (Some job) = begins_transaction job.call
 
 -- there is such a call, with what was read for it
 abbrev pub is_planned : Work → Bool
-is_planned work = is_served work.job && is_some work.snap
+is_planned work = is_served work.job && is_some work.planner
 
 -- what the worker needs to go on is there
 abbrev pub is_ready : Phase → Work → Bool

@@ -4,6 +4,7 @@ use Rattle.disk.specs.declared.block.BlockNo.{BlockNo}
 use Rattle.objects.specs.declared.addr.Addr.{Addr}
 use Rattle.layout.specs.declared.geometry.Geometry.{Geometry}
 use Rattle.inode.specs.declared.snap.Snap.{Snap}
+use Rattle.procs.specs.declared.planner.Planner.{Planner}
 use Rattle.txn.specs.Object.{ObjectBytes}
 
 -- the geometry of the image, the objects that were read, and the blocks that were claimed
@@ -12,13 +13,13 @@ pub record Seen : Type 0 where
   pub objects : List ObjectBytes
   pub claims : List BlockNo
 
-abbrev pub seen_in : Option Snap → Option Seen
+abbrev pub seen_of : Snap → Seen
+seen_of snap = record { geometry = snap.geometry; objects = snap.objects.items; claims = snap.claims.items }
+
+-- what was read for a planner
+abbrev pub seen_in : Option Planner → Option Seen
 seen_in None = None
-seen_in (Some snap) = Some (record {
-  geometry = snap.geometry;
-  objects = snap.objects.items;
-  claims = snap.claims.items;
-})
+seen_in (Some planner) = Some (seen_of planner.snap)
 
 -- once an object more was read
 abbrev pub with_object : Addr → List ℕ → Option Seen → Option Seen

@@ -81,7 +81,7 @@ progress_in (Waiting place) job begun asked knowing = at_stage asked.waiting (to
 -- how far it is, as its steps tell it
 abbrev pub progress_of : State → Progress
 progress_of state = progress_in state.phase state.work.job
-    (begun_of state.begun.tx (seen_in state.work.snap) state.known) state.asked state.known
+    (begun_of state.begun.tx (seen_in state.work.planner) state.known) state.asked state.known
 
 -- ---- between the events
 

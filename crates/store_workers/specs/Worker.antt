@@ -52,7 +52,7 @@ pub record IsHeld (state : State) : Type 0 where
 
 -- it has room for what is read or claimed next, and to note it
 pub record HasRoom (state : State) : Type 0 where
-  pub snap : IfSome state.work.snap (λ snap. seen.HasRoom snap)
+  pub planner : IfSome state.work.planner (λ planner. seen.HasRoom planner.snap)
   pub known : state.known.room ≡ true
 
 -- there is room for what the plan asks for
@@ -87,7 +87,7 @@ with_call ctx call state = record state {
 abbrev pub at_rest : State
 at_rest = record {
   phase = Idle;
-  work = record { job = None; snap = None; reply = None; broken_reply = None; entry = None; answer = None };
+  work = record { job = None; planner = None; reply = None; broken_reply = None; entry = None; answer = None };
   begun = record { tx = None; io = None };
   asked = record { wish = None; mode = modes.Exclusive; waiting = None };
   known = nothing_known;

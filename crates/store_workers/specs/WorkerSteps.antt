@@ -40,7 +40,7 @@ use Rattle.store_promise.specs.declared.aims.Aim.{Aim}
 use Rattle.store_promise.specs.declared.aims.Aim.TheVariants as aim
 use Rattle.store_workers.specs.Knowing.{given_back}
 use Rattle.store_workers.specs.Phases.{is_planned}
-use Rattle.store_workers.specs.Seen.{Seen, seen_in}
+use Rattle.store_workers.specs.Seen.{Seen, seen_in, seen_of}
 use Rattle.store_workers.specs.WorkerAnswers.{after_commit, asked_wanted, begun_claimed, begun_wanted}
 use Rattle.store_workers.specs.WorkerAnswers.{claim_wish, committing_of, known_claimed, known_wanted}
 use Rattle.store_workers.specs.WorkerAnswers.{phase_claimed, phase_wanted, seen_claimed, seen_wanted, wish_of}
@@ -68,7 +68,7 @@ none_begun = record { tx = None; io = None }
 -- the worker once what it read, and what it knows, has other room
 abbrev pub with_snap : State → State → State
 with_snap new old = record old {
-  work = record old.work { snap = new.work.snap };
+  work = record old.work { planner = new.work.planner };
   known = record old.known { room = new.known.room };
 }
 
@@ -101,10 +101,10 @@ pub record HasBegun (job : Job) (old : Side) (number : ℕ) (new : Side) : Type 
   pub worker : new.worker ≡ record old.worker {
     phase = Planning;
     begun = record { tx = Some number; io = None };
-    work = record old.worker.work { job = Some (numbered old.core.boot number job); snap = new.worker.work.snap };
+    work = record old.worker.work { job = Some (numbered old.core.boot number job); planner = new.worker.work.planner };
     known = given_back old.worker.known;
   }
-  pub seen : IsSomeAnd (seen_in new.worker.work.snap) (SawNothing old.core)
+  pub seen : IsSomeAnd (seen_in new.worker.work.planner) (SawNothing old.core)
 
 -- A call begins a transaction, or is told why none was begun; NULL is answered.
 abbrev pub BeginsBy : Bool → Job → Side → Step → Side → Type 0
@@ -132,8 +132,8 @@ pub record HasWanted (tx : ℕ) (addr : Addr) (mode : Mode) (old : Side) (made :
     asked = asked_wanted addr mode answer old.worker.asked;
     known = known_wanted addr mode answer (with_snap new.worker old.worker).known;
   }
-  pub seen : seen_in new.worker.work.snap
-      ≡ seen_wanted old.worker.known.left addr answer (seen_in old.worker.work.snap)
+  pub seen : seen_in new.worker.work.planner
+      ≡ seen_wanted old.worker.known.left addr answer (seen_in old.worker.work.planner)
 
 -- a wish to claim a block is answered
 pub record HasClaimed (tx : ℕ) (block : BlockNo) (old : Side) (made : Step) (new : Side) : Type 0 where
@@ -145,8 +145,8 @@ pub record HasClaimed (tx : ℕ) (block : BlockNo) (old : Side) (made : Step) (n
     begun = begun_claimed answer;
     known = known_claimed block answer (with_snap new.worker old.worker).known;
   }
-  pub seen : seen_in new.worker.work.snap
-      ≡ seen_claimed old.worker.known.left block answer (seen_in old.worker.work.snap)
+  pub seen : seen_in new.worker.work.planner
+      ≡ seen_claimed old.worker.known.left block answer (seen_in old.worker.work.planner)
 
 -- what a finished plan is to the core
 abbrev pub planned_of : Outcome → Planned
@@ -165,7 +165,7 @@ pub record HasCommitted (job : Job) (tx : ℕ) (done : Outcome) (old : Side) (ma
     pub made_is : made ≡ step.Commit (blocks_of done.written) (committing_of answer)
     pub core : IsCommit old.core tx (planned_of done) done answer new.core
     pub sets : IsSetBy old.core (planned_of done) answer new.core
-    pub seen : seen_in new.worker.work.snap ≡ seen_in old.worker.work.snap
+    pub seen : seen_in new.worker.work.planner ≡ seen_in old.worker.work.planner
     pub worker : new.worker ≡ after_commit job done.reply answer
         (record (with_snap new.worker old.worker) { begun = none_begun })
 
@@ -198,7 +198,7 @@ pub record IsNext (worker : State) (next : Plan) : Type 0 where
   pub job : Job
   pub job_is : worker.work.job ≡ Some job
   pub snap : Snap
-  pub snap_is : seen_in worker.work.snap ≡ seen_in (Some snap)
+  pub snap_is : seen_in worker.work.planner ≡ Some (seen_of snap)
   pub plan : IsPlanFor snap next
   pub is_step : IsStepPlan snap.geometry job.ctx job.call next
 

@@ -71,7 +71,7 @@ impl Worker {
                 phase: Phase::Idle,
                 work: Work {
                     job: None,
-                    snap: None,
+                    planner: None,
                     reply: None,
                     broken_reply: None,
                     entry: LastEntry::none(),

@@ -8,7 +8,7 @@ use super::asked::Asked;
 use super::known::Known;
 use super::last_entry::LastEntry;
 use nfs_types::{Call, Ctx, Reply};
-use procs::{Done, Snap};
+use procs::{Done, Planner};
 use store_promise::{CallAnswer, Cause};
 use txn::{Core, FetchIo, Seq, Tx};
 
@@ -53,7 +53,7 @@ pub(crate) struct State {
 #[derive(Drop)]
 pub(crate) struct Work {
     pub(crate) job: Option<Job>,
-    pub(crate) snap: Option<Snap>,
+    pub(crate) planner: Option<Planner>,
     // The replies of a committed procedure: that of its plan, and the one in its place where the store is
     // broken.
     pub(crate) reply: Option<Reply>,

@@ -8,7 +8,7 @@ use super::parts::{Phase, State};
 use crate::options::put;
 use disk::BlockNo;
 use objects::{Addr, Mode, SharedBytes};
-use procs::{Done, Plan, plan};
+use procs::{Done, Plan};
 use std::alloc::Global;
 use store_promise::{Aim, Cause, Ending, Step, Verdict, Wish};
 use txn::{Claim, Core, Tx, Want};
@@ -103,16 +103,16 @@ impl State {
         requires asked { ∥ HasSoundJob self.old ∥₁ }
         ensures next { IsNext self.old result }
         ensures rest { self.new ≡ with_snap self.new self.old }
-        ensures seen { seen_in self.new.work.snap ≡ seen_in self.old.work.snap }
+        ensures seen { seen_in self.new.work.planner ≡ seen_in self.old.work.planner }
         ensures room { HasRoomFor result self.new }
     {
-        let (Some(job), Some(snap)) = (self.work.job.as_ref(), self.work.snap.as_mut()) else {
+        let (Some(job), Some(planner)) = (self.work.job.as_ref(), self.work.planner.as_mut()) else {
             unreachable!();
         };
-        if snap.make_room().is_err() || self.known.make_room().is_err() {
+        if planner.make_room().is_err() || self.known.make_room().is_err() {
             return Plan::NoMemory;
         }
-        plan(alloc, &job.ctx, &job.call, snap)
+        planner.next(alloc, &job.ctx, &job.call)
     }
 
     // Ends the transaction for want of memory.
@@ -160,8 +160,8 @@ impl State {
           asked = asked_wanted addr mode answer self.old.asked;
           known = known_wanted addr mode answer (with_snap self.new self.old).known;
         } }
-        ensures seen { seen_in self.new.work.snap
-            ≡ seen_wanted self.old.known.left addr answer (seen_in self.old.work.snap) }
+        ensures seen { seen_in self.new.work.planner
+            ≡ seen_wanted self.old.known.left addr answer (seen_in self.old.work.planner) }
         ensures planned { is_planned self.new.work ≡ true }
     {
         let aim = Aim::Object(addr, mode);
@@ -224,15 +224,15 @@ impl State {
         requires len { length bytes ≡ addr.len }
         ensures rest { self.new ≡ with_snap self.new self.old }
         ensures known { self.new.known ≡ self.old.known }
-        ensures seen { seen_in self.new.work.snap
-            ≡ seen_held self.old.known.left addr bytes (seen_in self.old.work.snap) }
+        ensures seen { seen_in self.new.work.planner
+            ≡ seen_held self.old.known.left addr bytes (seen_in self.old.work.planner) }
         ensures planned { is_planned self.new.work ≡ true }
     {
         if self.known.next().is_some() {
             return;
         }
-        match self.work.snap.as_mut() {
-            Some(snap) => snap.add(addr, bytes),
+        match self.work.planner.as_mut() {
+            Some(planner) => planner.add(addr, bytes),
             None => unreachable!(),
         }
     }
@@ -266,8 +266,8 @@ impl State {
           begun = begun_claimed answer;
           known = known_claimed block answer (with_snap self.new self.old).known;
         } }
-        ensures seen { seen_in self.new.work.snap
-            ≡ seen_claimed self.old.known.left block answer (seen_in self.old.work.snap) }
+        ensures seen { seen_in self.new.work.planner
+            ≡ seen_claimed self.old.known.left block answer (seen_in self.old.work.planner) }
         ensures planned { is_planned self.new.work ≡ true }
     {
         let aim = Aim::Claim(block);
@@ -303,15 +303,15 @@ impl State {
         requires room { self.old.known.left ≡ [] → HasRoom self.old }
         ensures rest { self.new ≡ with_snap self.new self.old }
         ensures known { self.new.known ≡ self.old.known }
-        ensures seen { seen_in self.new.work.snap
-            ≡ seen_taken self.old.known.left block (seen_in self.old.work.snap) }
+        ensures seen { seen_in self.new.work.planner
+            ≡ seen_taken self.old.known.left block (seen_in self.old.work.planner) }
         ensures planned { is_planned self.new.work ≡ true }
     {
         if self.known.next().is_some() {
             return;
         }
-        match self.work.snap.as_mut() {
-            Some(snap) => snap.claimed(block),
+        match self.work.planner.as_mut() {
+            Some(planner) => planner.claimed(block),
             None => unreachable!(),
         }
     }

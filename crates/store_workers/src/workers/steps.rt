@@ -8,7 +8,7 @@ use crate::options::put;
 use disk::CrashDisk;
 use layout::{FormatVersion, Geometry};
 use nfs_types::{Call, Ctx, Reply, Status};
-use procs::{Done, Snap, begins_transaction, refused_reply};
+use procs::{Done, Planner, begins_transaction, refused_reply};
 use std::alloc::Global;
 use store_promise::{CallAnswer, Cause, Ending, Step, Verdict};
 use txn::{BeginFault, Core, Seq, Tx};
@@ -110,7 +110,7 @@ impl State {
                     blocks,
                     inodes,
                 };
-                self.work.snap = Some(Snap::new(alloc, geometry));
+                self.work.planner = Some(Planner::new(alloc, geometry));
                 self.known.give_back();
                 self.go_on(tx, Phase::Planning);
                 Step::Begun(Ok(number))

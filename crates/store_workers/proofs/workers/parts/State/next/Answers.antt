@@ -1,5 +1,6 @@
-use Rattle.std.proofs.Common.{rules, ◌≡◌, Some, ap}
-use Rattle.store_workers.specs.Seen.{seen_in}
+use Rattle.std.proofs.Common.{rules, ◌≡◌, ◌∙◌, Option, Some, ap, sym}
+use Rattle.inode.specs.declared.snap.Snap.{Snap}
+use Rattle.store_workers.specs.Seen.{Seen, seen_in, seen_of}
 use Rattle.store_workers.proofs.SpelledOnce.{job_sound}
 use Rattle.store_workers.proofs.workers.parts.State.next.Goals as goal
 
@@ -10,21 +11,28 @@ plan-requires-clause-sound c =
 
 pub returns-then-is_err-clause-next : goal.returns-then-is_err-clause-next
 returns-then-is_err-clause-next c =
-    let there : c.args.self.now.work.snap ≡ Some c.in-Some-Some.snap.now = search rules in record {
+    let there : c.args.self.now.work.planner ≡ Some c.in-Some-Some.planner.now = search rules in record {
       job = c.in-Some-Some.job.now;
       job_is = search rules;
-      snap = c.in-Some-Some.snap.now;
+      snap = c.in-Some-Some.planner.now.snap;
       snap_is = ap seen_in there;
       plan = tt;
       is_step = tt;
     }
 
 pub returns-clause-next : goal.returns-clause-next
-returns-clause-next c = record {
-  job = c.in-Some-Some.job.now;
-  job_is = search rules;
-  snap = c.make_room.new.self;
-  snap_is = search rules;
-  plan = c.plan.ensures.plan;
-  is_step = c.plan.ensures.step;
-}
+returns-clause-next c =
+    let there : c.args.self.now.work.planner ≡ Some c.in-Some-Some.planner.now = search rules in record {
+      job = c.in-Some-Some.job.now;
+      job_is = search rules;
+      snap = c.make_room.new.self.snap;
+      snap_is = ap seen_in there
+          ∙ same_seen c.in-Some-Some.planner.now.snap c.make_room.new.self.snap c.make_room.ensures.geometry
+          c.make_room.ensures.objects c.make_room.ensures.claims;
+      plan = c.next.ensures.plan;
+      is_step = c.next.ensures.step;
+    }
+  where
+    same_seen : (old new : Snap) → new.geometry ≡ old.geometry → new.objects.items ≡ old.objects.items
+        → new.claims.items ≡ old.claims.items → ◌≡◌ {A = Option Seen} (Some (seen_of old)) (Some (seen_of new))
+    same_seen old new g o c i = Some (record { geometry = sym g i; objects = sym o i; claims = sym c i })

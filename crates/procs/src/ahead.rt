@@ -1,0 +1,296 @@
+//! What a call asks for behind a run that stopped, without another. These are positions, of which nothing is claimed:
+//! the procedure is run again once all of it was read.
+ghost use Rattle.std.specs.Prelude.{◌≡◌, ◌<◌, ◌≤◌, IfErr, IfSome};
+ghost use Rattle.limits.specs.declared.TheConstants.{FILE_INDEXES};
+ghost use Rattle.inode.specs.Over.{MayStop};
+ghost use Rattle.inode.specs.declared.stop.Stop.TheVariants as stop;
+ghost use Rattle.procedures.specs.Listing.{entry_room};
+
+use crate::next::Plan;
+use block_files::BlockFiles;
+use files::{Files, Head};
+use inode::{Snap, Stop, block_number, data_block, held};
+use layout::{Inode, InodeKind};
+use limits::{
+    BLOCK_BYTES, ENTRY_BYTES, ENTRY_PLUS_BYTES, LARGEST_FILE, LISTING_BYTES, LISTING_FRAME,
+    TRANSFER_BYTES,
+};
+use nfs_types::{Call, Handle};
+use objects::Addr;
+use procedures::{ITSELF_COOKIE, PARENT_COOKIE};
+use std::alloc::{AllocError, Global};
+
+/// Nothing; the blocks of a file that a READ asks for; or what a listing asks for.
+#[derive(Drop)]
+pub(crate) enum Ahead {
+    Nothing,
+    Blocks(Blocks),
+    Listing(Listing),
+}
+
+/// The blocks of a file from an index on up to another.
+#[derive(Drop)]
+pub(crate) struct Blocks {
+    inode: Inode,
+    at: usize,
+    end: usize,
+    ghost within: { end ≤ FILE_INDEXES },
+}
+
+/// A listing: the slot from which it goes on, the room that is left for names and for the whole, and the numbers that it
+/// has listed, of which the first were told; these only where their files are told.
+#[derive(Drop)]
+pub(crate) struct Listing {
+    directory: Head,
+    besides: u32,
+    tells: bool,
+    from: u64,
+    names_room: u64,
+    room: u64,
+    is_full: bool,
+    numbers: Vec<u32>,
+    told: usize,
+}
+
+// How far a listing is with what a directory lists, as long as there is room.
+impl Listing {
+    // An entry more, if there is room for it.
+    fn add(&mut self, number: u32, name: &[u8]) -> Result<(), AllocError>
+        ensures { self.new.from ≡ self.old.from }
+    {
+        let padded = (name.len() as u64 + 3) / 4 * 4;
+        let bytes = self.besides as u64 + padded;
+        let name_bytes = ENTRY_BYTES as u64 + padded;
+        if self.is_full || bytes > self.room || name_bytes > self.names_room {
+            self.is_full = true;
+            return Ok(());
+        }
+        self.room -= bytes;
+        self.names_room -= name_bytes;
+        if self.tells {
+            self.numbers.push(number)?;
+        }
+        Ok(())
+    }
+
+    // Lists names until one has no room, or none is left.
+    fn list(&mut self, alloc: Global, files: &BlockFiles) -> Result<(), Stop>
+        ensures { IfErr result (λ why. MayStop files.now.snap.now why) }
+    {
+        'names: while !self.is_full {
+            match files.next_name(alloc, &self.directory, self.from)? {
+                Some(found) => {
+                    self.from = found.slot as u64 + 1;
+                    self.add(found.number, found.name.as_slice())?;
+                }
+                None => {
+                    self.is_full = true;
+                    return Ok(());
+                }
+            }
+        }
+        Ok(())
+    }
+
+    // Tells the files of what was listed.
+    fn tell(&mut self, files: &BlockFiles) -> Result<(), Stop>
+        ensures { IfErr result (λ why. MayStop files.now.snap.now why) }
+    {
+        'numbers: while self.told < self.numbers.len() {
+            files.file(self.numbers[self.told])?;
+            self.told += 1;
+        }
+        Ok(())
+    }
+
+    fn go_on(&mut self, alloc: Global, snap: &Snap) -> Result<(), Stop>
+        ensures { IfErr result (λ why. MayStop snap.now why) }
+    {
+        let files = BlockFiles::new(alloc, snap);
+        match self.list(alloc, &files) {
+            Ok(()) => self.tell(&files),
+            Err(stop) => Err(stop),
+        }
+    }
+}
+
+// Asks for the block at an index of a file, if it has one.
+fn ask_block(snap: &Snap, inode: &Inode, index: usize) -> Result<(), Stop>
+    requires { index < FILE_INDEXES }
+    ensures { IfErr result (λ why. MayStop snap.now why) }
+{
+    let number = block_number(snap, inode, index)?;
+    if number != 0 {
+        data_block(snap, number)?;
+    }
+    Ok(())
+}
+
+impl Blocks {
+    fn go_on(&mut self, snap: &Snap) -> Result<(), Stop>
+        ensures { IfErr result (λ why. MayStop snap.now why) }
+    {
+        'indexes: while self.at < self.end {
+            ask_block(snap, &self.inode, self.at)?;
+            self.at += 1;
+        }
+        Ok(())
+    }
+}
+
+impl Ahead {
+    fn go_on(&mut self, alloc: Global, snap: &Snap) -> Result<(), Stop>
+        ensures { IfErr result (λ why. MayStop snap.now why) }
+    {
+        match self {
+            Ahead::Nothing => Ok(()),
+            Ahead::Blocks(blocks) => blocks.go_on(snap),
+            Ahead::Listing(listing) => listing.go_on(alloc, snap),
+        }
+    }
+
+    /// The next object that is asked for: the same until it was read.
+    pub(crate) fn next(&mut self, alloc: Global, snap: &Snap) -> Option<Addr>
+        ensures { IfSome result (λ addr. MayStop snap.now (stop.Need addr)) }
+    {
+        match self.go_on(alloc, snap) {
+            Err(Stop::Need(addr)) => Some(addr),
+            _ => None,
+        }
+    }
+}
+
+// The blocks that a READ asks for.
+fn blocks_of(snap: &Snap, file: &Handle, offset: u64, count: u32) -> Result<Ahead, Stop> {
+    let Some((number, _)) = file.parts() else {
+        return Ok(Ahead::Nothing);
+    };
+    let Some(inode) = held(snap, number)? else {
+        return Ok(Ahead::Nothing);
+    };
+    if inode.kind != InodeKind::Regular || inode.size > LARGEST_FILE || offset >= inode.size {
+        return Ok(Ahead::Nothing);
+    }
+    let wanted = count.min(TRANSFER_BYTES) as u64;
+    let end = offset + wanted.min(inode.size - offset);
+    Ok(Ahead::Blocks(Blocks {
+        inode,
+        at: (offset / BLOCK_BYTES as u64) as usize,
+        end: ((end + BLOCK_BYTES as u64 - 1) / BLOCK_BYTES as u64) as usize,
+    }))
+}
+
+// What of so many bytes is left for entries.
+fn entry_room(count: u32) -> u32
+    ensures { result ≡ entry_room count }
+{
+    count.min(LISTING_BYTES).saturating_sub(LISTING_FRAME)
+}
+
+// A listing behind a cookie, of which nothing but the directory itself was looked at.
+fn listing_of(
+    alloc: Global,
+    snap: &Snap,
+    directory: &Handle,
+    cookie: u64,
+    besides: u32,
+    names_room: u32,
+    room: u32,
+    tells: bool,
+) -> Result<Ahead, Stop> {
+    let Some((number, _)) = directory.parts() else {
+        return Ok(Ahead::Nothing);
+    };
+    let Some(directory) = BlockFiles::new(alloc, snap).file(number)? else {
+        return Ok(Ahead::Nothing);
+    };
+    let mut listing = Listing {
+        directory,
+        besides,
+        tells,
+        from: cookie.saturating_sub(PARENT_COOKIE),
+        names_room: names_room as u64,
+        room: room as u64,
+        is_full: false,
+        numbers: Vec::new(alloc),
+        told: 0,
+    };
+    if cookie < ITSELF_COOKIE {
+        listing.add(directory.number, b".")?;
+    }
+    if cookie < PARENT_COOKIE {
+        listing.add(directory.parent, b"..")?;
+    }
+    Ok(Ahead::Listing(listing))
+}
+
+// What a call asks for in a row, from its first object on.
+fn in_a_row(alloc: Global, call: &Call, snap: &Snap) -> Result<Ahead, Stop> {
+    match call {
+        Call::Read {
+            file,
+            offset,
+            count,
+        } => blocks_of(snap, file, *offset, *count),
+        Call::ReadDir {
+            directory,
+            cookie,
+            count,
+            ..
+        } => {
+            let room = entry_room(*count);
+            listing_of(
+                alloc,
+                snap,
+                directory,
+                *cookie,
+                ENTRY_BYTES,
+                room,
+                room,
+                false,
+            )
+        }
+        Call::ReadDirPlus {
+            directory,
+            cookie,
+            directory_count,
+            greatest_count,
+            ..
+        } => {
+            let room = entry_room(*greatest_count);
+            let names_room = *directory_count;
+            listing_of(
+                alloc,
+                snap,
+                directory,
+                *cookie,
+                ENTRY_PLUS_BYTES,
+                names_room,
+                room,
+                true,
+            )
+        }
+        _ => Ok(Ahead::Nothing),
+    }
+}
+
+/// What a call asks for behind a plan: nothing, unless the plan asks for the next object of what the call asks for in a
+/// row, so that the run has come there.
+pub(crate) fn behind(alloc: Global, call: &Call, snap: &Snap, plan: &Plan) -> Ahead {
+    let Plan::Need(asked, _) = plan else {
+        return Ahead::Nothing;
+    };
+    let Ok(mut ahead) = in_a_row(alloc, call, snap) else {
+        return Ahead::Nothing;
+    };
+    match ahead.next(alloc, snap) {
+        Some(addr) => {
+            if addr == *asked {
+                ahead
+            } else {
+                Ahead::Nothing
+            }
+        }
+        None => Ahead::Nothing,
+    }
+}
