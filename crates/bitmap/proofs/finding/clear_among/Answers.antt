@@ -1,4 +1,4 @@
-use Rattle.std.proofs.Common.{arith}
+use Rattle.std.proofs.Common.{◌*◌, arith}
 use Rattle.bitmap.proofs.Clears.{in_two, one_of}
 use Rattle.bitmap.proofs.OfResults.{mapped}
 use Rattle.bitmap.proofs.finding.clear_among.Goals as goal

@@ -1,4 +1,4 @@
-use Rattle.std.proofs.Common.{◌≡◌, ℕ, ◌-◌, ap, refl, arith}
+use Rattle.std.proofs.Common.{◌≡◌, ℕ, ◌-◌, ◌*◌, ap, refl, arith}
 use Rattle.layout_records.specs.Bits.{clear_in, piece_in}
 use Rattle.bitmap.specs.Clear.{clear_of}
 use Rattle.bitmap.proofs.Chunks.{clear_pieces}
