@@ -1,8 +1,7 @@
-use Rattle.std.proofs.Common.{refl}
+use Rattle.std.proofs.Common.{ℕ, List, refl, subst, ◌*◌, ◌+◌}
 use Rattle.limits.specs.declared.TheConstants.{SLOTS_PER_BLOCK}
-use Rattle.std.proofs.Common.{◌*◌, ◌+◌}
 use Rattle.layout.specs.Parts.{content_in}
-use Rattle.dir.specs.Slots.{block_slot, slot_at}
+use Rattle.dir.specs.Slots.{IsFound, block_slot, slot_at}
 use Rattle.dir.proofs.Grown.{looked}
 use Rattle.dir.proofs.Moved.{moved_found}
 use Rattle.dir.proofs.sought.look_through.Goals as goal
@@ -18,4 +17,5 @@ returns-clause-knows c =
     moved_found (slot_at snap.geometry.inodes (content_in snap.geometry blocks) inode)
     (block_slot snap.geometry.inodes first c.in_ok-block.block.now) first (first + SLOTS_PER_BLOCK)
     (c.in_ok-block.ensures.ok blocks tree file is less) old.name c.find_in_block-found.result
-    c.find_in_block-found.ensures.found)
+    (subst (λ (name : List ℕ). IsFound (block_slot snap.geometry.inodes first c.in_ok-block.block.now) name first
+    (first + SLOTS_PER_BLOCK) c.find_in_block-found.result) c.as_slice.ensures c.find_in_block-found.ensures.found))
