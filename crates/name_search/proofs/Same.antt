@@ -1,5 +1,5 @@
 -- A name that is looked for further is the same name.
-use Rattle.std.proofs.Common.{◌≡◌, ℕ, ap, ◌∙◌, Option}
+use Rattle.std.proofs.Common.{◌≡◌, ap, ◌∙◌, Option}
 use Rattle.nfs_types.specs.declared.call.DirectoryName.{DirectoryName}
 use Rattle.dir.specs.declared.sought.Sought.{Sought}
 use Rattle.name_search.specs.Known.{IsOfPlace}

@@ -1,5 +1,5 @@
 //! A name that wasn't looked for yet.
-ghost use Rattle.std.specs.Prelude.{IfOk};
+ghost use Rattle.std.specs.Prelude.{◌≡◌, Some, None, IfOk};
 ghost use Rattle.inode.specs.declared.snap.Snap.{Snap};
 ghost use Rattle.dir.specs.Sought.{IsSought};
 ghost use Rattle.name_search.specs.Known.{IsOfPlace};
@@ -14,6 +14,7 @@ use std::alloc::{AllocError, Global};
 fn begun_at(alloc: Global, place: &DirectoryName) -> Result<Sought, AllocError>
     ensures knows { IfOk result (λ sought. (snap : Snap) → IsSought snap sought) }
     ensures is { IfOk result (λ sought. IsOfPlace (Some place.now) sought) }
+    ensures none { IfOk result (λ sought. sought.blocks ≡ 0) }
 {
     let directory = match place.directory.parts() {
         Some((number, _)) => number,
