@@ -70,7 +70,10 @@ impl Names {
                 self.is_second = true;
                 self.go_on_second(snap)
             }
-            Err(stop) => Err(stop),
+            Err(stop) => {
+                self.is_second = false;
+                Err(stop)
+            }
         }
     }
 
