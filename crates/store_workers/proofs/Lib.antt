@@ -1,4 +1,5 @@
 pub mod AfterCommit
+pub mod EndStays
 pub mod EventTells
 pub mod HowFar
 pub mod LoneWorker
