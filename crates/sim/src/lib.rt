@@ -15,4 +15,6 @@ mod simulation;
 mod stage;
 
 pub use fault::SimFault;
+pub use image::image;
+pub use segment::Segment;
 pub use simulation::simulate;
