@@ -24,7 +24,6 @@ fault_of_script script.NoMemory = fault.Session session.NoMemory
 
 -- and that its stops aren't tried to their end
 abbrev pub fault_of_stops : StopsFault → Fault
-fault_of_stops (stops.Line number) = fault.Line number
 fault_of_stops (stops.Format why) = fault.Format why
 fault_of_stops (stops.Open why) = fault.Open why
 fault_of_stops (stops.Torn text) = fault.Torn text

@@ -11,7 +11,7 @@ use crate::trouble::Trouble;
 use session::SessionFault;
 use sim::{SimFault, simulate};
 use sim_stops::{StopsFault, Tried, try_stops};
-use sim_words::{ScriptFault, commands};
+use sim_words::{ScriptFault, commands, stop_commands};
 use std::alloc::Global;
 use std::fs;
 use std::fs::Files;
@@ -52,6 +52,7 @@ where
     O: Write,
     ensures { TriesText text.now (O.contents writer.old) result (O.contents writer.new) }
 {
+    stop_commands(rt.alloc(), text).map_err(Fault::of_script)?;
     let mut progress = ProgressLines::new(rt, "stops tried");
     match try_stops(rt.alloc(), text, &mut progress) {
         Ok(tried) => print_tried(writer, tried),
@@ -83,7 +84,6 @@ impl Fault {
         ensures { result ≡ fault_of_stops fault }
     {
         match fault {
-            StopsFault::Line(number) => Fault::Line(number),
             StopsFault::Format(why) => Fault::Format(why),
             StopsFault::Open(why) => Fault::Open(why),
             StopsFault::Torn(text) => Fault::Torn(text),

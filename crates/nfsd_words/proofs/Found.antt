@@ -195,10 +195,10 @@ pub flag_found : (m : ArgMatches) (id : Text) (r : Bool) → (one_text (found_of
     → (one_text (found_of m) id ≡ Some (codes "true") → r ≡ true)
     → (one_text (found_of m) id ≡ Some (codes "false") → r ≡ false)
     → IsFlag (one_of id (rows_of (found_of m))) r
-flag_found m id r none yes no = record {
-  none = λ e. none (one_text-rows (found_of m) id ∙ e);
-  yes = λ e. yes (one_text-rows (found_of m) id ∙ e);
-  no = λ e. no (one_text-rows (found_of m) id ∙ e);
+flag_found m id r absent given denied = record {
+  none = λ e. absent (one_text-rows (found_of m) id ∙ e);
+  yes = λ e. given (one_text-rows (found_of m) id ∙ e);
+  no = λ e. denied (one_text-rows (found_of m) id ∙ e);
 }
 
 -- a fact stands where there is no value

@@ -1,14 +1,11 @@
 //! Why the stops of a script aren't tried to their end.
 
-use sim_words::ScriptFault;
 use std::alloc::{AllocError, AllocFailed};
 use store::{FormatFault, OpenFault};
 
 /// Why the stops of a script aren't tried to their end.
 #[derive(Drop)]
 pub enum StopsFault {
-    /// The script's first bad line: its number, from 1.
-    Line(usize),
     /// Its image can't be made.
     Format(FormatFault),
     /// Its image can't be opened, or the calls can't be replayed.
@@ -27,15 +24,6 @@ impl From<AllocError> for StopsFault {
 impl<T: Drop> From<AllocFailed<T>> for StopsFault {
     fn from(_e: AllocFailed<T>) -> StopsFault {
         StopsFault::NoMemory
-    }
-}
-
-impl From<ScriptFault> for StopsFault {
-    fn from(fault: ScriptFault) -> StopsFault {
-        match fault {
-            ScriptFault::Line(number) => StopsFault::Line(number),
-            ScriptFault::NoMemory => StopsFault::NoMemory,
-        }
     }
 }
 

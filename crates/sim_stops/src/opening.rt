@@ -1,4 +1,6 @@
 //! An image that was left, opened, and opened again behind the stops of its opening.
+ghost use Rattle.std.specs.Prelude.{IfOk, OnOk};
+ghost use Rattle.sim_stops.specs.Runs.{HasWanted};
 
 use crate::choices::{choice, choices, counts_of};
 use crate::fault::StopsFault;
@@ -15,11 +17,13 @@ const MOST_IN_OPENING: usize = 1;
 /// Opens an image, and opens it again behind each stop of the opening: it has wanted files each time.
 pub fn try_image(
     alloc: Global,
-    image: &MemDisk,
+    image: MemDisk,
     wanted: Wanted<'_>,
     left: Left<'_>,
-) -> Result<(), StopsFault> {
-    let (opened, calls) = open_whole(alloc, copy_of(alloc, image)?, wanted, left)?;
+) -> Result<(), StopsFault>
+    ensures { OnOk result (HasWanted wanted.entry.files.now wanted.entry.least wanted.entry.most image) }
+{
+    let (opened, calls) = open_whole(alloc, copy_of(alloc, &image)?, wanted, left)?;
     let behind = Left {
         opening: Some(InOpening {
             call: calls,
@@ -28,20 +32,22 @@ pub fn try_image(
         ..left
     };
     open_whole(alloc, opened, wanted, behind)?;
-    for call in 1..=calls {
-        try_stopped(alloc, image, call, wanted, left)?;
+    'calls: for call in 0..calls {
+        try_stopped(alloc, &image, call, wanted, left)?;
     }
+    open_whole(alloc, image, wanted, left)?;
     Ok(())
 }
 
-// Opens an image behind a stop of an opening at the device call of this number, from 1.
+// Opens an image behind a stop of an opening at the device call behind so many.
 fn try_stopped(
     alloc: Global,
     image: &MemDisk,
-    call: u64,
+    before: u64,
     wanted: Wanted<'_>,
     left: Left<'_>,
 ) -> Result<(), StopsFault> {
+    let call = before.saturating_add(1);
     let counts = counts_of(alloc, &stopped(alloc, image, call)?)?;
     if counts.is_empty() {
         return Ok(());
@@ -75,7 +81,9 @@ fn open_whole(
     image: MemDisk,
     wanted: Wanted<'_>,
     left: Left<'_>,
-) -> Result<(MemDisk, u64), StopsFault> {
+) -> Result<(MemDisk, u64), StopsFault>
+    ensures { IfOk result (λ _. HasWanted wanted.entry.files.now wanted.entry.least wanted.entry.most image) }
+{
     let (disk, opened) = run(alloc, image, 1, Vec::new(alloc));
     if let Err(fault) = opened {
         return Err(refused(alloc, left, fault));

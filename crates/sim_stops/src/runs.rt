@@ -1,4 +1,7 @@
 //! Runs of a script's beginnings, and their stops.
+ghost use Rattle.std.specs.Prelude.{◌≡◌, IfOk};
+ghost use Rattle.sim_stops.specs.Promised.{place_of, promised_by, promised_of};
+ghost use Rattle.sim_stops.specs.Runs.{IsRunOf};
 
 use crate::fault::StopsFault;
 use crate::script::{Asked, script_of};
@@ -6,7 +9,7 @@ use disk::MemDisk;
 use procs::is_answered_stable;
 use sim_words::WORKERS;
 use std::alloc::{AllocError, Global};
-use store::{Answer, Run, Step, run};
+use store::{Answer, Committed, Run, Step, run};
 
 /// Runs the first events of a script on a new image: all of them where there are no more.
 pub fn run_first(
@@ -14,7 +17,9 @@ pub fn run_first(
     text: &[u8],
     asked: Asked,
     count: usize,
-) -> Result<(MemDisk, Run), StopsFault> {
+) -> Result<(MemDisk, Run), StopsFault>
+    ensures { IfOk result (λ it. IsRunOf asked it.0 it.1) }
+{
     let mut events = script_of(alloc, text)?.events;
     events.truncate(count);
     let count = events.len();
@@ -36,7 +41,7 @@ fn has_failed(step: &Option<Step>) -> bool {
 
 /// Before how many events each stop of a run lies: before each device call of log and installer, which writes or settles,
 /// and at the end.
-pub fn stops_of(alloc: Global, run: &Run) -> Result<Vec<usize>, AllocError> {
+pub fn stops_in(alloc: Global, run: &Run) -> Result<Vec<usize>, AllocError> {
     let mut stops = Vec::new(alloc);
     for index in 0..run.steps.len() {
         if is_call(&run.steps[index]) {
@@ -53,21 +58,37 @@ fn is_call(step: &Option<Step>) -> bool {
 }
 
 /// How many entries of its history a stop behind a run leaves at least: up to the last place that was answered as stable.
-pub fn promised(run: &Run) -> usize {
+#[tactic(auto, using(crate::proofs::Counted::promised_more, crate::proofs::Counted::promised_end))]
+pub fn promised(run: &Run) -> usize
+    ensures { result ≡ promised_of run.now.history.items run.now.answers.items }
+{
     let mut least = 0;
-    for answer in &run.answers {
+    'answers: for answer in &run.answers {
         least = least.max(promised_by(run, answer));
     }
     least
 }
 
 // The place that an answer tells as stable, or 0 where it tells none.
-fn promised_by(run: &Run, answer: &Answer) -> usize {
+fn promised_by(run: &Run, answer: &Answer) -> usize
+    ensures { result ≡ promised_by run.now.history.items answer.now.place }
+{
     match answer.place {
         None => 0,
-        Some(place) => match run.history.get((place.0 as usize).saturating_sub(1)) {
-            Some(entry) if is_answered_stable(&entry.call) => place.0 as usize,
-            _ => 0,
-        },
+        Some(place) => place_of(place.0 as usize, run.history.as_slice()),
+    }
+}
+
+// This place, if its entry is answered only once it is stable, and else 0.
+fn place_of(place: usize, history: &[Committed]) -> usize
+    ensures { result ≡ place_of place history.now }
+{
+    if place == 0 || place > history.len() {
+        return 0;
+    }
+    if is_answered_stable(&history[place - 1].call) {
+        place
+    } else {
+        0
     }
 }

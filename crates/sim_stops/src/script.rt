@@ -1,6 +1,7 @@
 //! A script whose stops are tried: its image, and what happens to that.
-ghost use Rattle.std.specs.Prelude.{◌≡◌};
+ghost use Rattle.std.specs.Prelude.{IfOk};
 ghost use Rattle.model.specs.Sound.{SoundTime};
+ghost use Rattle.sim_stops.specs.Runs.{IsMade};
 
 use crate::fault::StopsFault;
 use disk::MemDisk;
@@ -22,7 +23,9 @@ pub struct Asked {
 
 impl Asked {
     /// Makes it on a new device.
-    pub fn make(self, alloc: Global) -> Result<MemDisk, StopsFault> {
+    pub fn make(self, alloc: Global) -> Result<MemDisk, StopsFault>
+        ensures { IfOk result (IsMade self) }
+    {
         Ok(image(alloc, self.blocks, self.inodes, self.moment)?)
     }
 }
@@ -34,15 +37,18 @@ pub struct Script {
     pub events: Vec<Event>,
 }
 
-/// Reads a script whose stops are tried.
+/// Reads a script whose stops are tried. It was read before, so it is refused for want of memory alone.
 pub fn script_of(alloc: Global, text: &[u8]) -> Result<Script, StopsFault> {
+    let Ok(commands) = stop_commands(alloc, text) else {
+        return Err(StopsFault::NoMemory);
+    };
     let mut moment = Moment {
         seconds: 0,
         nanoseconds: 0,
     };
     let mut image = None;
     let mut segment = Segment::new(alloc);
-    'commands: for command in stop_commands(alloc, text)? {
+    'commands: for command in commands {
         match command {
             Command::Time(next) => {
                 if next.nanoseconds < NANOSECONDS {

@@ -1,11 +1,14 @@
 //! The stops of a script's run, one after another.
+ghost use Rattle.std.specs.Prelude.{IfOk, IsOk};
+ghost use Rattle.sim_words.specs.Script.{stops_of};
+ghost use Rattle.sim_stops.specs.Tried.{IsTried, IsTriedStop};
 
 use crate::choices::{choice, choices, counts_of};
 use crate::fault::StopsFault;
 use crate::files::files_behind;
 use crate::left::Left;
 use crate::opening::try_image;
-use crate::runs::{promised, run_first, stops_of};
+use crate::runs::{promised, run_first, stops_in};
 use crate::script::{Asked, script_of};
 use crate::wanted::Wanted;
 use std::alloc::Global;
@@ -31,12 +34,15 @@ struct Stop {
 
 /// Tries each stop of a script. What a crash may leave there is opened, and again behind each stop of its opening. Its files
 /// are to be those behind a beginning of the entries that were committed by then, up to each that was answered as stable
-/// at least. Meanwhile `progress` is told how far it is.
+/// at least. Meanwhile `progress` is told how far it is. The text is a script whose stops may be tried.
 pub fn try_stops<P: Progress>(
     alloc: Global,
     text: &[u8],
     progress: &mut P,
-) -> Result<Tried, StopsFault> {
+) -> Result<Tried, StopsFault>
+    requires { IsOk (stops_of text.now) }
+    ensures { IfOk result IsTried }
+{
     let script = script_of(alloc, text)?;
     let Some(asked) = script.image else {
         return Ok(Tried {
@@ -45,10 +51,10 @@ pub fn try_stops<P: Progress>(
         });
     };
     let (_, run) = run_first(alloc, text, asked, script.events.len())?;
-    let stops = stops_of(alloc, &run)?;
+    let stops = stops_in(alloc, &run)?;
     let files = files_behind(alloc, asked.make(alloc)?, run.history)?;
     let mut images: u64 = 0;
-    for calls in 0..stops.len() {
+    'stops: for calls in 0..stops.len() {
         let stop = Stop {
             calls,
             all: stops.len() - 1,
@@ -71,7 +77,9 @@ fn try_stop<P: Progress>(
     stop: Stop,
     files: &[Vec<Line>],
     progress: &mut P,
-) -> Result<u64, StopsFault> {
+) -> Result<u64, StopsFault>
+    ensures { IfOk result (IsTriedStop asked files.now) }
+{
     let (disk, run) = run_first(alloc, text, asked, stop.event)?;
     let counts = counts_of(alloc, &disk)?;
     let wanted = Wanted {
@@ -80,7 +88,7 @@ fn try_stop<P: Progress>(
         most: run.history.len(),
     };
     let all = choices(&counts, MOST_AT_A_STOP);
-    for number in 0..all {
+    'numbers: for number in 0..all {
         tell(progress, stop);
         let choice = choice(alloc, &counts, MOST_AT_A_STOP, number)?;
         let (disk, _) = run_first(alloc, text, asked, stop.event)?;
@@ -90,7 +98,7 @@ fn try_stop<P: Progress>(
             choice: &choice,
             opening: None,
         };
-        try_image(alloc, &disk.crash(&choice), wanted, left)?;
+        try_image(alloc, disk.crash(&choice), wanted, left)?;
     }
     Ok(all)
 }

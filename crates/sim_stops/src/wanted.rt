@@ -1,4 +1,6 @@
 //! The files that an image may have.
+ghost use Rattle.std.specs.Prelude.{◌≡◌, ◌↔◌, IfNone, IfSome, IsTrue};
+ghost use Rattle.sim_stops.specs.WantedFiles.{AreWanted};
 
 use crate::left::Difference;
 use store::Line;
@@ -13,9 +15,13 @@ pub struct Wanted<'a> {
 
 impl Wanted<'_> {
     /// How files differ from those of the least beginning, where they are of none.
-    pub fn differs(&self, found: &[Line]) -> Option<Difference> {
-        for count in self.least..=self.most {
-            if self.is_behind(count, found) {
+    pub fn differs(&self, found: &[Line]) -> Option<Difference>
+        ensures same { IfNone result (AreWanted self.now.files.now self.now.least self.now.most found.now) }
+        ensures other { IfSome result
+            (λ _. ¬ AreWanted self.now.files.now self.now.least self.now.most found.now) }
+    {
+        'files: for count in 0..self.files.len() {
+            if self.least <= count && count <= self.most && is_same(&self.files[count], found) {
                 return None;
             }
         }
@@ -24,17 +30,11 @@ impl Wanted<'_> {
             None => Some(difference(found, &[])),
         }
     }
-
-    // Whether these are the files behind so many entries.
-    fn is_behind(&self, count: usize, found: &[Line]) -> bool {
-        match self.files.get(count) {
-            Some(files) => is_same(files, found),
-            None => false,
-        }
-    }
 }
 
-fn is_same(files: &[Line], others: &[Line]) -> bool {
+fn is_same(files: &[Line], others: &[Line]) -> bool
+    ensures { IsTrue result ↔ (files.now ≡ others.now) }
+{
     files == others
 }
 
