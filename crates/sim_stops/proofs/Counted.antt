@@ -3,11 +3,16 @@ use Rattle.std.proofs.Common.{◌≡◌, ◌∙◌, ℕ, ◌+◌, ◌*◌, ◌/�
 use Rattle.std.proofs.Common.{nat_eq, nat_lt, append_assoc, append-nil, lt-ltb, le-ltb, refl}
 use Rattle.std.proofs.Math.ListN.{get_or}
 use Rattle.std.proofs.lemmas.List.{drop_all, drop_more, take_all, take_more}
-use Rattle.disk.specs.Memory.{Blocks}
+use Rattle.disk.specs.Memory.{Blocks, Past, held_at}
 use Rattle.store_promise.specs.declared.transcript.Answer.{Answer}
 use Rattle.store_promise.specs.declared.transcript.Committed.{Committed}
 use Rattle.sim_stops.specs.Promised.{promised_by, promised_from}
 use Rattle.sim_stops.specs.CrashChoices.{alone_choice, counts_in, each_choice, product_from}
+
+-- what a device holds now is what it holds behind all of its calls
+pub held_now : (now : Blocks) (past : Past) → held_at now past (length past) ≡ now
+held_now now [] = refl
+held_now now (call ∷ past) = held_now now past
 
 -- the counts of blocks behind others
 pub counts_behind : (some more : Blocks) → counts_in (some ++ more) ≡ counts_in some ++ counts_in more

@@ -1,6 +1,6 @@
 -- What was tried so far, and one more.
-use Rattle.std.proofs.Common.{◌≡◌, ◌∙◌, ℕ, ◌+◌, ◌-◌, ◌<◌, ◌≤◌, ◌^◌, ◌⊎◌, List, [], ◌∷◌, ◌++◌, All, Vec, ap, sym, subst, inl, inr, length, min, arith, refl}
-use Rattle.std.proofs.Common.{length-append}
+use Rattle.std.proofs.Common.{◌≡◌, ◌∙◌, ℕ, ◌+◌, ◌-◌, ◌<◌, ◌≤◌, ◌^◌, List, [], ◌∷◌, ◌++◌, All, Vec, ap, sym, subst, length, min, arith, refl}
+use Rattle.std.proofs.Common.{Bool, true, false, length-append, ltb-false, ltb-true, nat_lt}
 use Rattle.std.proofs.lemmas.List.Elements.{All-nil, All-push}
 use Rattle.std.specs.declared.alloc.Global.{Global}
 use Rattle.image_lines.specs.declared.line.Line.{Line}
@@ -30,11 +30,11 @@ stops_more asked files stops sum images tried more = record {
 -- what holds of each number below one holds below the next, where it holds of that
 pub below_more : (P : ℕ → Type 0) (number : ℕ) → ((n : ℕ) → n < number → P n) → P number
     → (n : ℕ) → n < number + 1 → P n
-below_more P number before here n there = go (order n number)
+below_more P number before here n there = go (nat_lt n number) refl
   where
-    order : (a b : ℕ) → (a < b) ⊎ (b ≤ a)
-    order a b = omega arith
-
-    go : (n < number) ⊎ (number ≤ n) → P n
-    go (inl below) = before n below
-    go (inr past) = let same : number ≡ n = omega (arith, there, past) in subst P same here
+    go : (below : Bool) → nat_lt n number ≡ below → P n
+    go true is = before n (ltb-true n number is)
+    go false is =
+        let past : number ≤ n = ltb-false n number is in
+        let same : number ≡ n = omega (arith, there, past) in
+        subst P same here

@@ -33,7 +33,18 @@ pub enum Difference {
     Line(Option<Line>, Option<Line>),
 }
 
-impl Left<'_> {
+impl<'a> Left<'a> {
+    /// The same, behind a stop of its opening.
+    pub fn in_opening(self, opening: InOpening<'a>) -> Left<'a> {
+        let opening = Some(opening);
+        Left {
+            calls: self.calls,
+            all: self.all,
+            choice: self.choice,
+            opening,
+        }
+    }
+
     /// That an image that was left here isn't what it is to be.
     pub fn torn(&self, alloc: Global, difference: &Difference) -> StopsFault {
         match self.text(alloc, difference) {

@@ -2,9 +2,9 @@
 //! calls before it, planned one by one.
 #![tactic(auto)]
 
+mod beginnings;
 mod choices;
 mod fault;
-mod files;
 mod left;
 mod opening;
 mod runs;

@@ -2,9 +2,9 @@
 ghost use Rattle.std.specs.Prelude.{IfOk, OnOk};
 ghost use Rattle.sim_stops.specs.Runs.{HasWanted};
 
+use crate::beginnings::copy_of;
 use crate::choices::{choice, choices, counts_of};
 use crate::fault::StopsFault;
-use crate::files::copy_of;
 use crate::left::{Difference, InOpening, Left};
 use crate::wanted::Wanted;
 use disk::MemDisk;
@@ -24,13 +24,10 @@ pub fn try_image(
     ensures { OnOk result (HasWanted wanted.entry.files.now wanted.entry.least wanted.entry.most image) }
 {
     let (opened, calls) = open_whole(alloc, copy_of(alloc, &image)?, wanted, left)?;
-    let behind = Left {
-        opening: Some(InOpening {
-            call: calls,
-            choice: &[],
-        }),
-        ..left
-    };
+    let behind = left.in_opening(InOpening {
+        call: calls,
+        choice: &[],
+    });
     open_whole(alloc, opened, wanted, behind)?;
     'calls: for call in 0..calls {
         try_stopped(alloc, &image, call, wanted, left)?;
@@ -55,13 +52,10 @@ fn try_stopped(
     for number in 0..choices(&counts, MOST_IN_OPENING) {
         let choice = choice(alloc, &counts, MOST_IN_OPENING, number)?;
         let disk = stopped(alloc, image, call)?.crash(&choice);
-        let behind = Left {
-            opening: Some(InOpening {
-                call,
-                choice: &choice,
-            }),
-            ..left
-        };
+        let behind = left.in_opening(InOpening {
+            call,
+            choice: &choice,
+        });
         open_whole(alloc, disk, wanted, behind)?;
     }
     Ok(())

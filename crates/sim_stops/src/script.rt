@@ -1,7 +1,7 @@
 //! A script whose stops are tried: its image, and what happens to that.
 ghost use Rattle.std.specs.Prelude.{IfOk};
 ghost use Rattle.model.specs.Sound.{SoundTime};
-ghost use Rattle.sim_stops.specs.Runs.{IsMade};
+ghost use Rattle.sim.specs.Simulated.{IsImage};
 
 use crate::fault::StopsFault;
 use disk::MemDisk;
@@ -24,7 +24,7 @@ pub struct Asked {
 impl Asked {
     /// Makes it on a new device.
     pub fn make(self, alloc: Global) -> Result<MemDisk, StopsFault>
-        ensures { IfOk result (IsMade self) }
+        ensures { IfOk result (IsImage self.moment self.blocks self.inodes) }
     {
         Ok(image(alloc, self.blocks, self.inodes, self.moment)?)
     }

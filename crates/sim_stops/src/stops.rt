@@ -3,9 +3,9 @@ ghost use Rattle.std.specs.Prelude.{IfOk, IsOk};
 ghost use Rattle.sim_words.specs.Script.{stops_of};
 ghost use Rattle.sim_stops.specs.Tried.{IsTried, IsTriedStop};
 
+use crate::beginnings::files_behind;
 use crate::choices::{choice, choices, counts_of};
 use crate::fault::StopsFault;
-use crate::files::files_behind;
 use crate::left::Left;
 use crate::opening::try_image;
 use crate::runs::{promised, run_first, stops_in};
