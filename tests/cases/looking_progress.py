@@ -30,11 +30,11 @@ int clock_gettime(clockid_t which, struct timespec *now) {
 LINE = re.compile(rb"nfsd: (\d+) of (\d+) inodes checked\r\n")
 
 
-def told_on_a_terminal(place, image, milliseconds):
-    """What a check prints and what it tells on a terminal, where each look at the clock takes so long."""
+def terminal(place, words, milliseconds):
+    """What a command prints and what it tells on a terminal, where each look at the clock takes so long."""
     env = {**os.environ, "LD_PRELOAD": library(place, LIBRARY), "MILLISECONDS": str(milliseconds)}
     ours, its = pty.openpty()
-    ran = place.start(["check", image], stderr=its, env=env)
+    ran = place.start(words, stderr=its, env=env)
     os.close(its)
     told = b""
     while True:
@@ -50,6 +50,11 @@ def told_on_a_terminal(place, image, milliseconds):
     output = ran.stdout.read()
     same("the status", ran.wait(SECONDS), 0)
     return output, told
+
+
+def told_on_a_terminal(place, image, milliseconds):
+    """So it is of a check."""
+    return terminal(place, ["check", image], milliseconds)
 
 
 def numbers_of(told):

@@ -1,6 +1,6 @@
 -- What follows from what the program did.
 use Rattle.std.proofs.Common.{◌≡◌, ◌∙◌, ℕ, ◌-◌, ◌⊎◌, ap, inl, inr, List, Option, Ok, Err, arith, refl, subst}
-use Rattle.std.proofs.Common.{Bor, None, Result, Some, sym}
+use Rattle.std.proofs.Common.{Bool, Bor, None, Result, Some, false, sym, true}
 use Rattle.std.specs.Prelude.{IfErr, IfOk, OnOk}
 use Rattle.std.specs.Io.KnownBytes.{Appends}
 use Rattle.clap.specs.Words.{Text}
@@ -26,7 +26,7 @@ use Rattle.nfsd.specs.Done.{formatted_line, moment_at, outcome_of_server}
 use Rattle.nfsd.specs.Faults.{status_of_outcome}
 use Rattle.nfsd.specs.Lines.{IsAnnouncedBy}
 use Rattle.nfsd.specs.Looked.{ChecksImage, ShowsImage}
-use Rattle.nfsd.specs.Scripts.{PlaysScript}
+use Rattle.nfsd.specs.Scripts.{RunsScript}
 
 -- the command that was asked for was done, so the arguments were obeyed
 pub obeys_command : (first : FirstContents) (words : List Text) (args : Args) (client : Client)
@@ -54,9 +54,12 @@ obeys_command first words (Check image) client (Err (fault.Words e)) device late
 obeys_command first words (Show image) client (Err fault.NotText) device later asks does = absurd does.1.5
 obeys_command first words (Show image) client (Err fault.Memory) device later asks does = absurd does.1.5
 obeys_command first words (Show image) client (Err (fault.Words e)) device later asks does = absurd does.1.5
-obeys_command first words (Sim script) client (Err fault.NotText) device later asks does = absurd does.2.1
-obeys_command first words (Sim script) client (Err fault.Memory) device later asks does = absurd does.2.1
-obeys_command first words (Sim script) client (Err (fault.Words e)) device later asks does = absurd does.2.1
+obeys_command first words (Sim script true) client (Err fault.NotText) device later asks does = absurd does.2.1
+obeys_command first words (Sim script true) client (Err fault.Memory) device later asks does = absurd does.2.1
+obeys_command first words (Sim script true) client (Err (fault.Words e)) device later asks does = absurd does.2.1
+obeys_command first words (Sim script false) client (Err fault.NotText) device later asks does = absurd does.2.1
+obeys_command first words (Sim script false) client (Err fault.Memory) device later asks does = absurd does.2.1
+obeys_command first words (Sim script false) client (Err (fault.Words e)) device later asks does = absurd does.2.1
 obeys_command first words args client outcome device later asks does = (args, asks, does)
 
 same_client : (client later : Client) → later.unread ≡ client.unread → later.written ≡ client.written → later ≡ client
@@ -164,14 +167,14 @@ shows_command first image client (Err (fault.File trouble)) device later unread 
     (same_client client later unread shows.0, shows.1, inl shows.2)
 shows_command first image client outcome device later unread shows = (unread, shows)
 
--- a script was played, so the command was done
-pub plays_command : (first : FirstContents) (script : Bor Text) (client : Client) (outcome : Outcome) (device : Option Device)
+-- a script was run, so the command was done
+pub runs_command : (first : FirstContents) (script : Bor Text) (stops : Bool) (client : Client) (outcome : Outcome) (device : Option Device)
     (later : Client) → device ≡ None → later.unread ≡ client.unread
-    → PlaysScript script.now client.written outcome later.written
-    → DoesCommand first (Sim script) client outcome device later
-plays_command first script client (Err (fault.File trouble)) device later none unread plays =
-    (same_client client later unread plays.0, none, inl plays.1)
-plays_command first script client outcome device later none unread plays = (none, unread, plays)
+    → RunsScript stops script.now client.written outcome later.written
+    → DoesCommand first (Sim script stops) client outcome device later
+runs_command first script stops client (Err (fault.File trouble)) device later none unread runs =
+    (same_client client later unread runs.0, none, inl runs.1)
+runs_command first script stops client outcome device later none unread runs = (none, unread, runs)
 
 -- with status 2 the arguments have no meaning
 obeys_two : (first : FirstContents) (words : List Text) (client : Client) (outcome : Outcome)

@@ -28,7 +28,7 @@ use Rattle.nfsd.specs.declared.image_disk.ImageDisk.TheVariants.{Plain, Watched}
 use Rattle.nfsd.specs.Faults.{IsAbout, as_line, fault_line, status_of_outcome}
 use Rattle.nfsd.specs.Lines.{listening_line}
 use Rattle.nfsd.specs.Looked.{ChecksImage, ShowsImage}
-use Rattle.nfsd.specs.Scripts.{PlaysScript}
+use Rattle.nfsd.specs.Scripts.{RunsScript}
 
 -- what came of the program: it is done, or there is a fault
 abbrev pub Outcome : Type 0
@@ -149,10 +149,10 @@ image_of (Once image time) = image.now
 image_of (Serve image listen workers connections) = image.now
 image_of (Check image) = image.now
 image_of (Show image) = image.now
-image_of (Sim script) = script.now
+image_of (Sim script stops) = script.now
 
 -- The command that is asked for was done to the device of a file that held this, this came of it, and the device
--- is handed back as that left it, but for a device that was served from; or a script was played; or there is no
+-- is handed back as that left it, but for a device that was served from; or a script was run; or there is no
 -- device, and the fault is that of the file, of what closed streams are filled from, or of the address.
 abbrev pub DoesCommand : FirstContents → Args → Client → Outcome → Option Device → Client → Type 0
 DoesCommand first args client (Err (fault.File trouble)) device later = (later ≡ client) × (device ≡ None)
@@ -168,8 +168,8 @@ DoesCommand first (Check image) client outcome device later = (later.unread ≡ 
     × ChecksImage first image.now client.written outcome device later.written
 DoesCommand first (Show image) client outcome device later = (later.unread ≡ client.unread)
     × ShowsImage first image.now client.written outcome device later.written
-DoesCommand first (Sim script) client outcome device later = (device ≡ None) × (later.unread ≡ client.unread)
-    × PlaysScript script.now client.written outcome later.written
+DoesCommand first (Sim script stops) client outcome device later = (device ≡ None) × (later.unread ≡ client.unread)
+    × RunsScript stops script.now client.written outcome later.written
 
 -- The arguments were obeyed: the command that they ask for was done to a file that held this, or they have no
 -- meaning, or there was no memory to read them.

@@ -143,6 +143,7 @@ fault_line (fault.Check why) = Some (check_line why ++ second_line why)
 fault_line (fault.Session why) = Some (session_line why)
 fault_line fault.Print = Some (as_line (codes "nfsd: output"))
 fault_line (fault.Line number) = Some (as_line (codes "nfsd: line " ++ decimal number))
+fault_line (fault.Torn text) = Some (as_line (codes "nfsd: 1 Torn") ++ as_line (codes "nfsd: " ++ string_bytes text))
 fault_line (fault.Address trouble) = Some (as_line (codes "nfsd: address") ++ trouble_line trouble)
 
 -- 2 where the arguments aren't text or don't parse, and 1 at every other fault

@@ -12,7 +12,7 @@ use crate::fault_stream::FaultStream;
 use crate::image_disk::ImageDisk;
 use crate::looking::{check_image, show_image};
 use crate::read_files::SharedFile;
-use crate::scripts::play_script;
+use crate::scripts::run_script;
 use crate::streams::{Streams, fill};
 use crate::tcp::serve_image;
 use crate::trouble::Trouble;
@@ -125,7 +125,7 @@ where
     command(rt, alarm, args, first, reader, writer)
 }
 
-// Does a command to the device of the image's file, and hands it back; or plays a script.
+// Does a command to the device of the image's file, and hands it back; or runs a script.
 fn command<'a, R, I, O>(
     rt: &R,
     alarm: &'a Alarm<'a, R>,
@@ -189,8 +189,8 @@ where
         Args::Show { image } => {
             return show_image(rt, image, first, writer);
         }
-        Args::Sim { script } => {
-            return (None, play_script(rt, script, writer));
+        Args::Sim { script, stops } => {
+            return (None, run_script(rt, script, stops, writer));
         }
     }
 }

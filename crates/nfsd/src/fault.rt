@@ -35,6 +35,8 @@ pub enum Fault {
     Address(Option<Trouble>),
     /// The script's first bad line: its number, from 1.
     Line(usize),
+    /// A stop of the script leaves what it may not leave: where, and what differs.
+    Torn(String),
 }
 
 impl Fault {
@@ -95,6 +97,7 @@ impl fmt::Display for Fault {
             Fault::Session(fault) => f.write_str(session_line(*fault)),
             Fault::Print => f.write_str("nfsd: output\n"),
             Fault::Line(number) => writeln!(f, "nfsd: line {number}"),
+            Fault::Torn(text) => write!(f, "nfsd: 1 Torn\nnfsd: {text}\n"),
             Fault::Address(None) => f.write_str("nfsd: address\n"),
             Fault::Address(Some(it)) => {
                 write!(

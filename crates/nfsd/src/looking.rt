@@ -42,7 +42,7 @@ where
         }
     };
     let mut disk = opened.beginning_with(first);
-    let mut progress = ProgressLines::new(rt);
+    let mut progress = ProgressLines::new(rt, "inodes checked");
     let outcome = check_device(rt.alloc(), &mut disk, writer, &mut progress);
     (Some(ImageDisk::Plain(disk)), outcome)
 }

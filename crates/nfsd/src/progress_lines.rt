@@ -1,31 +1,38 @@
-//! Lines that tell how far the check of an image is.
+//! Lines that tell how far a long command is.
 use crate::streams::Streams;
 use std::io::Eprint;
 use std::time::{Clock, Duration};
 use store::Progress;
 
-// How many seconds a check takes before it is told how far it is, and from each such line to the next.
+// How many seconds a command takes before it is told how far it is, and from each such line to the next.
 const QUIET: u64 = 2;
 
 const BETWEEN: u64 = 1;
 
-/// Tells on standard error how far the check of an image is, where that is a terminal: once it has taken two seconds, and
-/// then each second.
+/// Tells on standard error how far a command is, where that is a terminal: once it has taken two seconds, and then each
+/// second.
 #[derive(Drop)]
 pub struct ProgressLines<'a, R> {
     rt: &'a R,
+    // What is counted.
+    what: &'static str,
     // When the next line is due, by the clock that never goes back. None: no line is told.
     due: Option<Duration>,
 }
 
 impl<'a, R: Clock + Streams> ProgressLines<'a, R> {
-    /// A check begins now.
-    pub fn new(rt: &'a R) -> ProgressLines<'a, R> {
+    /// The command begins now.
+    pub fn new(rt: &'a R, what: &'static str) -> ProgressLines<'a, R> {
         if !rt.tells_a_terminal() {
-            return ProgressLines { rt, due: None };
+            return ProgressLines {
+                rt,
+                what,
+                due: None,
+            };
         }
         ProgressLines {
             rt,
+            what,
             due: due_after(rt, QUIET),
         }
     }
@@ -43,7 +50,8 @@ impl<R: Clock + Eprint> Progress for ProgressLines<'_, R> {
             return;
         }
         // A line that standard error doesn't take is lost.
-        let _ = eprintln!(self.rt; "nfsd: {done} of {all} inodes checked");
+        let what = self.what;
+        let _ = eprintln!(self.rt; "nfsd: {done} of {all} {what}");
         self.due = due_after(self.rt, BETWEEN);
     }
 }

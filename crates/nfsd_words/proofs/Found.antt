@@ -1,5 +1,5 @@
 -- What the getters of a parse give, as the rows that it found say.
-use Rattle.std.proofs.Common.{◌≡◌, ◌∙◌, ℕ, ◌^◌, ◌<◌, List, [], ◌∷◌, Option, Some, None, Result, ap, sym, subst, refl, T, nat_eq}
+use Rattle.std.proofs.Common.{◌≡◌, ◌∙◌, ℕ, ◌^◌, ◌<◌, List, [], ◌∷◌, Option, Some, None, Result, ap, sym, subst, refl, T, nat_eq, Bool, true, false}
 use Rattle.std.specs.Prelude.{IfNone, codes, option_map}
 use Rattle.std.specs.Borrow.{Bor}
 use Rattle.std.specs.Str.Parse.{ExplainsUnsignedError, HasUnsignedDigitsIfOk, ParsesUnsigned}
@@ -11,7 +11,7 @@ use Rattle.clap.specs.declared.ArgMatches.{ArgMatches}
 use Rattle.clap.specs.declared.error.kind.ErrorKind.{ErrorKind}
 use Rattle.nfsd_words.specs.declared.Args.{Args}
 use Rattle.nfsd_words.specs.declared.Args.TheVariants.{Check, Format, Once, Serve, Show, Sim}
-use Rattle.nfsd_words.specs.Words.{Asks, IsNumber, IsNumberOrNone}
+use Rattle.nfsd_words.specs.Words.{Asks, IsFlag, IsNumber, IsNumberOrNone}
 
 -- a text that `get_str` gave stands first in its row
 pub text_found : (m : ArgMatches) (id : Text) (r : Option (Bor Text)) (x : Bor Text)
@@ -111,7 +111,7 @@ no_image name found no_sim none (Once image time) asks = none image.now asks.1
 no_image name found no_sim none (Serve image listen workers connections) asks = none image.now asks.1
 no_image name found no_sim none (Check image) asks = none image.now asks.1
 no_image name found no_sim none (Show image) asks = none image.now asks.1
-no_image name found no_sim none (Sim script) asks = no_sim asks.0
+no_image name found no_sim none (Sim script stops) asks = no_sim asks.0
 
 -- `format` asks for nothing without a number of its time
 pub no_time_made : (found : List Row) → ((n : ℕ) → IsNumber found (codes "time") n → ⊥)
@@ -122,7 +122,7 @@ no_time_made found none (Serve image listen workers connections) asks =
     let other : codes "format" ≡ codes "serve" = asks.0 in cc
 no_time_made found none (Check image) asks = let other : codes "format" ≡ codes "check" = asks.0 in cc
 no_time_made found none (Show image) asks = let other : codes "format" ≡ codes "show" = asks.0 in cc
-no_time_made found none (Sim script) asks = absurd (format_is_no_sim asks.0)
+no_time_made found none (Sim script stops) asks = absurd (format_is_no_sim asks.0)
 
 -- `once` asks for nothing without a number of its time
 pub no_time_of_calls : (found : List Row) → ((n : ℕ) → IsNumber found (codes "time") n → ⊥)
@@ -134,7 +134,7 @@ no_time_of_calls found none (Serve image listen workers connections) asks =
     let other : codes "once" ≡ codes "serve" = asks.0 in cc
 no_time_of_calls found none (Check image) asks = let other : codes "once" ≡ codes "check" = asks.0 in cc
 no_time_of_calls found none (Show image) asks = absurd (once_is_no_show asks.0)
-no_time_of_calls found none (Sim script) asks = absurd (once_is_no_sim asks.0)
+no_time_of_calls found none (Sim script stops) asks = absurd (once_is_no_sim asks.0)
 
 -- `format` asks for nothing without a number of its inodes
 pub no_inodes : (found : List Row) → ((n : ℕ) → IsNumber found (codes "inodes") n → ⊥)
@@ -145,7 +145,7 @@ no_inodes found none (Serve image listen workers connections) asks =
     let other : codes "format" ≡ codes "serve" = asks.0 in cc
 no_inodes found none (Check image) asks = let other : codes "format" ≡ codes "check" = asks.0 in cc
 no_inodes found none (Show image) asks = let other : codes "format" ≡ codes "show" = asks.0 in cc
-no_inodes found none (Sim script) asks = absurd (format_is_no_sim asks.0)
+no_inodes found none (Sim script stops) asks = absurd (format_is_no_sim asks.0)
 
 -- `serve` asks for nothing without a text of its address
 pub no_listen : (found : List Row) → ((x : Text) → first_of (codes "listen") found ≡ Some x → ⊥)
@@ -156,7 +156,7 @@ no_listen found none (Once image time) asks = let other : codes "serve" ≡ code
 no_listen found none (Serve image listen workers connections) asks = none listen.now asks.2
 no_listen found none (Check image) asks = absurd (serve_is_no_check asks.0)
 no_listen found none (Show image) asks = let other : codes "serve" ≡ codes "show" = asks.0 in cc
-no_listen found none (Sim script) asks = absurd (serve_is_no_sim asks.0)
+no_listen found none (Sim script stops) asks = absurd (serve_is_no_sim asks.0)
 
 -- `serve` asks for nothing without a number of its workers
 pub no_workers : (found : List Row) → ((n : ℕ) → IsNumber found (codes "workers") n → ⊥)
@@ -167,7 +167,7 @@ no_workers found none (Once image time) asks = let other : codes "serve" ≡ cod
 no_workers found none (Serve image listen workers connections) asks = none workers asks.3
 no_workers found none (Check image) asks = absurd (serve_is_no_check asks.0)
 no_workers found none (Show image) asks = let other : codes "serve" ≡ codes "show" = asks.0 in cc
-no_workers found none (Sim script) asks = absurd (serve_is_no_sim asks.0)
+no_workers found none (Sim script stops) asks = absurd (serve_is_no_sim asks.0)
 
 -- `serve` asks for nothing without a number of its connections
 pub no_connections : (found : List Row) → ((n : ℕ) → IsNumber found (codes "connections") n → ⊥)
@@ -178,7 +178,7 @@ no_connections found none (Once image time) asks = let other : codes "serve" ≡
 no_connections found none (Serve image listen workers connections) asks = none connections asks.4
 no_connections found none (Check image) asks = absurd (serve_is_no_check asks.0)
 no_connections found none (Show image) asks = let other : codes "serve" ≡ codes "show" = asks.0 in cc
-no_connections found none (Sim script) asks = absurd (serve_is_no_sim asks.0)
+no_connections found none (Sim script stops) asks = absurd (serve_is_no_sim asks.0)
 
 -- `sim` asks for nothing without a text of its script
 pub no_script : (found : List Row) → ((x : Text) → first_of (codes "SCRIPT") found ≡ Some x → ⊥)
@@ -188,7 +188,18 @@ no_script found none (Once image time) asks = absurd (once_is_no_sim (sym asks.0
 no_script found none (Serve image listen workers connections) asks = absurd (serve_is_no_sim (sym asks.0))
 no_script found none (Check image) asks = absurd (check_is_no_sim (sym asks.0))
 no_script found none (Show image) asks = absurd (show_is_no_sim (sym asks.0))
-no_script found none (Sim script) asks = none script.now asks.1
+no_script found none (Sim script stops) asks = none script.now asks.1
+
+-- what `get_flag` gave is what its row says
+pub flag_found : (m : ArgMatches) (id : Text) (r : Bool) → (one_text (found_of m) id ≡ None → r ≡ false)
+    → (one_text (found_of m) id ≡ Some (codes "true") → r ≡ true)
+    → (one_text (found_of m) id ≡ Some (codes "false") → r ≡ false)
+    → IsFlag (one_of id (rows_of (found_of m))) r
+flag_found m id r absent given denied = record {
+  none = λ e. absent (one_text-rows (found_of m) id ∙ e);
+  yes = λ e. given (one_text-rows (found_of m) id ∙ e);
+  no = λ e. denied (one_text-rows (found_of m) id ∙ e);
+}
 
 -- a fact stands where there is no value
 pub if_none : {A : Type 0} {P : Type 0} (r : Option A) → P → IfNone r P

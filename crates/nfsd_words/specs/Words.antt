@@ -1,10 +1,11 @@
 -- What the arguments of a command line ask of the program.
-use Rattle.std.specs.Prelude.{◌≡◌, ℕ, ◌^◌, ◌<◌, List, [], ◌∷◌, Option, None, Some, true, codes, pos}
+use Rattle.std.specs.Prelude.{◌≡◌, ℕ, ◌^◌, ◌<◌, List, [], ◌∷◌, Option, None, Some, Bool, true, false, codes, pos}
 use Rattle.std.specs.Option.{IsSomeAnd}
 use Rattle.std.specs.Str.Parse.{IsNumeral, digits_value, without_leading_plus}
 use Rattle.clap.specs.Words.{App, Row, Rule, Text, fault_of, first_of, new_app, new_rule, one_of}
 use Rattle.clap.specs.Words.{subcommand_of, with_rule, with_subcommand}
 use Rattle.clap.specs.declared.builder.ValueParser.TheVariants as value_parser
+use Rattle.clap.specs.declared.builder.action.ArgAction.TheVariants.{SetTrue}
 use Rattle.nfsd_words.specs.declared.Args.{Args}
 use Rattle.nfsd_words.specs.declared.Args.TheVariants.{Check, Format, Once, Serve, Show, Sim}
 
@@ -74,9 +75,17 @@ show_command = with_rule (new_app (codes "show")) image_rule
 abbrev pub script_rule : Rule
 script_rule = record (new_rule (codes "SCRIPT")) { required = true }
 
+-- an option without a value
+abbrev pub flag_rule : Text → Rule
+flag_rule name = record (new_rule name) { long = Some name; action = Some SetTrue }
+
 -- `sim SCRIPT`
+abbrev pub first_of_sim : App
+first_of_sim = with_rule (new_app (codes "sim")) script_rule
+
+-- `sim SCRIPT --stops`, the last of which may be left out
 abbrev pub sim_command : App
-sim_command = with_rule (new_app (codes "sim")) script_rule
+sim_command = with_rule first_of_sim (flag_rule (codes "stops"))
 
 -- the program before its commands, one of which must be there; it has a version
 abbrev pub bare_program : App
@@ -119,6 +128,12 @@ abbrev pub IsNumberOrNone : List Row → Text → Option ℕ → Type 0
 IsNumberOrNone found name None = (number : ℕ) → ¬ IsNumber found name number
 IsNumberOrNone found name (Some number) = IsNumber found name number
 
+-- an option without a value is given, as its text says, or not
+pub record IsFlag (text : Option Text) (given : Bool) : Type 0 where
+  pub none : text ≡ None → given ≡ false
+  pub yes : text ≡ Some (codes "true") → given ≡ true
+  pub no : text ≡ Some (codes "false") → given ≡ false
+
 -- a command of this name, with what was found of its arguments, asks for this
 abbrev pub Asks : Text → List Row → Args → Type 0
 Asks name found (Format image blocks inodes time) = (name ≡ codes "format")
@@ -133,7 +148,8 @@ Asks name found (Serve image listen workers connections) = (name ≡ codes "serv
     × IsNumber found (codes "workers") workers × IsNumber found (codes "connections") connections
 Asks name found (Check image) = (name ≡ codes "check") × (first_of (codes "IMAGE") found ≡ Some image.now)
 Asks name found (Show image) = (name ≡ codes "show") × (first_of (codes "IMAGE") found ≡ Some image.now)
-Asks name found (Sim script) = (name ≡ codes "sim") × (first_of (codes "SCRIPT") found ≡ Some script.now)
+Asks name found (Sim script stops) = (name ≡ codes "sim") × (first_of (codes "SCRIPT") found ≡ Some script.now)
+    × IsFlag (one_of (codes "stops") found) stops
 
 -- the command that was met, if one was, asks for this
 abbrev pub IsAsked : Option (Text × List Row) → Args → Type 0

@@ -76,9 +76,10 @@ pub enum Args<'a> {
     Show {
         image: &'a str,
     },
-    /// Runs the schedule of a script.
+    /// Runs the schedule of a script, or tries each of its stops.
     Sim {
         script: &'a str,
+        stops: bool,
     },
 }
 

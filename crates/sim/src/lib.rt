@@ -5,9 +5,9 @@ mod crashing;
 mod events;
 mod fault;
 mod handed;
-mod image;
 mod lines;
 mod looking;
+mod new_image;
 mod playing;
 mod replies;
 mod segment;
@@ -15,4 +15,6 @@ mod simulation;
 mod stage;
 
 pub use fault::SimFault;
+pub use new_image::image;
+pub use segment::Segment;
 pub use simulation::simulate;

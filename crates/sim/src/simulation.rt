@@ -6,8 +6,8 @@ ghost use Rattle.model.specs.Sound.{SoundTime};
 
 use crate::crashing::{crashed, poke};
 use crate::fault::SimFault;
-use crate::image::image;
 use crate::lines::print_format_refused;
+use crate::new_image::image;
 use crate::playing::play;
 use crate::segment::Segment;
 use crate::stage::Stage;

@@ -5,7 +5,7 @@ use Rattle.sim_words.specs.declared.command.Command.{Command}
 use Rattle.sim_words.specs.declared.fault.ScriptFault.{ScriptFault}
 use Rattle.sim_words.specs.declared.fault.ScriptFault.TheVariants.{Line, NoMemory}
 use Rattle.sim_words.specs.declared.place.Place.{Place}
-use Rattle.sim_words.specs.declared.place.Place.TheVariants.{First}
+use Rattle.sim_words.specs.declared.place.Place.TheVariants.{First, FirstOfStops}
 use Rattle.sim_words.specs.Lines.{command_of}
 use Rattle.sim_words.specs.Places.{after}
 use Rattle.sim_words.specs.Reading.{◌>>=◌}
@@ -44,7 +44,16 @@ commands_from place number (line ∷ lines) =
 abbrev pub script_of : List ℕ → Result (List Command) ℕ
 script_of text = commands_from First 1 (lines_of text)
 
--- why a script isn't read: its first bad line, or that memory was refused, of which nothing is said
+-- so it is of a script whose every stop is tried
+abbrev pub stops_of : List ℕ → Result (List Command) ℕ
+stops_of text = commands_from FirstOfStops 1 (lines_of text)
+
+-- why a script isn't read whose first line stands at a place: its first bad line, or that memory was refused, of which
+-- nothing is said
+abbrev pub IsUnreadFrom : Place → List ℕ → ScriptFault → Type 0
+IsUnreadFrom place text (Line number) = commands_from place 1 (lines_of text) ≡ Err number
+IsUnreadFrom place text NoMemory = Unit {0}
+
+-- so it is of one whose first line stands where no image was made yet
 abbrev pub IsUnread : List ℕ → ScriptFault → Type 0
-IsUnread text (Line number) = script_of text ≡ Err number
-IsUnread text NoMemory = Unit {0}
+IsUnread text fault = IsUnreadFrom First text fault

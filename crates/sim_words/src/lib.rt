@@ -13,4 +13,4 @@ mod words;
 
 pub use command::{Action, Choice, Command, OneEvent, WORKERS};
 pub use fault::ScriptFault;
-pub use script::commands;
+pub use script::{commands, stop_commands};

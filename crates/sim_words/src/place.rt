@@ -1,9 +1,9 @@
 //! Which command may stand where.
 ghost use Rattle.std.specs.Prelude.{◌≡◌};
 ghost use Rattle.sim_words.specs.Places.{after, after_image, after_show, lies_in_a_block, open_blocks, stopped_blocks};
-ghost use Rattle.sim_words.specs.Places.{after_poke};
+ghost use Rattle.sim_words.specs.Places.{after_action, after_poke, fails};
 
-use crate::command::Command;
+use crate::command::{Action, Command};
 use limits::BLOCK_BYTES;
 
 /// Where the next command of a script stands, and how many blocks the image has.
@@ -17,6 +17,10 @@ pub enum Place {
     Running(u32),
     /// The device has stopped.
     Stopped(u32),
+    /// Of a script whose every stop is tried: no image was made yet.
+    FirstOfStops,
+    /// And its store is open.
+    OpenForStops,
 }
 
 impl Place {
@@ -28,7 +32,7 @@ impl Place {
             Command::Time(_) => Some(self),
             Command::Image { blocks, .. } => self.after_image(*blocks),
             Command::Open => Some(Place::Opened(self.stopped_blocks()?)),
-            Command::Act(_) => Some(Place::Running(self.open_blocks()?)),
+            Command::Act(action) => self.after_action(action),
             Command::Crash(_) => Some(Place::Stopped(self.open_blocks()?)),
             Command::Poke {
                 block,
@@ -45,7 +49,25 @@ impl Place {
     {
         match self {
             Place::First => Some(Place::Opened(blocks)),
-            Place::Opened(_) | Place::Running(_) | Place::Stopped(_) => None,
+            Place::FirstOfStops => Some(Place::OpenForStops),
+            Place::Opened(_) | Place::Running(_) | Place::Stopped(_) | Place::OpenForStops => None,
+        }
+    }
+
+    // Something happens to an open store. No device call fails where each stop is tried.
+    fn after_action(self, action: &Action) -> Option<Place>
+        ensures { result ≡ after_action self action.now }
+    {
+        match self {
+            Place::Opened(blocks) | Place::Running(blocks) => Some(Place::Running(blocks)),
+            Place::OpenForStops => {
+                if fails(action) {
+                    None
+                } else {
+                    Some(Place::OpenForStops)
+                }
+            }
+            Place::First | Place::Stopped(_) | Place::FirstOfStops => None,
         }
     }
 
@@ -67,7 +89,11 @@ impl Place {
     {
         match self {
             Place::Opened(blocks) => Some(Place::Running(blocks)),
-            Place::First | Place::Running(_) | Place::Stopped(_) => None,
+            Place::First
+            | Place::Running(_)
+            | Place::Stopped(_)
+            | Place::FirstOfStops
+            | Place::OpenForStops => None,
         }
     }
 
@@ -77,7 +103,7 @@ impl Place {
     {
         match self {
             Place::Opened(blocks) | Place::Running(blocks) => Some(blocks),
-            Place::First | Place::Stopped(_) => None,
+            Place::First | Place::Stopped(_) | Place::FirstOfStops | Place::OpenForStops => None,
         }
     }
 
@@ -87,9 +113,20 @@ impl Place {
     {
         match self {
             Place::Stopped(blocks) => Some(blocks),
-            Place::First | Place::Opened(_) | Place::Running(_) => None,
+            Place::First
+            | Place::Opened(_)
+            | Place::Running(_)
+            | Place::FirstOfStops
+            | Place::OpenForStops => None,
         }
     }
+}
+
+// Whether it lets a device call fail.
+fn fails(action: &Action) -> bool
+    ensures { result ≡ fails action.now }
+{
+    matches!(action, Action::Fail(_))
 }
 
 // Whether bytes from an offset on lie in a block.

@@ -2,7 +2,9 @@
 ghost use Rattle.std.specs.Prelude.{◌≡◌, IfErr, IfOk};
 ghost use Rattle.sim_words.specs.Reading.{Gives};
 ghost use Rattle.sim_words.specs.Texts.{is_comment};
-ghost use Rattle.sim_words.specs.Script.{IsUnread, is_passed_over, script_of, taken};
+ghost use Rattle.sim_words.specs.Script.{IsUnread, IsUnreadFrom, commands_from, is_passed_over, script_of, stops_of, taken};
+ghost use Rattle.sim_words.specs.Texts.{lines_of};
+ghost use Rattle.sim_words.specs.declared.place.Place.TheVariants.{FirstOfStops};
 
 use crate::command::Command;
 use crate::fault::{LineFault, ScriptFault};
@@ -15,14 +17,31 @@ use std::alloc::Global;
 /// The commands of a script in their order, or its first bad line: one that isn't a command, or a command that may
 /// not stand there. Lines are parted by line feeds and words by blanks. A line without words is passed over, and so is
 /// one that begins with `#`.
-#[tactic(auto, using(crate::proofs::Cut::parts_few, crate::proofs::OneByOne::passes, crate::proofs::OneByOne::goes, crate::proofs::OneByOne::stops, crate::proofs::OneByOne::ends, crate::proofs::OneByOne::commands_behind, crate::proofs::OneByOne::commands_alone))]
 pub fn commands(alloc: Global, text: &[u8]) -> Result<Vec<Command>, ScriptFault>
     ensures read { IfOk result (λ commands. script_of text.now ≡ Ok commands.items) }
     ensures unread { IfErr result (IsUnread text.now) }
 {
+    commands_from(alloc, Place::First, text)
+}
+
+/// Those of a script whose every stop is to be tried, or its first bad line: such a script has one image at most, and no
+/// `open`, `crash`, `poke`, `fail` or `show`.
+pub fn stop_commands(alloc: Global, text: &[u8]) -> Result<Vec<Command>, ScriptFault>
+    ensures read { IfOk result (λ commands. stops_of text.now ≡ Ok commands.items) }
+    ensures unread { IfErr result (IsUnreadFrom FirstOfStops text.now) }
+{
+    commands_from(alloc, Place::FirstOfStops, text)
+}
+
+// The commands of a text, of which the first stands at a place.
+#[tactic(auto, using(crate::proofs::Cut::parts_few, crate::proofs::OneByOne::passes, crate::proofs::OneByOne::goes, crate::proofs::OneByOne::stops, crate::proofs::OneByOne::ends, crate::proofs::OneByOne::commands_behind, crate::proofs::OneByOne::commands_alone))]
+fn commands_from(alloc: Global, first: Place, text: &[u8]) -> Result<Vec<Command>, ScriptFault>
+    ensures read { IfOk result (λ commands. commands_from first 1 (lines_of text.now) ≡ Ok commands.items) }
+    ensures unread { IfErr result (IsUnreadFrom first text.now) }
+{
     let mut commands = Vec::new(alloc);
     let mut lines = Parts::new(text, b'\n');
-    let mut place = Place::First;
+    let mut place = first;
     let mut number: usize = 0;
     'lines: while let Some(line) = lines.next() {
         number += 1;

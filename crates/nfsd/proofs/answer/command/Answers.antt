@@ -1,6 +1,6 @@
 use Rattle.std.proofs.Common.{◌≡◌, refl, rules}
 use Rattle.nfsd_words.specs.declared.Args.TheVariants.{Check, Format, Once, Serve, Show, Sim}
-use Rattle.nfsd.proofs.Obeyed.{checks_command, formats_command, listens_command, plays_command, serves_command}
+use Rattle.nfsd.proofs.Obeyed.{checks_command, formats_command, listens_command, runs_command, serves_command}
 use Rattle.nfsd.proofs.Obeyed.{shows_command}
 use Rattle.nfsd.proofs.answer.command.Goals as goal
 
@@ -34,5 +34,5 @@ returns-in-Show g c =
 
 pub returns-in-Sim : goal.returns-in-Sim
 returns-in-Sim g c =
-    let is : c.args.args ≡ Sim c.in-Sim.script = search rules in
-    rw is (plays_command c.args.first c.in-Sim.script _ _ _ _ refl refl c.play_script.ensures)
+    let is : c.args.args ≡ Sim c.in-Sim.script c.in-Sim.stops = search rules in
+    rw is (runs_command c.args.first c.in-Sim.script c.in-Sim.stops _ _ _ _ refl refl c.run_script.ensures)

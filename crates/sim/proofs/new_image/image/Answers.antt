@@ -4,7 +4,7 @@ use Rattle.std.proofs.lemmas.List.{length-replicate}
 use Rattle.disk.specs.CallRecord.{is_failure}
 use Rattle.disk.specs.Memory.{Blocks, Past, memory_device}
 use Rattle.layout.specs.Geometry.{IsLawful}
-use Rattle.sim.proofs.image.image.Goals as goal
+use Rattle.sim.proofs.new_image.image.Goals as goal
 
 pub returns-clause-made : goal.returns-clause-made
 returns-clause-made c =

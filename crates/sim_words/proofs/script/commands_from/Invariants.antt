@@ -1,11 +1,11 @@
 use Rattle.std.proofs.Common.{◌≡◌, ◌+◌, length}
-use Rattle.sim_words.specs.Script.{behind, commands_from, script_of}
+use Rattle.sim_words.specs.Script.{behind, commands_from}
 use Rattle.sim_words.specs.Texts.{lines_of}
-use Rattle.sim_words.proofs.script.commands.Given as goal
+use Rattle.sim_words.proofs.script.commands_from.Given as goal
 
 abbrev pub invariant-lines : goal.invariant-lines
 invariant-lines l = record {
-  read : script_of l.fn.text ≡ behind l.commands.items (commands_from l.place (l.number + 1) l.lines);
+  read : commands_from l.fn.first 1 (lines_of l.fn.text) ≡ behind l.commands.items (commands_from l.place (l.number + 1) l.lines);
   left : l.number + length l.lines ≡ length (lines_of l.fn.text);
 }
 

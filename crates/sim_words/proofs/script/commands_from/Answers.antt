@@ -2,7 +2,7 @@ use Rattle.std.proofs.Common.{rules, ◌+◌, ◌∙◌, ap, sym, List, ℕ, ◌
 use Rattle.sim_words.specs.declared.command.Command.{Command}
 use Rattle.sim_words.specs.Script.{behind, commands_from}
 use Rattle.sim_words.proofs.OneByOne.{commands_behind, goes}
-use Rattle.sim_words.proofs.script.commands.Goals as goal
+use Rattle.sim_words.proofs.script.commands_from.Goals as goal
 
 pub lines-preserved : goal.lines-preserved
 lines-preserved c = record {

@@ -1,0 +1,14 @@
+-- Lines are the same where their comparison says so.
+use Rattle.std.proofs.Common.{◌≡◌, true, rules, subst}
+use Rattle.std.specs.Bool.{Decides}
+use Rattle.image_lines.specs.declared.line.Line.{Line}
+use Rattle.image_lines.specs.contracts.line.LinePartialEq.TheImpl.{eq-value}
+
+whole : (a b : Line) → eq-value.it a b ≡ true → a ≡ b
+whole a b same = search rules
+
+back : (a : Line) → eq-value.it a a ≡ true
+back a = search rules
+
+pub line_decides : (a b : Line) → Decides (eq-value.it a b) (a ≡ b)
+line_decides a b = (whole a b, λ same. subst (λ (other : Line). eq-value.it a other ≡ true) same (back a))
