@@ -1,3 +1,5 @@
 pub mod Stream
 pub mod Received
 pub mod Spelled
+pub mod Immediate
+pub mod Sent
