@@ -1,3 +1,4 @@
+pub mod Vouched
 pub mod Alone
 pub mod Asked
 pub mod Knowing

@@ -30,6 +30,7 @@ pub use telling::{
     a_worker_tells_its_steps,
 };
 use txn::Core;
+use vouchers::Voucher;
 
 /// A worker: the state of one procedure. What its steps commit and answer lies ready to be taken. Its type
 /// keeps that it has what it needs to go on, and that its call can be spelled.
@@ -57,6 +58,7 @@ impl Worker {
     ghost use Rattle.store_workers.specs.Notes.{IsNoted, committed_by};
     ghost use Rattle.store_workers.specs.Phases.{block_due};
     ghost use Rattle.store_workers.specs.Telling.{told};
+    ghost use Rattle.store_workers.specs.Vouched.{IsVouched, Vouches};
     ghost use Rattle.store_workers.specs.Worker.{Fits, at_rest, ctx_of, with_call};
     ghost use Rattle.store_workers.specs.WorkerReads.{HasReadBlock};
     ghost use Rattle.store_workers.specs.WorkerSteps.{GoesOn, KeepsHomeOf, KeepsReadsOf, side};
@@ -183,6 +185,25 @@ impl Worker {
         (made, note.entry)
     }
 
+    /// The same, with what shows that the step committed a procedure, if it committed one.
+    pub fn step_vouched(
+        &mut self,
+        alloc: Global,
+        core: &mut Core<Done>,
+    ) -> (Option<Step>, Option<Voucher>)
+        ensures fits { Fits self.old core.old → Fits self.new core.new }
+        ensures frame { SameFrame core.old core.new }
+        ensures step { GoesOn self.old.state.phase (side self.old.state core.old) result.0
+            (side self.new.state core.new) }
+        ensures vouched { Vouches result.0 self.new.state result.1 }
+        ensures home { KeepsHomeOf (side self.old.state core.old) (side self.new.state core.new) }
+        ensures stays { KeepsReadsOf (side self.old.state core.old) (side self.new.state core.new) }
+    {
+        let mut note = Note::unwanted();
+        let made = self.make(alloc, core, &mut note);
+        (made, note.voucher)
+    }
+
     // Makes the next step, with a note of it where one is wanted.
     fn make(&mut self, alloc: Global, core: &mut Core<Done>, note: &mut Note) -> Option<Step>
         ensures fits { Fits self.old core.old → Fits self.new core.new }
@@ -190,6 +211,7 @@ impl Worker {
         ensures step { GoesOn self.old.state.phase (side self.old.state core.old) result
             (side self.new.state core.new) }
         ensures note { IsNoted result self.new.state note.old note.new }
+        ensures vouched { IsVouched result self.new.state note.old note.new }
         ensures home { KeepsHomeOf (side self.old.state core.old) (side self.new.state core.new) }
         ensures stays { KeepsReadsOf (side self.old.state core.old) (side self.new.state core.new) }
     {

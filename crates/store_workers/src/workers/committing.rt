@@ -1,5 +1,5 @@
 //! The commit of what a worker's plan ended in.
-ghost use Rattle.std.specs.Prelude.{◌≡◌, ℕ, None, true, is_some, IfSome};
+ghost use Rattle.std.specs.Prelude.{◌≡◌, ℕ, None, Some, true, is_some, IfSome};
 ghost use Rattle.store_promise.specs.declared.events.Committing.TheVariants as committing;
 
 use super::last_entry::LastEntry;
@@ -12,11 +12,14 @@ use std::alloc::Global;
 use std::snapshot::Snapshot;
 use store_promise::{Cause, Changed, Committing, Step, Verdict};
 use txn::{Change, Commit, Core, Receipt, Seq, Tx};
+use vouchers::Voucher;
 
 impl State {
     ghost use Rattle.model.specs.Calls.{is_answered_stable};
     ghost use Rattle.store_images.specs.Counts.{SameFrame};
+    ghost use Rattle.procs.specs.Outcome.{IsMadeFor};
     ghost use Rattle.store_workers.specs.Notes.{IsNoted, committed_as, copied};
+    ghost use Rattle.store_workers.specs.Vouched.{IsVouched, KeepsVoucher};
     ghost use Rattle.store_workers.specs.Worker.{IsSound, IsHeld};
     ghost use Rattle.store_workers.specs.WorkerAnswers.{after_commit, committed, committing_of};
     ghost use Rattle.store_workers.specs.WorkerAnswers.{told_of, with_replies};
@@ -33,11 +36,13 @@ impl State {
         done: Done,
         note: &mut Note,
     ) -> Step
-        requires { IsHeld self.old }
+        requires held { IsHeld self.old }
+        requires made { IfSome self.old.work.job (λ job. IsMadeFor job.ctx job.call done) }
         ensures sound { IsSound self.new }
         ensures frame { SameFrame core.old core.new }
         ensures step { EndsBy tx done (side self.old core.old) result (side self.new core.new) }
         ensures note { IsNoted (Some result) self.new note.old note.new }
+        ensures vouched { IsVouched (Some result) self.new note.old note.new }
         ensures home { KeepsHome core.old core.new }
         ensures stays { (other : ℕ) → (other ≡ tx → ⊥) → KeepsReads core.old core.new other }
     {
@@ -69,6 +74,7 @@ impl State {
             (λ job. self.new ≡ after_commit job plan.value.reply answer self.old) }
         ensures note { note.old.wanted ≡ true → note.old.entry ≡ None
             → note.new.entry ≡ committed_as result self.new }
+        ensures voucher { KeepsVoucher answer note.old.voucher note.new.voucher }
     {
         let _ = plan;
         match answer {
@@ -123,15 +129,16 @@ impl State {
         ensures state { IfSome self.old.work.job
             (λ job. self.new ≡ committed job receipt.change.reply receipt.place self.old) }
         ensures note { note.old.wanted ≡ true → note.new.entry ≡ self.new.work.entry }
+        ensures voucher { note.new.voucher ≡ Some receipt }
     {
         let Some(job) = self.work.job.take() else {
             unreachable!();
         };
-        let place = receipt.place();
-        let reply = receipt.into_change().into_reply();
+        let (voucher, reply) = Voucher::of(receipt);
+        let place = voucher.place();
         self.work.entry = LastEntry::of(&job, &reply);
         self.tell(&job, place, reply);
-        note.take(job, copy);
+        note.take(job, copy, voucher);
         Committing::Committed(place)
     }
 

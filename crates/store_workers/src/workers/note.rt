@@ -1,37 +1,42 @@
-//! The note that is taken of a procedure with the step that commits it.
-ghost use Rattle.std.specs.Prelude.{◌≡◌, IfOk, None, false, option_map, true};
+//! The note that is taken of a procedure with the step that commits it, and what shows that it was committed.
+ghost use Rattle.std.specs.Prelude.{◌≡◌, IfOk, None, Some, false, option_map, true};
 ghost use Rattle.store_workers.specs.Notes.{copied};
 
 use super::parts::Job;
 use nfs_types::Reply;
 use std::alloc::AllocError;
 use store_promise::Entry;
+use vouchers::Voucher;
 
-// A note of the procedure that a step commits, for a history. Where none is wanted no copy of a reply is made.
+// A note of the procedure that a step commits, for a history, and what shows that it was committed. Where no note is
+// wanted no copy of a reply is made.
 #[derive(Drop)]
 pub(crate) struct Note {
     wanted: bool,
     pub(super) entry: Option<Entry>,
+    pub(super) voucher: Option<Voucher>,
 }
 
 impl Note {
     // No note is wanted.
     pub(super) fn unwanted() -> Note
-        ensures { result ≡ record { wanted = false; entry = None } }
+        ensures { result ≡ record { wanted = false; entry = None; voucher = None } }
     {
         Note {
             wanted: false,
             entry: None,
+            voucher: None,
         }
     }
 
     // One is wanted.
     pub(super) fn wanted() -> Note
-        ensures { result ≡ record { wanted = true; entry = None } }
+        ensures { result ≡ record { wanted = true; entry = None; voucher = None } }
     {
         Note {
             wanted: true,
             entry: None,
+            voucher: None,
         }
     }
 
@@ -46,17 +51,19 @@ impl Note {
         }
     }
 
-    // The procedure of this call was committed, of whose reply this is the copy.
-    pub(super) fn take(&mut self, job: Job, copy: Option<Reply>)
+    // The procedure of this call was committed, as the voucher shows; this is the copy of its reply.
+    pub(super) fn take(&mut self, job: Job, copy: Option<Reply>, voucher: Voucher)
         ensures { self.new ≡ record self.old {
           entry = option_map (λ reply. record {
             ctx = job.ctx;
             call = job.call;
             reply = reply;
           }) copy;
+          voucher = Some voucher;
         } }
     {
         self.entry = entry_of(job, copy);
+        self.voucher = Some(voucher);
     }
 }
 

@@ -1,6 +1,6 @@
 //! The steps of a worker with a transaction: it takes again what it knew; then it reads and claims what its plan
 //! asks for, and commits what it ends in.
-ghost use Rattle.std.specs.Prelude.{◌≡◌, ◌⊎◌, ℕ, None, Some, [], true, length};
+ghost use Rattle.std.specs.Prelude.{◌≡◌, ◌⊎◌, ℕ, None, Some, [], true, length, IfSome};
 ghost use Rattle.store_promise.specs.declared.aims.Aim.TheVariants as aim;
 
 use super::note::Note;
@@ -18,7 +18,9 @@ impl State {
     ghost use Rattle.store_images.specs.Counts.{SameFrame};
     ghost use Rattle.store_workers.specs.Phases.{is_planned};
     ghost use Rattle.store_workers.specs.Knowing.{IsNextOf, first_of};
+    ghost use Rattle.procs.specs.Planned.{IsPlanOf};
     ghost use Rattle.store_workers.specs.Notes.{IsNoted};
+    ghost use Rattle.store_workers.specs.Vouched.{IsVouched};
     ghost use Rattle.store_workers.specs.Seen.{seen_in};
     ghost use Rattle.store_workers.specs.Stages.{HasSoundJob};
     ghost use Rattle.store_workers.specs.Worker.{IsSound, HasBytes, HasRoom, HasRoomFor, IsHeld};
@@ -47,6 +49,7 @@ impl State {
         ensures step { GoesByPlan (side self.old core.old) result (side self.new core.new)
             ⊎ TakesAgain (side self.old core.old) result (side self.new core.new) }
         ensures note { IsNoted (Some result) self.new note.old note.new }
+        ensures vouched { IsVouched (Some result) self.new note.old note.new }
         ensures home { KeepsHome core.old core.new }
         ensures stays { KeepsReadsOf (side self.old core.old) (side self.new core.new) }
     {
@@ -84,6 +87,7 @@ impl State {
         ensures frame { SameFrame core.old core.new }
         ensures step { GoesByPlan (side self.old core.old) result (side self.new core.new) }
         ensures note { IsNoted (Some result) self.new note.old note.new }
+        ensures vouched { IsVouched (Some result) self.new note.old note.new }
         ensures home { KeepsHome core.old core.new }
         ensures stays { KeepsReadsOf (side self.old core.old) (side self.new core.new) }
     {
@@ -102,6 +106,7 @@ impl State {
         requires planned { is_planned self.old.work ≡ true }
         requires asked { ∥ HasSoundJob self.old ∥₁ }
         ensures next { IsNext self.old result }
+        ensures made { IfSome self.old.work.job (λ job. IsPlanOf job.ctx job.call result) }
         ensures rest { self.new ≡ with_snap self.new self.old }
         ensures seen { seen_in self.new.work.planner ≡ seen_in self.old.work.planner }
         ensures room { HasRoomFor result self.new }

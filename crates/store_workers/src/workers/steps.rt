@@ -20,6 +20,7 @@ impl State {
     ghost use Rattle.store_workers.specs.declared.workers.parts.Phase.TheVariants.{Waiting};
     ghost use Rattle.store_images.specs.Counts.{SameFrame};
     ghost use Rattle.store_workers.specs.Notes.{IsNoted};
+    ghost use Rattle.store_workers.specs.Vouched.{IsVouched};
     ghost use Rattle.store_workers.specs.Stages.{HasSoundJob};
     ghost use Rattle.store_workers.specs.Worker.{IsSound, with_call};
     ghost use Rattle.store_workers.specs.WorkerAnswers.{with_answer};
@@ -41,6 +42,7 @@ impl State {
         ensures frame { SameFrame core.old core.new }
         ensures step { GoesOn self.old.phase (side self.old core.old) result (side self.new core.new) }
         ensures note { IsNoted result self.new note.old note.new }
+        ensures vouched { IsVouched result self.new note.old note.new }
         ensures home { KeepsHomeOf (side self.old core.old) (side self.new core.new) }
         ensures stays { KeepsReadsOf (side self.old core.old) (side self.new core.new) }
     {

@@ -1,0 +1,2 @@
+pub mod Evident
+pub mod Written
