@@ -1,6 +1,5 @@
 //! The rows of the procedures, each file of a topic. The page README.md says which file asks what.
 
-mod asked;
 mod handles;
 mod listings;
 mod making;

@@ -4,6 +4,7 @@
 #![tactic(auto)]
 
 mod arguments;
+mod asked;
 mod calls;
 mod parts;
 mod results;
@@ -14,6 +15,10 @@ pub use arguments::{
     MK_DIR_ARGUMENTS, MK_NOD_ARGUMENTS, MOUNT_ARGUMENTS, NAME_ARGUMENTS, NO_ARGUMENTS,
     READ_ARGUMENTS, READ_DIR_ARGUMENTS, READ_DIR_PLUS_ARGUMENTS, RENAME_ARGUMENTS,
     SET_ATTR_ARGUMENTS, SYM_LINK_ARGUMENTS, UNMOUNT_ARGUMENTS, WRITE_ARGUMENTS,
+};
+pub use asked::{
+    Asked, File, ONES, ROOT, ZEROS, call, calls_on_a_directory, calls_on_a_file, changes_of_a_name,
+    handle_of, moves_of_a_name,
 };
 pub use calls::{
     access_call, commit_call, create_call, fs_info_call, fs_stat_call, get_attr_call, link_call,

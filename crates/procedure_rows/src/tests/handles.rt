@@ -1,10 +1,10 @@
 //! Each procedure on a handle that names no file, and those on directories on a file; on the tree of four files.
 
-use crate::tests::asked::{Asked, File, ROOT};
 use crate::tests::steps::{Rows, Step, first_unmet};
 use crate::tests::trees::Planted;
 use crate::tests::wanted::Wanted;
 use nfs_types::{SpecialFile, Status};
+use worked_procedures::{Asked, File, ROOT};
 
 const FREE_NUMBER: Rows = Rows {
     says: "a free number is stale",

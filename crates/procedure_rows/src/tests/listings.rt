@@ -1,12 +1,11 @@
 //! Names that are listed and linked: on the small tree, whose root lists `.`, `..` and `a`; on that of four
 //! files; and on crowded ones.
 
-use crate::tests::asked::{Asked, File, ONES, ROOT, ZEROS};
 use crate::tests::steps::{Rows, Step, first_unmet};
 use crate::tests::trees::Planted;
 use crate::tests::wanted::Wanted;
 use nfs_types::Status;
-use worked_procedures::UNSET;
+use worked_procedures::{Asked, File, ONES, ROOT, UNSET, ZEROS};
 
 const AS_FIT: Rows = Rows {
     says: "as many names as fit",

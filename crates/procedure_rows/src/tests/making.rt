@@ -1,11 +1,10 @@
 //! Files, directories and links that are made and removed, on the small tree.
 
-use crate::tests::asked::{Asked, File, ROOT};
 use crate::tests::steps::{Rows, Step, first_unmet};
 use crate::tests::trees::Planted;
 use crate::tests::wanted::Wanted;
 use nfs_types::{CreateHow, NewAttributes, Status, Verifier};
-use worked_procedures::UNSET;
+use worked_procedures::{Asked, File, ROOT, UNSET};
 
 const GUARDED: CreateHow = CreateHow::Guarded(UNSET);
 

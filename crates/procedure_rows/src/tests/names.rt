@@ -1,11 +1,10 @@
 //! Which status the procedures answer that make, link, rename and remove names, on the tree of four files.
 
-use crate::tests::asked::{Asked, File, ROOT};
 use crate::tests::steps::{Rows, Step, first_unmet};
 use crate::tests::trees::Planted;
 use crate::tests::wanted::Wanted;
 use nfs_types::{CreateHow, Moment, NewAttributes, SetTime, SpecialFile, Status};
-use worked_procedures::UNSET;
+use worked_procedures::{Asked, File, ROOT, UNSET};
 
 const A: File = File(2, 0, 0);
 

@@ -1,12 +1,11 @@
 //! Which status the procedures on one file answer, on the tree of four files.
 
-use crate::tests::asked::{Asked, File};
 use crate::tests::steps::{Rows, Step, first_unmet};
 use crate::tests::trees::Planted;
 use crate::tests::wanted::Wanted;
 use nfs_types::{Moment, NewAttributes, SetTime, Status};
 use worked_messages::MADE;
-use worked_procedures::UNSET;
+use worked_procedures::{Asked, File, UNSET};
 
 const A: File = File(2, 0, 0);
 

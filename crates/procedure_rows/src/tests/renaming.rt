@@ -1,11 +1,10 @@
 //! RENAME on the small tree.
 
-use crate::tests::asked::{Asked, File, ROOT, ZEROS};
 use crate::tests::steps::{Rows, Step, first_unmet};
 use crate::tests::trees::Planted;
 use crate::tests::wanted::Wanted;
 use nfs_types::Status;
-use worked_procedures::UNSET;
+use worked_procedures::{Asked, File, ROOT, UNSET, ZEROS};
 
 const A: File = File(2, 1, 0);
 

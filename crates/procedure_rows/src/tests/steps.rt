@@ -1,9 +1,5 @@
 //! Rows, and the one function that runs them.
 
-use crate::tests::asked::{
-    Asked, File, ROOT, call, calls_on_a_directory, calls_on_a_file, changes_of_a_name, handle,
-    moves_of_a_name,
-};
 use crate::tests::replies::sizes_told;
 use crate::tests::trees::{Planted, digits, set_links, set_mode, tree};
 use crate::tests::wanted::{Wanted, is_wanted};
@@ -11,6 +7,10 @@ use nfs_types::{Call, Credential, Ctx, Moment, NumberList, Reply, Status};
 use plain_server::{NumberedNode, PlainTree};
 use plain_steps::answer;
 use std::alloc::{AllocError, Global};
+use worked_procedures::{
+    Asked, File, ROOT, call, calls_on_a_directory, calls_on_a_file, changes_of_a_name, handle_of,
+    moves_of_a_name,
+};
 
 // When calls come: a second after which all of the trees was made.
 const SECOND: u32 = 2000;
@@ -203,7 +203,7 @@ fn find(tree: &PlainTree, number: u32) -> Option<&NumberedNode> {
 }
 
 fn leads(alloc: Global, tree: &PlainTree, file: File, wanted: bool) -> Result<bool, AllocError> {
-    let handle = handle(alloc, file)?;
+    let handle = handle_of(alloc, file)?;
     Ok(tree.find(&handle).is_ok() == wanted)
 }
 

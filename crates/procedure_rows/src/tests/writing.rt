@@ -1,11 +1,10 @@
 //! What is read, written, found and granted, on the small tree.
 
-use crate::tests::asked::{Asked, File, ROOT};
 use crate::tests::steps::{Rows, Step, first_unmet};
 use crate::tests::trees::Planted;
 use crate::tests::wanted::Wanted;
 use nfs_types::{NewAttributes, Status, Verifier};
-use worked_procedures::UNSET;
+use worked_procedures::{Asked, File, ROOT, UNSET};
 
 const A: File = File(2, 1, 0);
 

@@ -4,8 +4,8 @@ use Rattle.store_workers.specs.Seen.{Seen, seen_in, seen_of}
 use Rattle.store_workers.proofs.SpelledOnce.{job_sound}
 use Rattle.store_workers.proofs.workers.parts.State.next.Goals as goal
 
-pub plan-requires-clause-sound : goal.plan-requires-clause-sound
-plan-requires-clause-sound c =
+pub next-requires-clause-sound : goal.next-requires-clause-sound
+next-requires-clause-sound c =
     let job_is : c.args.self.now.work.job ≡ Some c.in-Some-Some.job.now = search rules in
     job_sound c.args.self.now.work.job c.in-Some-Some.job.now job_is c.requires.asked
 

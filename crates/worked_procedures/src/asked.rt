@@ -1,28 +1,28 @@
 //! Calls as data.
 
+use crate::values::UNSET;
 use nfs_types::{
     Call, CreateHow, DirectoryName, Handle, Moment, NewAttributes, Octets, SpecialFile, Stability,
     Stamp, Verifier,
 };
 use std::alloc::{AllocError, Global};
-use worked_procedures::UNSET;
 
 /// A file by its number, and the boot and the transaction of its stamp.
 #[derive(Clone, Copy)]
-pub(crate) struct File(pub(crate) u32, pub(crate) u64, pub(crate) u64);
+pub struct File(pub u32, pub u64, pub u64);
 
 /// The root.
-pub(crate) const ROOT: File = File(1, 0, 0);
+pub const ROOT: File = File(1, 0, 0);
 
 /// The verifier of a listing that begins.
-pub(crate) const ZEROS: Verifier = Verifier { bytes: [0; 8] };
+pub const ZEROS: Verifier = Verifier { bytes: [0; 8] };
 
 /// Another verifier.
-pub(crate) const ONES: Verifier = Verifier { bytes: [1; 8] };
+pub const ONES: Verifier = Verifier { bytes: [1; 8] };
 
 /// A call; a name comes behind its directory.
 #[derive(Clone, Copy)]
-pub(crate) enum Asked<'a> {
+pub enum Asked<'a> {
     Null,
     GetAttr(File),
     SetAttr(File, NewAttributes, Option<Moment>),
@@ -56,7 +56,7 @@ pub(crate) enum Asked<'a> {
 }
 
 /// The handle of a file.
-pub(crate) fn handle(alloc: Global, file: File) -> Result<Handle, AllocError> {
+pub fn handle_of(alloc: Global, file: File) -> Result<Handle, AllocError> {
     let stamp = Stamp {
         boot: file.1,
         transaction: file.2,
@@ -66,7 +66,7 @@ pub(crate) fn handle(alloc: Global, file: File) -> Result<Handle, AllocError> {
 
 fn place(alloc: Global, directory: File, name: &[u8]) -> Result<DirectoryName, AllocError> {
     Ok(DirectoryName {
-        directory: handle(alloc, directory)?,
+        directory: handle_of(alloc, directory)?,
         name: Octets::copied(alloc, name)?,
     })
 }
@@ -79,7 +79,7 @@ fn write(
     bytes: &[u8],
 ) -> Result<Call, AllocError> {
     Ok(Call::Write {
-        file: handle(alloc, file)?,
+        file: handle_of(alloc, file)?,
         offset,
         count,
         stability: Stability::Unstable,
@@ -121,7 +121,7 @@ fn rename(
 
 fn link(alloc: Global, file: File, directory: File, name: &[u8]) -> Result<Call, AllocError> {
     Ok(Call::Link {
-        file: handle(alloc, file)?,
+        file: handle_of(alloc, file)?,
         name: place(alloc, directory, name)?,
     })
 }
@@ -166,7 +166,7 @@ fn call_by_name(alloc: Global, asked: &Asked) -> Result<Option<Call>, AllocError
 fn call_with_arguments(alloc: Global, asked: &Asked) -> Result<Call, AllocError> {
     match *asked {
         Asked::SetAttr(file, attributes, guard) => {
-            let object = handle(alloc, file)?;
+            let object = handle_of(alloc, file)?;
             Ok(Call::SetAttr {
                 object,
                 attributes,
@@ -174,7 +174,7 @@ fn call_with_arguments(alloc: Global, asked: &Asked) -> Result<Call, AllocError>
             })
         }
         Asked::Read(file, offset, count) => {
-            let file = handle(alloc, file)?;
+            let file = handle_of(alloc, file)?;
             Ok(Call::Read {
                 file,
                 offset,
@@ -184,7 +184,7 @@ fn call_with_arguments(alloc: Global, asked: &Asked) -> Result<Call, AllocError>
         Asked::Write(file, offset, count, bytes) => write(alloc, file, offset, count, bytes),
         Asked::WriteMany(file, offset, count) => write_many(alloc, file, offset, count),
         Asked::ReadDir(file, cookie, verifier, count) => {
-            let directory = handle(alloc, file)?;
+            let directory = handle_of(alloc, file)?;
             Ok(Call::ReadDir {
                 directory,
                 cookie,
@@ -193,7 +193,7 @@ fn call_with_arguments(alloc: Global, asked: &Asked) -> Result<Call, AllocError>
             })
         }
         Asked::ReadDirPlus(file, cookie, verifier, directory_count, greatest_count) => {
-            let directory = handle(alloc, file)?;
+            let directory = handle_of(alloc, file)?;
             Ok(Call::ReadDirPlus {
                 directory,
                 cookie,
@@ -210,31 +210,31 @@ fn call_with_arguments(alloc: Global, asked: &Asked) -> Result<Call, AllocError>
 fn call_on_a_file(alloc: Global, asked: &Asked) -> Result<Call, AllocError> {
     match *asked {
         Asked::GetAttr(file) => {
-            let object = handle(alloc, file)?;
+            let object = handle_of(alloc, file)?;
             Ok(Call::GetAttr { object })
         }
         Asked::Access(file, bits) => {
-            let object = handle(alloc, file)?;
+            let object = handle_of(alloc, file)?;
             Ok(Call::Access { object, bits })
         }
         Asked::ReadLink(file) => {
-            let link = handle(alloc, file)?;
+            let link = handle_of(alloc, file)?;
             Ok(Call::ReadLink { link })
         }
         Asked::FsStat(file) => {
-            let object = handle(alloc, file)?;
+            let object = handle_of(alloc, file)?;
             Ok(Call::FsStat { object })
         }
         Asked::FsInfo(file) => {
-            let object = handle(alloc, file)?;
+            let object = handle_of(alloc, file)?;
             Ok(Call::FsInfo { object })
         }
         Asked::PathConf(file) => {
-            let object = handle(alloc, file)?;
+            let object = handle_of(alloc, file)?;
             Ok(Call::PathConf { object })
         }
         Asked::Commit(file, offset, count) => {
-            let file = handle(alloc, file)?;
+            let file = handle_of(alloc, file)?;
             Ok(Call::Commit {
                 file,
                 offset,
@@ -246,7 +246,7 @@ fn call_on_a_file(alloc: Global, asked: &Asked) -> Result<Call, AllocError> {
 }
 
 /// The call itself.
-pub(crate) fn call(alloc: Global, asked: &Asked) -> Result<Call, AllocError> {
+pub fn call(alloc: Global, asked: &Asked) -> Result<Call, AllocError> {
     match call_by_name(alloc, asked)? {
         Some(call) => Ok(call),
         None => call_on_a_file(alloc, asked),
@@ -254,7 +254,7 @@ pub(crate) fn call(alloc: Global, asked: &Asked) -> Result<Call, AllocError> {
 }
 
 /// The calls on a file of which those on a directory's name are none: one of each procedure.
-pub(crate) fn calls_on_a_file(file: File) -> [Asked<'static>; 12] {
+pub fn calls_on_a_file(file: File) -> [Asked<'static>; 12] {
     [
         Asked::GetAttr(file),
         Asked::SetAttr(file, UNSET, None),
@@ -272,7 +272,7 @@ pub(crate) fn calls_on_a_file(file: File) -> [Asked<'static>; 12] {
 }
 
 /// The calls on a directory: each procedure that looks a name up, makes, changes or takes one away, or lists.
-pub(crate) fn calls_on_a_directory(file: File) -> [Asked<'static>; 11] {
+pub fn calls_on_a_directory(file: File) -> [Asked<'static>; 11] {
     [
         Asked::Lookup(file, b""),
         Asked::Create(file, b"", CreateHow::Guarded(UNSET)),
@@ -289,7 +289,7 @@ pub(crate) fn calls_on_a_directory(file: File) -> [Asked<'static>; 11] {
 }
 
 /// The calls that make the file of a name in the root, or remove it, one of each procedure.
-pub(crate) fn changes_of_a_name(name: &[u8]) -> [Asked<'_>; 5] {
+pub fn changes_of_a_name(name: &[u8]) -> [Asked<'_>; 5] {
     [
         Asked::Create(ROOT, name, CreateHow::Guarded(UNSET)),
         Asked::MkDir(ROOT, name, UNSET),
@@ -300,7 +300,7 @@ pub(crate) fn changes_of_a_name(name: &[u8]) -> [Asked<'_>; 5] {
 }
 
 /// Those that give a file another name, or one more.
-pub(crate) fn moves_of_a_name(name: &[u8]) -> [Asked<'_>; 3] {
+pub fn moves_of_a_name(name: &[u8]) -> [Asked<'_>; 3] {
     [
         Asked::Rename(ROOT, name, ROOT, b"b"),
         Asked::Rename(ROOT, b"a", ROOT, name),

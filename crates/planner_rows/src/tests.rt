@@ -1,0 +1,4 @@
+//! The rows, and what runs them. The page README.md says what they ask.
+
+mod beside;
+mod lives;

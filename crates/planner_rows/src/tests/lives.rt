@@ -1,0 +1,229 @@
+//! Calls one behind the other on an image: each is planned both ways on what those before it left, and is replayed then.
+ghost use Rattle.std.specs.Prelude.{◌≡◌};
+ghost use Rattle.model.specs.Sound.{SoundTime};
+
+use crate::tests::beside::plans_alike;
+use disk::{CrashDisk, MemDisk};
+use layout::{FormatVersion, Geometry};
+use limits::LEAST_BLOCKS;
+use nfs_types::{CreateHow, Credential, Ctx, Moment, NewAttributes, NumberList, SpecialFile};
+use procs::begins_transaction;
+use replays::replay;
+use std::alloc::Global;
+use std::test::Fail;
+use store::can_be_spelled;
+use worked_messages::MADE;
+use worked_procedures::{Asked, File, ROOT, UNSET, ZEROS, call};
+
+const INODES: u32 = 128;
+
+const GEOMETRY: Geometry = Geometry {
+    version: FormatVersion::First,
+    blocks: LEAST_BLOCKS,
+    inodes: INODES,
+};
+
+const NOW: Moment = Moment {
+    seconds: 2000,
+    nanoseconds: 0,
+};
+
+// A row: a call of the superuser; or the second file's links in the directory, or files that are made there, at the names
+// of a first byte and each second byte from one on and below an end.
+enum Row<'a> {
+    Asks(Asked<'a>),
+    Links(u8, u8, u8),
+    Creates(u8, u8, u8),
+}
+
+// What the first two rows make.
+const DIRECTORY: File = File(2, 1, 1);
+
+const FILE: File = File(3, 1, 2);
+
+const PLAIN: CreateHow = CreateHow::Guarded(UNSET);
+
+const CUT: NewAttributes = NewAttributes {
+    size: Some(5000),
+    ..UNSET
+};
+
+const GROWN: NewAttributes = NewAttributes {
+    size: Some(4_227_072),
+    ..UNSET
+};
+
+const EMPTY: NewAttributes = NewAttributes {
+    size: Some(0),
+    ..UNSET
+};
+
+// What is made; what a file's bytes are, from the first block on, across the border of the indirect block, in a hole and
+// at the end; what is refused.
+const BYTES: &[Row] = &[
+    Row::Asks(Asked::MkDir(ROOT, b"d", UNSET)),
+    Row::Asks(Asked::Create(ROOT, b"f", PLAIN)),
+    Row::Asks(Asked::WriteMany(FILE, 0, 32_768)),
+    Row::Asks(Asked::WriteMany(FILE, 30_000, 32_768)),
+    Row::Asks(Asked::WriteMany(FILE, 4_190_000, 20_000)),
+    Row::Asks(Asked::Read(FILE, 0, 32_768)),
+    Row::Asks(Asked::Read(FILE, 20_000, 32_768)),
+    Row::Asks(Asked::Read(FILE, 45_000, 32_768)),
+    Row::Asks(Asked::Read(FILE, 4_180_000, 32_768)),
+    Row::Asks(Asked::Read(FILE, 4_209_999, 10)),
+    Row::Asks(Asked::Read(FILE, 5_000_000, 10)),
+    Row::Asks(Asked::Read(FILE, 0, 0)),
+    Row::Asks(Asked::Read(DIRECTORY, 0, 10)),
+    Row::Asks(Asked::Read(File(3, 1, 1), 0, 10)),
+    Row::Asks(Asked::Read(File(127, 1, 1), 0, 10)),
+    Row::Asks(Asked::Read(File(129, 1, 1), 0, 10)),
+    Row::Asks(Asked::GetAttr(FILE)),
+    Row::Asks(Asked::Access(FILE, 63)),
+    Row::Asks(Asked::Commit(FILE, 0, 0)),
+    Row::Asks(Asked::FsStat(ROOT)),
+    Row::Asks(Asked::FsInfo(ROOT)),
+    Row::Asks(Asked::PathConf(ROOT)),
+    Row::Asks(Asked::SetAttr(FILE, CUT, None)),
+    Row::Asks(Asked::SetAttr(FILE, GROWN, None)),
+    Row::Asks(Asked::Read(FILE, 0, 32_768)),
+    Row::Asks(Asked::SetAttr(FILE, EMPTY, None)),
+    Row::Asks(Asked::Remove(ROOT, b"f")),
+];
+
+// What a directory of three blocks lists, with room for all and for some, behind cookies; and names that come and go.
+const NAMES: &[Row] = &[
+    Row::Asks(Asked::MkDir(ROOT, b"d", UNSET)),
+    Row::Asks(Asked::Create(ROOT, b"f", PLAIN)),
+    Row::Asks(Asked::ReadDir(DIRECTORY, 0, ZEROS, 32_768)),
+    Row::Asks(Asked::ReadDirPlus(DIRECTORY, 0, ZEROS, 32_768, 32_768)),
+    Row::Links(b'n', 48, 68),
+    Row::Creates(b'm', 48, 96),
+    Row::Asks(Asked::ReadDir(DIRECTORY, 0, ZEROS, 4_294_967_295)),
+    Row::Asks(Asked::ReadDir(DIRECTORY, 0, ZEROS, 500)),
+    Row::Asks(Asked::ReadDir(DIRECTORY, 1, ZEROS, 32_768)),
+    Row::Asks(Asked::ReadDir(DIRECTORY, 40, ZEROS, 1_500)),
+    Row::Asks(Asked::ReadDir(DIRECTORY, 70, ZEROS, 32_768)),
+    Row::Asks(Asked::ReadDir(DIRECTORY, 9_999, ZEROS, 32_768)),
+    Row::Asks(Asked::ReadDir(DIRECTORY, 0, ZEROS, 10)),
+    Row::Asks(Asked::ReadDir(FILE, 0, ZEROS, 32_768)),
+    Row::Asks(Asked::ReadDirPlus(DIRECTORY, 0, ZEROS, 4_294_967_295, 4_294_967_295)),
+    Row::Asks(Asked::ReadDirPlus(DIRECTORY, 0, ZEROS, 32_768, 6_000)),
+    Row::Asks(Asked::ReadDirPlus(DIRECTORY, 2, ZEROS, 600, 32_768)),
+    Row::Asks(Asked::ReadDirPlus(DIRECTORY, 40, ZEROS, 32_768, 32_768)),
+    Row::Asks(Asked::ReadDirPlus(ROOT, 0, ZEROS, 32_768, 32_768)),
+    Row::Asks(Asked::Lookup(DIRECTORY, b"m_")),
+    Row::Asks(Asked::Lookup(DIRECTORY, b"none")),
+    Row::Asks(Asked::SymLink(DIRECTORY, b"l", UNSET, b"t")),
+    Row::Asks(Asked::ReadLink(FILE)),
+    Row::Asks(Asked::MkNod(DIRECTORY, b"s", SpecialFile::Fifo(UNSET))),
+    Row::Asks(Asked::Rename(DIRECTORY, b"m0", ROOT, b"f")),
+    Row::Asks(Asked::Rename(DIRECTORY, b"m1", DIRECTORY, b"m2")),
+    Row::Asks(Asked::Remove(DIRECTORY, b"m3")),
+    Row::Asks(Asked::RmDir(ROOT, b"d")),
+    Row::Asks(Asked::ReadDirPlus(DIRECTORY, 0, ZEROS, 32_768, 32_768)),
+];
+
+fn formatted(alloc: Global) -> Result<MemDisk, Fail> {
+    let mut disk = MemDisk::new(alloc, LEAST_BLOCKS)?;
+    store::format(alloc, &mut disk, INODES, MADE)?;
+    Ok(disk)
+}
+
+// The superuser's context in the first boot.
+fn context(alloc: Global, transaction: u64) -> Ctx
+    ensures { SoundTime result.moment }
+{
+    Ctx {
+        credential: Credential {
+            uid: 0,
+            gid: 0,
+            gids: NumberList::new(Vec::new(alloc)),
+        },
+        moment: NOW,
+        boot: 1,
+        transaction,
+    }
+}
+
+// A call is planned both ways, and then replayed. Whether the plans were alike.
+fn goes_alike(
+    alloc: Global,
+    disk: &mut MemDisk,
+    transaction: u64,
+    asked: &Asked,
+) -> Result<bool, Fail> {
+    let call = call(alloc, asked)?;
+    let ctx = context(alloc, transaction);
+    if !can_be_spelled(&call) || !begins_transaction(&call) || disk.blocks() != LEAST_BLOCKS {
+        return Ok(false);
+    }
+    if !plans_alike(alloc, disk, GEOMETRY, &ctx, &call)? {
+        return Ok(false);
+    }
+    let mut entries = Vec::new(alloc);
+    entries.push((ctx, call))?;
+    replay(alloc, disk, &entries)?;
+    Ok(true)
+}
+
+// The same for each of the calls of a row, of which the first has this number. The number of the next, where all were.
+fn row_goes_alike(
+    alloc: Global,
+    disk: &mut MemDisk,
+    transaction: u64,
+    row: &Row,
+) -> Result<Option<u64>, Fail> {
+    let mut next = transaction;
+    match *row {
+        Row::Asks(ref asked) => {
+            if !goes_alike(alloc, disk, next, asked)? {
+                return Ok(None);
+            }
+            next += 1;
+        }
+        Row::Links(first, from, end) => {
+            for second in from..end {
+                let asked = Asked::Link(FILE, DIRECTORY, &[first, second]);
+                if !goes_alike(alloc, disk, next, &asked)? {
+                    return Ok(None);
+                }
+                next += 1;
+            }
+        }
+        Row::Creates(first, from, end) => {
+            for second in from..end {
+                let asked = Asked::Create(DIRECTORY, &[first, second], PLAIN);
+                if !goes_alike(alloc, disk, next, &asked)? {
+                    return Ok(None);
+                }
+                next += 1;
+            }
+        }
+    }
+    Ok(Some(next))
+}
+
+// The number of the first row on a fresh image whose plans aren't alike, where there is one.
+fn first_unlike(alloc: Global, rows: &[Row]) -> Result<Option<usize>, Fail> {
+    let mut disk = formatted(alloc)?;
+    let mut next = 1;
+    for (number, row) in rows.iter().enumerate() {
+        match row_goes_alike(alloc, &mut disk, next, row)? {
+            Some(later) => next = later,
+            None => return Ok(Some(number)),
+        }
+    }
+    Ok(None)
+}
+
+#[test]
+fn on_bytes(rt: HostRuntime) -> Result<(), Fail> {
+    assert_eq!(rt; first_unlike(rt.alloc(), BYTES)?, None);
+    Ok(())
+}
+
+#[test]
+fn on_names(rt: HostRuntime) -> Result<(), Fail> {
+    assert_eq!(rt; first_unlike(rt.alloc(), NAMES)?, None);
+    Ok(())
+}
