@@ -1,2 +1,3 @@
 pub mod Evident
 pub mod Written
+pub mod Laws

@@ -1,5 +1,5 @@
 -- What is written to a connection.
-use Rattle.std.specs.Prelude.{◌≡◌, ℕ, true, List, flat_map, All}
+use Rattle.std.specs.Prelude.{◌≡◌, ℕ, true, List, [], ◌++◌, flat_map, All}
 use Rattle.rpc.specs.Records.{fragment}
 use Rattle.session_wire.specs.Replies.{reply_bytes}
 use Rattle.pool_answers.specs.Evident.{Answered}
@@ -23,3 +23,27 @@ pub record Written : Type 0 where
   pub number : ℕ
   pub bytes : List ℕ
   pub answers : List Answered
+
+-- the same as it waits to be written, in a buffer with room for so many bytes
+pub record Queued : Type 0 where
+  pub key : ℕ
+  pub number : ℕ
+  pub bytes : List ℕ
+  pub answers : List Answered
+  pub room : ℕ
+
+-- nothing waits
+abbrev pub nothing_for : ℕ → ℕ → ℕ → Queued
+nothing_for key number room = record { key = key; number = number; bytes = []; answers = []; room = room }
+
+-- more answers behind the others
+abbrev pub with_more : Written → ℕ → Queued → Queued
+with_more more room queue = record queue {
+  bytes = queue.bytes ++ more.bytes;
+  answers = queue.answers ++ more.answers;
+  room = room;
+}
+
+-- they are for the same connection
+abbrev pub AreForOne : Written → Queued → Type 0
+AreForOne more queue = (more.key ≡ queue.key) × (more.number ≡ queue.number)

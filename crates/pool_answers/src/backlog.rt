@@ -1,8 +1,8 @@
 //! The bytes of answers that wait to be written to one connection.
 
-use crate::ReplyBytes;
+use crate::{Put, ReplyBytes};
 use http_server::Log;
-use std::alloc::{AllocError, Global};
+use std::alloc::Global;
 use std::marker::Model;
 
 /// The bytes of answers to the connection of this key and number, as they were left one behind another. Its type keeps
@@ -17,32 +17,49 @@ pub struct Backlog {
 
 impl Model for Backlog {
     ghost use Rattle.std.specs.Prelude.{flat_map};
-    ghost use Rattle.pool_answers.specs.Written.{IsWritten, Written};
+    ghost use Rattle.std.specs.Vec.{vec_capacity};
+    ghost use Rattle.pool_answers.specs.Written.{IsWritten, Queued};
 
-    ghost Value = { Written };
+    ghost Value = { Queued };
 
     ghost view = { λ b. record {
       key = b.key;
       number = b.number;
       bytes = b.bytes.items;
       answers = flat_map (λ one. one.0.answers) b.pieces.items;
+      room = vec_capacity b.bytes;
     } };
 
     ghost invariant = { λ b. IsWritten b.key b.number b.bytes.items (flat_map (λ one. one.0.answers) b.pieces.items) };
 }
 
 impl Backlog {
-    ghost use Rattle.std.specs.Prelude.{◌≡◌, ◌++◌, ◌+◌, ◌<◌, [], length, OnOk, OnErr, IsTrue, ◌↔◌};
-    ghost use Rattle.pool_answers.specs.Written.{IsWritten};
+    ghost use Rattle.std.specs.Prelude.{◌≡◌, ◌+◌, ◌<◌, ◌↔◌, IsTrue, length};
+    ghost use Rattle.pool_answers.specs.Written.{AreForOne, IsWritten, nothing_for, with_more};
+    ghost use Rattle.pool_answers.specs.declared.reply_bytes.Put.TheVariants as puts;
 
     /// Nothing, for the connection of this key and number.
     pub fn new(alloc: Global, key: usize, number: u64) -> Backlog
-        ensures { result ≡ record { key = key; number = number; bytes = []; answers = [] } }
+        ensures { result ≡ nothing_for key number result.room }
     {
         Backlog {
             key,
             number,
             bytes: Vec::new(alloc),
+            pieces: Log::new(),
+        }
+    }
+
+    /// Nothing, in a buffer that is used again, for the connection of this key and number.
+    pub fn emptied(self, key: usize, number: u64) -> Backlog
+        ensures { result ≡ nothing_for key number result.room }
+    {
+        let mut bytes = self.bytes;
+        bytes.clear();
+        Backlog {
+            key,
+            number,
+            bytes,
             pieces: Log::new(),
         }
     }
@@ -68,25 +85,38 @@ impl Backlog {
         (self.key, self.number)
     }
 
-    /// Puts the bytes of further answers to the same connection behind these: all, or none where memory is refused.
-    #[tactic(auto, using(crate::proofs::Puts::one_piece))]
-    pub fn put(&mut self, piece: &ReplyBytes) -> Result<(), AllocError>
-        requires { (piece.now.key ≡ self.old.key) × (piece.now.number ≡ self.old.number) }
-        ensures put { OnOk result (self.new ≡ record self.old {
-          bytes = self.old.bytes ++ piece.now.bytes;
-          answers = self.old.answers ++ piece.now.answers;
-        }) }
-        ensures kept { OnErr result (self.new ≡ self.old) }
+    /// Whether these are for its connection.
+    pub fn is_for(&self, replies: &ReplyBytes) -> bool
+        ensures { IsTrue result ↔ AreForOne replies.now self.now }
     {
-        piece.written();
-        self.bytes.extend_from_slice(piece.as_slice())?;
-        self.pieces = self.pieces.and(piece, &());
-        Ok(())
+        let (key, number) = replies.goes_to();
+        key == self.key && number == self.number
+    }
+
+    /// Puts the bytes of further answers to the same connection behind these: all of them, or none, where they are for
+    /// another, or memory is refused, which is never so while the buffer has room for them.
+    #[tactic(auto, using(crate::proofs::Puts::one_piece))]
+    pub fn put(&mut self, replies: &ReplyBytes) -> Put
+        ensures done { result ≡ puts.Done → AreForOne replies.now self.old
+            × (self.new ≡ with_more replies.now self.new.room self.old) }
+        ensures another { result ≡ puts.Another → (AreForOne replies.now self.old → ⊥) × (self.new ≡ self.old) }
+        ensures refused { result ≡ puts.Refused → (self.new ≡ record self.old { room = self.new.room })
+            × (self.old.room < length self.old.bytes + length replies.now.bytes) }
+    {
+        if !self.is_for(replies) {
+            return Put::Another;
+        }
+        replies.written();
+        if self.bytes.extend_from_slice(replies.as_slice()).is_err() {
+            return Put::Refused;
+        }
+        self.pieces = self.pieces.and(replies, &());
+        Put::Done
     }
 
     /// Lets go of all.
     pub fn clear(&mut self)
-        ensures { self.new ≡ record self.old { bytes = []; answers = [] } }
+        ensures { self.new ≡ nothing_for self.old.key self.old.number self.new.room }
     {
         self.bytes.clear();
         self.pieces = Log::new();

@@ -4,9 +4,11 @@
 mod answer;
 mod backlog;
 mod evidence;
+mod laws;
 mod reply_bytes;
 
 pub use answer::Answer;
 pub use backlog::Backlog;
 pub use evidence::Evidence;
+pub use laws::{a_reply_answers_one_procedure, an_answer_is_one_that_its_call_may_get};
 pub use reply_bytes::{Put, ReplyBytes};

@@ -59,6 +59,13 @@ impl ReplyBytes {
         }
     }
 
+    /// The key and the number of the connection.
+    pub fn goes_to(&self) -> (usize, u64)
+        ensures { result ≡ (self.now.key, self.now.number) }
+    {
+        (self.key, self.number)
+    }
+
     /// How many bytes there are.
     pub fn len(&self) -> usize
         ensures { result ≡ length self.now.bytes }
@@ -74,13 +81,27 @@ impl ReplyBytes {
     }
 
     /// Puts an answer behind the others, where it is for this connection. Else nothing changes.
-    #[tactic(auto, using(crate::proofs::Puts::one_more))]
     pub fn put(&mut self, alloc: Global, answer: Answer) -> Put
         ensures done { result ≡ puts.Done → IsFor self.old.key self.old.number answer × (self.new ≡ record self.old {
           bytes = self.old.bytes ++ spelled answer;
           answers = self.old.answers ++ answer ∷ [];
         }) }
         ensures another { result ≡ puts.Another → (IsFor self.old.key self.old.number answer → ⊥) }
+        ensures kept { (result ≡ puts.Another) ⊎ (result ≡ puts.Refused) → self.new ≡ self.old }
+    {
+        let put = self.put_one(alloc, &answer);
+        drop(answer);
+        put
+    }
+
+    // The same of an answer that the caller lets go of.
+    #[tactic(auto, using(crate::proofs::Puts::one_more))]
+    fn put_one(&mut self, alloc: Global, answer: &Answer) -> Put
+        ensures done { result ≡ puts.Done → IsFor self.old.key self.old.number answer.now × (self.new ≡ record self.old {
+          bytes = self.old.bytes ++ spelled answer.now;
+          answers = self.old.answers ++ answer.now ∷ [];
+        }) }
+        ensures another { result ≡ puts.Another → (IsFor self.old.key self.old.number answer.now → ⊥) }
         ensures kept { (result ≡ puts.Another) ⊎ (result ≡ puts.Refused) → self.new ≡ self.old }
     {
         let (key, number) = answer.goes_to();
@@ -93,7 +114,7 @@ impl ReplyBytes {
         if self.bytes.extend_from_slice(bytes.as_slice()).is_err() {
             return Put::Refused;
         }
-        self.answers = self.answers.and(&answer, &());
+        self.answers = self.answers.and(answer, &());
         Put::Done
     }
 

@@ -3,3 +3,4 @@ pub mod Received
 pub mod Spelled
 pub mod Immediate
 pub mod Sent
+pub mod Bearing
