@@ -194,11 +194,11 @@ module _ (sent : Sent) (before shown : Option (Given Outcome)) (old new : Side) 
       placed true stable = record {
         stands = subst (λ (a : Option CallAnswer). StandsAfter (Some sent) (Some given) a
             (with_entry mine done.reply (told_of true mine done.reply place planned))) (sym none) (record {
-          place_is = place_is;
-          own = mine_own;
-          reply_is = ap (λ (r : Reply). Some r) (sym reply_is);
-          broken_is = ap (λ (c : Call). Some (refused status.Io c)) of.call;
-        });
+              place_is = place_is;
+              own = mine_own;
+              reply_is = ap (λ (r : Reply). Some r) (sym reply_is);
+              broken_is = ap (λ (c : Call). Some (refused status.Io c)) of.call;
+            });
         gives = subst (λ (a : Option CallAnswer). given_to new.core made (Some sent) (Some given) a) (sym none) tt;
       }
       placed false stable = record {

@@ -1,2 +1,2 @@
 mod Puts
-mod Laws
+mod OneProcedure

@@ -1,6 +1,6 @@
 -- More answers keep that the bytes are what answers spell.
 use Rattle.std.proofs.Common.{ap, ap₂, subst, ◌≡◌, ◌∙◌, sym, ℕ, List, [], ◌∷◌, ◌++◌}
-use Rattle.std.specs.Prelude.{flat_map, All, map}
+use Rattle.std.specs.Prelude.{flat_map, map}
 use Rattle.std.proofs.lemmas.Grind.{flat_map-append}
 use Rattle.std.proofs.lemmas.List.{flat_map_more, map-append}
 use Rattle.std.proofs.lemmas.List.Elements.{All-append, All-cons, All-nil}

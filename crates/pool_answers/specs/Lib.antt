@@ -1,3 +1,3 @@
 pub mod Evident
 pub mod Written
-pub mod Laws
+pub mod MayGet

@@ -8,7 +8,7 @@ ghost use Rattle.nfs_types.specs.declared.call.Call.TheVariants as call;
 ghost use Rattle.nfs_types.specs.declared.ctx.Ctx.{Ctx};
 ghost use Rattle.nfs_types.specs.declared.handle.Handle.{Handle};
 ghost use Rattle.pool_answers.specs.Evident.{Answered, IsCommitted};
-ghost use Rattle.pool_answers.specs.Laws.{MayGet};
+ghost use Rattle.pool_answers.specs.MayGet.{MayGet};
 ghost use Rattle.pool_jobs.specs.Sent.{Sent};
 ghost use Rattle.procs.specs.Outcome.{Outcome};
 ghost use Rattle.session_wire.specs.declared.message.ReplyBody.{ReplyBody};
@@ -16,7 +16,6 @@ ghost use Rattle.txn.specs.Receipts.{Given};
 
 /// The reply of a committed change is one that the job's call may get: wherever blocks have what was read for it and stand
 /// for a tree, a step of the sequential server gives it there.
-#[tactic(auto, using(crate::proofs::Laws::may_get))]
 pub fn an_answer_is_one_that_its_call_may_get()
     ensures { (answer : Answered) (sent : Sent) (given : Given Outcome) (stable : Option ℕ)
         (is : IsCommitted answer sent given stable) (blocks : Image) (tree : Tree)
@@ -26,7 +25,7 @@ pub fn an_answer_is_one_that_its_call_may_get()
 
 /// No reply answers both a GETATTR and a COMMIT (RFC 1813, sections 3.3.1 and 3.3.21): so a constant one answers no two
 /// procedures.
-#[tactic(auto, using(crate::proofs::Laws::no_two))]
+#[tactic(auto, using(crate::proofs::OneProcedure::no_two))]
 pub fn a_reply_answers_one_procedure()
     ensures { (tree : Tree) (other : Tree) (ctx : Ctx) (later : Ctx) (object : Handle) (asked : Handle) (offset : ℕ) (count : ℕ)
         (told : ReplyBody) → MayGet tree ctx (call.GetAttr object) told

@@ -9,7 +9,6 @@ use Rattle.nfs_types.specs.declared.ctx.Ctx.{Ctx}
 use Rattle.nfs_types.specs.declared.handle.Handle.{Handle}
 use Rattle.nfs_types.specs.declared.reply.Reply.{Reply}
 use Rattle.nfs_types.specs.declared.reply.Reply.TheVariants as reply
-use Rattle.nfs_types.specs.declared.program.ProgramReply.{ProgramReply}
 use Rattle.nfs_types.specs.declared.program.ProgramReply.TheVariants as program_replies
 use Rattle.procedures.specs.Step.{numbered_step, step}
 use Rattle.inode.specs.Read.{AreAsRead}
@@ -19,7 +18,7 @@ use Rattle.session_wire.specs.declared.message.ReplyBody.TheVariants as body
 use Rattle.txn.specs.Receipts.{Given}
 use Rattle.procs.specs.Outcome.{Outcome}
 use Rattle.pool_answers.specs.Evident.{Answered, IsCommitted, with_reply}
-use Rattle.pool_answers.specs.Laws.{MayGet}
+use Rattle.pool_answers.specs.MayGet.{MayGet}
 
 -- the reply of a committed change is one that the call may get
 pub may_get : (answer : Answered) (sent : Sent) (given : Given Outcome) (stable : Option ℕ)
