@@ -1,20 +1,17 @@
 -- A step keeps what a worker has its job's, and what it gives answers the job.
-use Rattle.std.proofs.Common.{◌≡◌, ◌∙◌, refl, sym, ap, subst, ℕ, Bool, true, false, true≢false, Option, Some, None, inl, inr}
+use Rattle.std.proofs.Common.{◌≡◌, ◌∙◌, refl, sym, ap, subst, ℕ, List, Bool, true, false, true≢false, Option, Some, None, inl, inr}
 use Rattle.std.specs.Prelude.{IsSomeAnd, IsTrue, MatchOption, if◌then◌else◌, is_some, option_map, ◌↔◌, ◌≤◌, unwrap_or}
 use Rattle.disk.specs.Ports.{AnsweredCalls}
 use Rattle.disk.specs.declared.block.BlockNo.{BlockNo}
 use Rattle.model.specs.Calls.{begins_transaction, is_answered_stable}
 use Rattle.model.specs.Refused.{refused}
 use Rattle.nfs_types.specs.declared.call.Call.{Call}
-use Rattle.nfs_types.specs.declared.ctx.Credential.{Credential}
-use Rattle.nfs_types.specs.declared.ctx.Moment.{Moment}
 use Rattle.nfs_types.specs.declared.reply.Reply.{Reply}
 use Rattle.nfs_types.specs.declared.reply.Reply.TheVariants.{Null}
 use Rattle.nfs_types.specs.declared.status.Status.TheVariants as status
 use Rattle.objects.specs.declared.addr.Addr.{Addr}
 use Rattle.objects.specs.declared.mode.Mode.{Mode}
 use Rattle.procs.specs.Outcome.{Outcome}
-use Rattle.procs.specs.declared.next.Plan.TheVariants as plan
 use Rattle.store_promise.specs.Aims.{is_barred}
 use Rattle.store_promise.specs.Verdicts.{cause_of, refusal}
 use Rattle.store_promise.specs.declared.aims.Aim.TheVariants as aim
@@ -24,6 +21,7 @@ use Rattle.store_promise.specs.declared.answers.Verdict.{Verdict}
 use Rattle.store_promise.specs.declared.answers.Verdict.TheVariants as verdict
 use Rattle.store_promise.specs.declared.events.Cause.{Cause}
 use Rattle.store_promise.specs.declared.events.Cause.TheVariants as cause
+use Rattle.store_promise.specs.declared.events.Committing.TheVariants as committing
 use Rattle.store_promise.specs.declared.events.Step.{Step}
 use Rattle.store_promise.specs.declared.events.Step.TheVariants as step
 use Rattle.store_workers.proofs.WorkCases.{Cases, by_cases}
@@ -33,8 +31,8 @@ use Rattle.store_workers.specs.Vouched.{Vouches, vouched_entry}
 use Rattle.store_workers.specs.WorkerAnswers.{after_commit, asked_wanted, begun_claimed, begun_wanted}
 use Rattle.store_workers.specs.WorkerAnswers.{committing_of, known_claimed, known_wanted, phase_claimed, phase_wanted}
 use Rattle.store_workers.specs.WorkerAnswers.{told_of, with_answer, with_entry}
-use Rattle.store_workers.specs.WorkerSteps.{GoesOn, HasClaimed, HasCommitted, HasGivenBack}
-use Rattle.store_workers.specs.WorkerSteps.{HasWanted, IsNext, IsTold, Side, Waits, none_begun, planned_of, with_snap}
+use Rattle.store_workers.specs.WorkerSteps.{GoesOn, HasClaimed, HasGivenBack}
+use Rattle.store_workers.specs.WorkerSteps.{HasWanted, IsTold, Side, Waits, none_begun, with_snap}
 use Rattle.store_workers.specs.declared.workers.Worker.{Worker}
 use Rattle.store_workers.specs.declared.workers.parts.Job as own
 use Rattle.store_workers.specs.declared.workers.parts.Phase.{Phase}
@@ -55,7 +53,7 @@ use Rattle.wal_law.specs.Log.{settled_place}
 use Rattle.wal_law.specs.declared.outcomes.Seq.{Seq}
 use Rattle.pool_answers.specs.Evident.{Answered, IsInItsPlace, IsOwn}
 use Rattle.pool_jobs.specs.Sent.{Sent}
-use Rattle.pool.specs.Answers.{GivesBy, GivesFor, IsReplyOf, body_of, errand_after, errand_with, given_to, kept, way_by}
+use Rattle.pool.specs.Answers.{GivesBy, GivesFor, body_of, errand_after, errand_with, given_to, kept, way_by}
 use Rattle.pool.specs.Seated.{HasCall, IsOf, IsSeated, StandsWith, WaitsWith}
 use Rattle.pool.specs.Stepping.{ReadsFrom}
 use Rattle.pool.specs.Working.{Working}
@@ -96,87 +94,87 @@ in_its_place call cause.Io = inr (inl refl)
 in_its_place call cause.Spent = inr (inr refl)
 
 module _ (sent : Sent) (before shown : Option (Given Outcome)) (old new : Side) (none : old.worker.work.answer ≡ None) where
-  abbrev after : Option (Given Outcome)
-  after = kept before shown
+  abbrev keeping : Option (Given Outcome)
+  keeping = kept before shown
 
   abbrev LeavesIt : Phase → Option Step → Type 0
   LeavesIt phase made = old.worker.phase ≡ phase → StandsWith (Some sent) before phase old.worker
-      → Vouches made new.worker shown → Leaves sent after new.core made new.worker
+      → Vouches made new.worker shown → Leaves sent keeping new.core made new.worker
 
-  so : (made : Option Step) (state : State) → new.worker ≡ state → Leaves sent after new.core made state
-      → Leaves sent after new.core made new.worker
-  so made state is leaves = subst (λ (s : State). Leaves sent after new.core made s) (sym is) leaves
+  so : (made : Option Step) (state : State) → new.worker ≡ state → Leaves sent keeping new.core made state
+      → Leaves sent keeping new.core made new.worker
+  so made state is leaves = subst (λ (s : State). Leaves sent keeping new.core made s) (sym is) leaves
 
   -- it goes on with its call
   stays : (made : Option Step) (state : State) → state.work.answer ≡ None
-      → StandsWith (Some sent) after state.phase (told state) → Leaves sent after new.core made state
+      → StandsWith (Some sent) keeping state.phase (told state) → Leaves sent keeping new.core made state
   stays made state is stands = record {
-    stands = subst (λ (a : Option CallAnswer). StandsAfter (Some sent) after a state) (sym is) stands;
-    gives = subst (λ (a : Option CallAnswer). given_to new.core made (Some sent) after a) (sym is) tt;
+    stands = subst (λ (a : Option CallAnswer). StandsAfter (Some sent) keeping a state) (sym is) stands;
+    gives = subst (λ (a : Option CallAnswer). given_to new.core made (Some sent) keeping a) (sym is) tt;
   }
 
   unchanged : (made : Option Step) (phase : Phase) → old.worker.phase ≡ phase
-      → StandsWith (Some sent) after phase (told old.worker) → new.worker ≡ old.worker
-      → Leaves sent after new.core made new.worker
+      → StandsWith (Some sent) keeping phase (told old.worker) → new.worker ≡ old.worker
+      → Leaves sent keeping new.core made new.worker
   unchanged made phase phase_is going is = so made old.worker is (stays made old.worker none
-      (subst (λ (p : Phase). StandsWith (Some sent) after p (told old.worker)) (sym phase_is) going))
+      (subst (λ (p : Phase). StandsWith (Some sent) keeping p (told old.worker)) (sym phase_is) going))
 
   -- it gives an answer, and is idle
   answers : (made : Option Step) (base : State) (heard : Verdict) (place : Option Seq)
-      → GivesBy new.core (way_by made) sent after heard → new.worker ≡ with_answer heard place base
-      → Leaves sent after new.core made new.worker
+      → GivesBy new.core (way_by made) sent keeping heard → new.worker ≡ with_answer heard place base
+      → Leaves sent keeping new.core made new.worker
   answers made base heard place is worker =
       so made (with_answer heard place base) worker (record { stands = refl; gives = is })
 
   -- one that is kept off waits, or begins again: its call stays
   kept_off : (above : Bool) (state : State) → HasCall state sent
-      → StandsWith (Some sent) after (if above then Again else Planning) state
+      → StandsWith (Some sent) keeping (if above then Again else Planning) state
   kept_off true state call = call
   kept_off false state call = call
 
-  wants : (tx : ℕ) (addr : Addr) (mode : Mode) (made : Step) (has : HasWanted tx addr mode old made new)
-      → HasCall old.worker sent → Leaves sent after new.core (Some made) new.worker
-  wants tx addr mode made has call = so (Some made) _ has.worker (by has.answer)
+  wants : (tx : ℕ) (addr : Addr) (mode : Mode) (made : Step) (tells : Option Step) (has : HasWanted tx addr mode old made new)
+      → HasCall old.worker sent → Leaves sent keeping new.core tells new.worker
+  wants tx addr mode made tells has call = so tells _ has.worker (by has.answer)
     where
-      by : (answer : Want) → Leaves sent after new.core (Some made) (record (with_snap new.worker old.worker) {
+      by : (answer : Want) → Leaves sent keeping new.core tells (record (with_snap new.worker old.worker) {
         phase = phase_wanted addr mode answer old.worker.known;
         begun = begun_wanted answer;
         asked = asked_wanted addr mode answer old.worker.asked;
         known = known_wanted addr mode answer (with_snap new.worker old.worker).known;
       })
-      by (want.Held back bytes) = stays (Some made) _ none call
-      by (want.Fetch back io) = stays (Some made) _ none call
-      by (want.Busy back) = stays (Some made) _ none (kept_off (is_barred (aim.Object addr mode) old.worker.known.taken) _ call)
-      by (want.Loading back) = stays (Some made) _ none (kept_off (is_barred (aim.Object addr mode) old.worker.known.taken) _ call)
-      by (want.Outside back) = stays (Some made) _ none call
-      by (want.NoMemory back) = stays (Some made) _ none call
+      by (want.Held back bytes) = stays tells _ none call
+      by (want.Fetch back io) = stays tells _ none call
+      by (want.Busy back) = stays tells _ none (kept_off (is_barred (aim.Object addr mode) old.worker.known.taken) _ call)
+      by (want.Loading back) = stays tells _ none (kept_off (is_barred (aim.Object addr mode) old.worker.known.taken) _ call)
+      by (want.Outside back) = stays tells _ none call
+      by (want.NoMemory back) = stays tells _ none call
 
-  claims : (tx : ℕ) (block : BlockNo) (made : Step) (has : HasClaimed tx block old made new)
-      → HasCall old.worker sent → Leaves sent after new.core (Some made) new.worker
-  claims tx block made has call = so (Some made) _ has.worker (by has.answer)
+  claims : (tx : ℕ) (block : BlockNo) (made : Step) (tells : Option Step) (has : HasClaimed tx block old made new)
+      → HasCall old.worker sent → Leaves sent keeping new.core tells new.worker
+  claims tx block made tells has call = so tells _ has.worker (by has.answer)
     where
-      by : (answer : Claim) → Leaves sent after new.core (Some made) (record (with_snap new.worker old.worker) {
+      by : (answer : Claim) → Leaves sent keeping new.core tells (record (with_snap new.worker old.worker) {
         phase = phase_claimed block answer old.worker.known;
         begun = begun_claimed answer;
         known = known_claimed block answer (with_snap new.worker old.worker).known;
       })
-      by (claim.Held back) = stays (Some made) _ none call
-      by (claim.Busy back) = stays (Some made) _ none (kept_off (is_barred (aim.Claim block) old.worker.known.taken) _ call)
-      by (claim.Loading back) = stays (Some made) _ none (kept_off (is_barred (aim.Claim block) old.worker.known.taken) _ call)
-      by (claim.Outside back) = stays (Some made) _ none call
-      by (claim.NoMemory back) = stays (Some made) _ none call
+      by (claim.Held back) = stays tells _ none call
+      by (claim.Busy back) = stays tells _ none (kept_off (is_barred (aim.Claim block) old.worker.known.taken) _ call)
+      by (claim.Loading back) = stays tells _ none (kept_off (is_barred (aim.Claim block) old.worker.known.taken) _ call)
+      by (claim.Outside back) = stays tells _ none call
+      by (claim.NoMemory back) = stays tells _ none call
 
   module _ (mine : own.Job) (of : IsOf sent mine) (done : Outcome) (call : HasCall old.worker sent) where
     abbrev planned : State
     planned = record (with_snap new.worker old.worker) { begun = none_begun }
 
-    module _ (blocks : _) (place : Seq) (given : Given Outcome) (shown_is : shown ≡ Some given)
+    module _ (blocks : List BlockNo) (place : Seq) (given : Given Outcome) (shown_is : shown ≡ Some given)
         (entry : vouched_entry given ≡ record { ctx = mine.ctx; call = mine.call; reply = done.reply })
         (place_is : given.place ≡ place) where
-      abbrev made : Option Step
-      made = Some (step.Commit blocks (committing_of {C = Outcome} (commit.Committed given)))
+      abbrev commit_made : Option Step
+      commit_made = Some (step.Commit blocks (committing.Committed place))
 
-      after_is : after ≡ Some given
+      after_is : keeping ≡ Some given
       after_is = ap (λ (s : Option (Given Outcome)). kept before s) shown_is
 
       mine_own : IsOwn sent given.change
@@ -190,7 +188,7 @@ module _ (sent : Sent) (before shown : Option (Given Outcome)) (old new : Side) 
       reply_is = ap (λ (e : Entry). e.reply) entry
 
       placed : (stable : Bool) → is_answered_stable mine.call ≡ stable
-          → Leaves sent (Some given) new.core made (with_entry mine done.reply (told_of stable mine done.reply place planned))
+          → Leaves sent (Some given) new.core commit_made (with_entry mine done.reply (told_of stable mine done.reply place planned))
       placed true stable = record {
         stands = subst (λ (a : Option CallAnswer). StandsAfter (Some sent) (Some given) a
             (with_entry mine done.reply (told_of true mine done.reply place planned))) (sym none) (record {
@@ -199,7 +197,7 @@ module _ (sent : Sent) (before shown : Option (Given Outcome)) (old new : Side) 
               reply_is = ap (λ (r : Reply). Some r) (sym reply_is);
               broken_is = ap (λ (c : Call). Some (refused status.Io c)) of.call;
             });
-        gives = subst (λ (a : Option CallAnswer). given_to new.core made (Some sent) (Some given) a) (sym none) tt;
+        gives = subst (λ (a : Option CallAnswer). given_to new.core commit_made (Some sent) (Some given) a) (sym none) tt;
       }
       placed false stable = record {
         stands = refl;
@@ -209,9 +207,9 @@ module _ (sent : Sent) (before shown : Option (Given Outcome)) (old new : Side) 
         );
       }
 
-    commits_by : (blocks : _) (answer : Commit Outcome) → new.worker ≡ after_commit mine done.reply answer planned
+    commits_by : (blocks : List BlockNo) (answer : Commit Outcome) → new.worker ≡ after_commit mine done.reply answer planned
         → Vouches (Some (step.Commit blocks (committing_of answer))) new.worker shown
-        → Leaves sent after new.core (Some (step.Commit blocks (committing_of answer))) (after_commit mine done.reply answer planned)
+        → Leaves sent keeping new.core (Some (step.Commit blocks (committing_of answer))) (after_commit mine done.reply answer planned)
     commits_by blocks (commit.Committed receipt) worker vouches =
         let entry_is = vouches.entry ∙ ap (λ (s : State). s.work.entry) worker in
         let is = some_shown shown _ entry_is in
@@ -222,7 +220,7 @@ module _ (sent : Sent) (before shown : Option (Given Outcome)) (old new : Side) 
         (sym (after_is blocks receipt.place is.0 is.1 is.2 place_is))
         (placed_at blocks receipt is.0 is.1 is.2 place_is)
       where
-        placed_at : (blocks : _) (receipt given : Given Outcome) (shown_is : shown ≡ Some given)
+        placed_at : (blocks : List BlockNo) (receipt given : Given Outcome) (shown_is : shown ≡ Some given)
             (entry : vouched_entry given ≡ record { ctx = mine.ctx; call = mine.call; reply = done.reply })
             (place_is : given.place ≡ receipt.place)
             → Leaves sent (Some given) new.core (Some (step.Commit blocks (committing_of {C = Outcome} (commit.Committed receipt))))
@@ -236,10 +234,10 @@ module _ (sent : Sent) (before shown : Option (Given Outcome)) (old new : Side) 
     commits_by blocks (commit.Broken back same) worker vouches = stays _ _ none call
     commits_by blocks (commit.Spent back same) worker vouches = stays _ _ none call
 
-  gives_back : (ok : Bool) (io : Fetch) (made : Step) → HasGivenBack ok io old made new → HasCall old.worker sent
-      → Leaves sent after new.core (Some made) new.worker
-  gives_back true io made has call = so (Some made) _ has.worker (stays (Some made) _ none call)
-  gives_back false io made has call = so (Some made) _ has.worker (stays (Some made) _ none call)
+  gives_back : (ok : Bool) (io : Fetch) (made : Step) (tells : Option Step) → HasGivenBack ok io old made new
+      → HasCall old.worker sent → Leaves sent keeping new.core tells new.worker
+  gives_back true io made tells has call = so tells _ has.worker (stays tells _ none call)
+  gives_back false io made tells has call = so tells _ has.worker (stays tells _ none call)
 
   abbrev without_reply : State
   without_reply = record old.worker { work = record old.worker.work { reply = None } }
@@ -247,12 +245,12 @@ module _ (sent : Sent) (before shown : Option (Given Outcome)) (old new : Side) 
   abbrev without_broken : State
   without_broken = record old.worker { work = record old.worker.work { broken_reply = None } }
 
-  module _ (given : Given Outcome) (place : Seq) (after_is : after ≡ Some given)
+  module _ (given : Given Outcome) (place : Seq) (after_is : keeping ≡ Some given)
       (stands : WaitsWith place old.worker sent given) (core_is : new.core ≡ old.core)
       (phase_is : old.worker.phase ≡ Waiting place) where
     waits_by : (settled broken : Bool) → IsTold settled broken place old.worker new.worker
         → IsTrue settled ↔ (place.0 ≤ settled_place old.core.log)
-        → Leaves sent after new.core (Some (step.Stable place settled)) new.worker
+        → Leaves sent keeping new.core (Some (step.Stable place settled)) new.worker
     waits_by true broken told_it settled_is =
         answers (Some (step.Stable place true)) without_reply (verdict.Reply given.change.reply) (Some place)
         (subst (λ (v : Option (Given Outcome)). GivesBy new.core (way_by (Some (step.Stable place true))) sent v (verdict.Reply given.change.reply))
@@ -275,16 +273,15 @@ module _ (sent : Sent) (before shown : Option (Given Outcome)) (old new : Side) 
           broken_is = stands.broken_is;
         })) told_it
 
-  waits_with : (voucher : Option (Given Outcome)) → before ≡ voucher → (place : Seq) (made : Step) → Waits place old made new
+  waits_with : (voucher : Option (Given Outcome)) → before ≡ voucher → (place : Seq) (made : Step) (has : Waits place old made new)
       → old.worker.phase ≡ Waiting place → IsSomeAnd voucher (WaitsWith place old.worker sent)
-      → Vouches (Some made) new.worker shown → Leaves sent after new.core (Some made) new.worker
+      → Vouches (Some (step.Stable place has.settled)) new.worker shown
+      → Leaves sent keeping new.core (Some (step.Stable place has.settled)) new.worker
   waits_with None before_is place made has phase_is stands vouches = absurd stands
   waits_with (Some given) before_is place made has phase_is stands vouches =
-      let seen = subst (λ (m : Step). Vouches (Some m) new.worker shown) has.made_is vouches in
-      let shown_is = none_shown shown seen.entry in
-      let after_is : after ≡ Some given = ap (λ (s : Option (Given Outcome)). kept before s) shown_is ∙ before_is in
-      subst (λ (m : Step). Leaves sent after new.core (Some m) new.worker) (sym has.made_is)
-      (waits_by given place after_is stands has.core phase_is has.settled old.core.log.broken has.told has.settled_is)
+      let shown_is = none_shown shown vouches.entry in
+      let after_is : keeping ≡ Some given = ap (λ (s : Option (Given Outcome)). kept before s) shown_is ∙ before_is in
+      waits_by given place after_is stands has.core phase_is has.settled old.core.log.broken has.told has.settled_is
 
   own_job : (state : State) (mine : own.Job) → state.work.job ≡ Some mine → HasCall state sent → IsOf sent mine
   own_job state mine is call = at_some (IsOf sent) state.work.job mine is call
@@ -305,23 +302,19 @@ module _ (sent : Sent) (before shown : Option (Given Outcome)) (old new : Side) 
         let of = own_job old.worker mine mine_is stands in
         answers _ old.worker (verdict.Reply Null) None
         (sym (ap begins_transaction of.call) ∙ served, refl) worker;
-    wanted = λ tx addr mode made tx_is next has phase_is stands vouches. wants tx addr mode made has stands;
-    claimed = λ tx block made tx_is next has phase_is stands vouches. claims tx block made has stands;
+    wanted = λ tx addr mode made tx_is next has phase_is stands vouches. wants tx addr mode made _ has stands;
+    claimed = λ tx block made tx_is next has phase_is stands vouches. claims tx block made _ has stands;
     committed = λ mine tx done made tx_is next left mine_is has phase_is stands vouches.
         let of = own_job old.worker mine mine_is stands in
-        let seen = subst (λ (m : Step). Vouches (Some m) new.worker shown) has.made_is vouches in
-        subst (λ (m : Step). Leaves sent after new.core (Some m) new.worker) (sym has.made_is)
-        (so _ _ has.worker (commits_by mine of done stands _ has.answer has.worker seen));
+        so _ _ has.worker (commits_by mine of done stands _ has.answer has.worker vouches);
     lacked = λ tx made tx_is left has phase_is stands vouches.
-        subst (λ (m : Step). Leaves sent after new.core (Some m) new.worker) (sym has.made_is)
-        (answers _ (record (with_snap new.worker old.worker) { begun = none_begun }) verdict.NoMemory None (inl refl) has.worker);
-    given = λ ok io made io_is has phase_is stands vouches. gives_back ok io made has stands;
+        answers _ (record (with_snap new.worker old.worker) { begun = none_begun }) verdict.NoMemory None (inl refl) has.worker;
+    given = λ ok io made io_is has phase_is stands vouches. gives_back ok io made _ has stands;
     refused = λ why mine tx made mine_is tx_is has phase_is stands vouches.
         let of = own_job old.worker mine mine_is stands in
-        subst (λ (m : Step). Leaves sent after new.core (Some m) new.worker) (sym has.made_is)
-        (answers _ (record old.worker { begun = none_begun }) (refusal mine.call why) None
+        answers _ (record old.worker { begun = none_begun }) (refusal mine.call why) None
         (subst (λ (c : Call). IsInItsPlace sent.job.call (body_of (refusal c why))) (sym of.call)
-        (in_its_place sent.job.call why)) has.worker);
+        (in_its_place sent.job.call why)) has.worker;
     left = λ tx made tx_is has phase_is stands vouches. so _ _ has.worker (stays _ _ none stands);
     waited = λ place made has phase_is stands vouches. waits_with before refl place made has phase_is stands vouches;
   }
@@ -332,23 +325,23 @@ pub record LeavesWith (ticket : Option Sent) (voucher : Option (Given Outcome)) 
   pub stands : StandsAfter ticket voucher state.work.answer state
   pub gives : given_to core made ticket voucher state.work.answer
 
-without : (before after : Option (Given Outcome)) (old new : Side) (phase : Phase) (made : Option Step)
+without : (before later : Option (Given Outcome)) (old new : Side) (phase : Phase) (made : Option Step)
     → old.worker.phase ≡ phase → old.worker.work.answer ≡ None → StandsWith None before phase old.worker
-    → GoesOn phase old made new → LeavesWith None after new.core made new.worker
-without before after old new Idle made phase_is none stands goes =
+    → GoesOn phase old made new → LeavesWith None later new.core made new.worker
+without before later old new Idle made phase_is none stands goes =
     let is = ap (λ (s : Side). s.worker) goes.1 in
-    subst (λ (s : State). LeavesWith None after new.core made s) (sym is) (record {
-      stands = subst (λ (a : Option CallAnswer). StandsAfter None after a old.worker) (sym none)
-          (subst (λ (p : Phase). StandsWith None after p (told old.worker)) (sym phase_is) tt);
-      gives = subst (λ (a : Option CallAnswer). given_to new.core made None after a) (sym none) tt;
+    subst (λ (s : State). LeavesWith None later new.core made s) (sym is) (record {
+      stands = subst (λ (a : Option CallAnswer). StandsAfter None later a old.worker) (sym none)
+          (subst (λ (p : Phase). StandsWith None later p (told old.worker)) (sym phase_is) tt);
+      gives = subst (λ (a : Option CallAnswer). given_to new.core made None later a) (sym none) tt;
     })
-without before after old new Called made phase_is none stands goes = absurd stands
-without before after old new Planning made phase_is none stands goes = absurd stands
-without before after old new Reading made phase_is none stands goes = absurd stands
-without before after old new (Read ok) made phase_is none stands goes = absurd stands
-without before after old new (Refused why) made phase_is none stands goes = absurd stands
-without before after old new Again made phase_is none stands goes = absurd stands
-without before after old new (Waiting place) made phase_is none stands goes = absurd stands
+without before later old new Called made phase_is none stands goes = absurd stands
+without before later old new Planning made phase_is none stands goes = absurd stands
+without before later old new Reading made phase_is none stands goes = absurd stands
+without before later old new (Read ok) made phase_is none stands goes = absurd stands
+without before later old new (Refused why) made phase_is none stands goes = absurd stands
+without before later old new Again made phase_is none stands goes = absurd stands
+without before later old new (Waiting place) made phase_is none stands goes = absurd stands
 
 pub stays_seated : (ticket : Option Sent) (before shown : Option (Given Outcome)) (old new : Side) (made : Option Step)
     → old.worker.work.answer ≡ None → StandsWith ticket before old.worker.phase old.worker

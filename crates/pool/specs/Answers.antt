@@ -1,5 +1,5 @@
 -- What a step gives, and what it leaves of a job at its seat.
-use Rattle.std.specs.Prelude.{◌≡◌, ◌≤◌, ℕ, true, false, Option, Some, None, IsSomeAnd}
+use Rattle.std.specs.Prelude.{◌≡◌, ◌≤◌, true, false, Option, Some, None, IsSomeAnd}
 use Rattle.model.specs.Calls.{begins_transaction, is_answered_stable}
 use Rattle.nfs_types.specs.declared.reply.Reply.TheVariants.{Null}
 use Rattle.procs.specs.Outcome.{Outcome}
