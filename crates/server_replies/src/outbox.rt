@@ -142,6 +142,14 @@ impl Outbox {
         self.ended || self.shut || (!self.replies.is_writing() && self.replies.waiting() != 0)
     }
 
+    /// Whether the connection's own writer has to wait.
+    pub fn keeps_writer_waiting(&self) -> bool
+        ensures goes { result ≡ false → IsForWriter self.now }
+        ensures waits { result ≡ true → IsForWriter self.now → ⊥ }
+    {
+        !self.is_for_writer()
+    }
+
     /// Makes the connection's own writer the thread that writes, and hands it all that waits. None where it has
     /// nothing more to wait for.
     pub fn begin(&mut self, used: Backlog) -> Option<Backlog>

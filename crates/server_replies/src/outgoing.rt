@@ -109,16 +109,20 @@ impl Outgoing {
     /// Writes what other threads put, until no call comes any more and nothing waits, or a write fails.
     pub fn write_all<R: Wait + Clock, W: Write>(&self, rt: &R, out: &mut W, alloc: Global) {
         for _ in rt.forever() {
-            let mut outbox = self
-                .to_write
-                .wait_while(rt, self.outbox.lock(rt), |o| !o.is_for_writer());
-            let Some(taken) = outbox.begin(Backlog::new(alloc, 0, 0)) else {
+            let Some(taken) = self.take_for_writer(rt, alloc) else {
                 return;
             };
-            drop(outbox);
             let is_done = out.write_all(taken.as_slice()).is_ok();
             self.write_rest(rt, out, is_done, alloc);
         }
+    }
+
+    // Waits until the connection's own writer has something to write, and takes it. None where nothing more will come.
+    fn take_for_writer<R: Wait>(&self, rt: &R, alloc: Global) -> Option<Backlog> {
+        let mut outbox = self
+            .to_write
+            .wait_while(rt, self.outbox.lock(rt), |o| o.keeps_writer_waiting());
+        outbox.begin(Backlog::new(alloc, 0, 0))
     }
 
     /// Waits until no more than so many bytes wait. False where no more can be written.
