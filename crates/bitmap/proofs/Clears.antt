@@ -1,5 +1,5 @@
 -- A clear bit of a piece is one of its bitmap, and the number of an inode that is clear is that of no file.
-use Rattle.std.proofs.Common.{◌≡◌, ℕ, ◌+◌, ◌-◌, ◌*◌, ◌/◌, ◌%◌, ◌^◌, ◌<◌, inl, inr, sym, ap, ◌∙◌, refl}
+use Rattle.std.proofs.Common.{◌≡◌, ℕ, ◌+◌, ◌-◌, ◌*◌, ◌/◌, ◌%◌, ◌^◌, ◌<◌, ◌≤◌, inl, inr, sym, ap, ◌∙◌, refl}
 use Rattle.std.proofs.Common.{arith, Bool, true, false, ◌||◌, ◌&&◌, nat_eq, nat_le, drop}
 use Rattle.std.proofs.Common.{get_or, Option, Some, None, Result, Ok, Err}
 use Rattle.std.proofs.lemmas.Bool.{cases_lt, eq-eqb, leb-false, lt-ltb, ne_eqb}
@@ -19,7 +19,7 @@ use Rattle.layout.specs.Geometry.{bitmap_blocks, inode_bitmap_at}
 use Rattle.layout.specs.Holds.{Holds}
 use Rattle.layout.specs.Owners.{is_marked_inode, is_used}
 use Rattle.layout.specs.Parts.{Parts, bit_at, parts_of}
-use Rattle.bitmap.specs.Bits.{IsClearIn, IsClearOf}
+use Rattle.bitmap.specs.Bits.{IsClearBetween, IsClearIn, IsClearOf}
 use Rattle.layout_records.specs.Bits.{bit_in}
 use Rattle.layout_records.specs.Bits.{piece_in}
 
@@ -37,12 +37,12 @@ in_piece blocks first piece bit less =
     ∙ (λ i. nat_eq (get_or (blocks (first + block i)) (byte i) 0 / 2 ^ rest i % 2) 1)
 
 -- all bits are set up to a piece, and in it
-pub more_set : (blocks : Image) (first piece : ℕ)
-    → ((bit : ℕ) → bit < PIECE_BITS * piece → bit_at blocks first bit ≡ true)
+pub more_set : (blocks : Image) (first from piece : ℕ)
+    → ((bit : ℕ) → PIECE_BITS * from ≤ bit → bit < PIECE_BITS * piece → bit_at blocks first bit ≡ true)
     → IsClearIn (piece_in blocks first piece) None
-    → (bit : ℕ) → bit < PIECE_BITS * (piece + 1) → bit_at blocks first bit ≡ true
-more_set blocks first piece before none bit less = elim (cases_lt bit (PIECE_BITS * piece)) [
-  | inl low ↦ before bit low
+    → (bit : ℕ) → PIECE_BITS * from ≤ bit → bit < PIECE_BITS * (piece + 1) → bit_at blocks first bit ≡ true
+more_set blocks first from piece before none bit high less = elim (cases_lt bit (PIECE_BITS * piece)) [
+  | inl low ↦ before bit high low
   | inr past ↦
       let split : PIECE_BITS * piece + (bit - PIECE_BITS * piece) ≡ bit = omega (arith, past) in
       ap (bit_at blocks first) (sym split)
@@ -50,13 +50,29 @@ more_set blocks first piece before none bit less = elim (cases_lt bit (PIECE_BIT
       ∙ none (bit - PIECE_BITS * piece) (omega (arith, less, past))
 ]
 
-pub found_clear : (blocks : Image) (first count piece bit : ℕ) → piece < 8 * count
+pub found_clear : (blocks : Image) (first from end piece bit : ℕ) → from ≤ piece → piece < end
     → IsClearIn (piece_in blocks first piece) (Some bit)
-    → IsClearOf blocks first count (Some (PIECE_BITS * piece + bit))
-found_clear blocks first count piece bit less clear = (
-  let low = clear.0 in omega (arith, low, less),
+    → IsClearBetween blocks first from end (Some (PIECE_BITS * piece + bit))
+found_clear blocks first from end piece bit low less clear = (
+  omega (arith, low),
+  let few = clear.0 in omega (arith, few, less),
   sym (in_piece blocks first piece bit clear.0) ∙ clear.1,
 )
+
+-- a clear bit of some pieces is one of the bitmap
+pub one_of : (blocks : Image) (first count from end bit : ℕ) → end ≤ PIECES_PER_BLOCK * count
+    → IsClearBetween blocks first from end (Some bit) → IsClearOf blocks first count (Some bit)
+one_of blocks first count from end bit fits clear = (let less = clear.1 in omega (arith, less, fits), clear.2)
+
+-- where none is clear from a piece on, what is found before it is found in all
+pub in_two : (blocks : Image) (first count start : ℕ) → start ≤ PIECES_PER_BLOCK * count
+    → IsClearBetween blocks first start (PIECES_PER_BLOCK * count) None → (found : Option ℕ)
+    → IsClearBetween blocks first 0 start found → IsClearOf blocks first count found
+in_two blocks first count start fits behind (Some bit) before = one_of blocks first count 0 start bit fits before
+in_two blocks first count start fits behind None before = λ bit less. elim (cases_lt bit (PIECE_BITS * start)) [
+  | inl low ↦ before bit (omega arith) low
+  | inr past ↦ behind bit past (omega (arith, less))
+]
 
 -- ---- numbers
 

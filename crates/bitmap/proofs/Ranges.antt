@@ -1,5 +1,5 @@
 -- Sums over a range of numbers.
-use Rattle.std.proofs.Common.{◌≡◌, ℕ, zero, suc, ◌+◌, ◌<◌, ◌≤◌, inl, inr, sym, ap, ◌∙◌, refl, Bool, true, false}
+use Rattle.std.proofs.Common.{◌≡◌, ℕ, zero, suc, ◌+◌, ◌-◌, ◌<◌, ◌≤◌, inl, inr, sym, ap, ◌∙◌, refl, Bool, true, false}
 use Rattle.std.proofs.Common.{cond, List, [], ◌∷◌, length, nat_eq, nat_lt, sum_by, count_by, arith}
 use Rattle.std.specs.List.{AllByRecursion, range_with_len}
 use Rattle.std.proofs.lemmas.Bool.{cases_eq, eq-eqb, lt-ltb, ltb-false, ltb-true, ne_eqb}
@@ -44,6 +44,48 @@ one_more f a (suc k) =
       sum_by-cons f a (range_with_len (a + 1) (suc k)),
       sum_by-cons f a (range_with_len (a + 1) k),
     )
+
+-- a sum over a range in two parts, and over its first numbers
+abbrev pub sum_from : (ℕ → ℕ) → ℕ → ℕ → ℕ
+sum_from f a k = sum_by f (range_with_len a k)
+
+pub parted : (f : ℕ → ℕ) (a k m : ℕ) → sum_from f a (k + m) ≡ sum_from f a k + sum_from f (a + k) m
+parted f a zero m =
+    let none : sum_from f a 0 ≡ 0 = refl in
+    let count : 0 + m ≡ m = omega arith in
+    let from : a ≡ a + 0 = omega arith in
+    let all : sum_from f a (0 + m) ≡ sum_from f a m = ap (sum_from f a) count in
+    let last : sum_from f a m ≡ sum_from f (a + 0) m = ap (λ n. sum_from f n m) from in
+    omega (arith, none, all, last)
+parted f a (suc k) m =
+    let rest = parted f (a + 1) k m in
+    let count : suc k + m ≡ suc (k + m) = omega arith in
+    let from : a + 1 + k ≡ a + suc k = omega arith in
+    let all : sum_from f a (suc k + m) ≡ sum_from f a (suc (k + m)) = ap (sum_from f a) count in
+    let one : sum_from f a (suc (k + m)) ≡ f a + sum_from f (a + 1) (k + m) =
+    sum_by-cons f a (range_with_len (a + 1) (k + m)) in
+    let first : sum_from f a (suc k) ≡ f a + sum_from f (a + 1) k = sum_by-cons f a (range_with_len (a + 1) k) in
+    let last : sum_from f (a + 1 + k) m ≡ sum_from f (a + suc k) m = ap (λ n. sum_from f n m) from in
+    omega (arith, rest, all, one, first, last)
+
+pub beginning : (f : ℕ → ℕ) (a k n : ℕ) → k ≤ n → sum_from f a k ≤ sum_from f a n
+beginning f a k n less =
+    let both = parted f a k (n - k) in
+    let count : k + (n - k) ≡ n = omega (arith, less) in
+    let all : sum_from f a (k + (n - k)) ≡ sum_from f a n = ap (sum_from f a) count in
+    omega (arith, both, all)
+
+-- what is before a number, and what is from it on
+pub in_two : (f : ℕ → ℕ) (start all : ℕ) → start ≤ all
+    → sum_from f 0 all ≡ sum_from f 0 start + sum_from f start (all - start)
+in_two f start all less =
+    let both = parted f 0 start (all - start) in
+    let count : start + (all - start) ≡ all = omega (arith, less) in
+    let place : 0 + start ≡ start = omega arith in
+    let whole : sum_from f 0 (start + (all - start)) ≡ sum_from f 0 all = ap (sum_from f 0) count in
+    let from : sum_from f (0 + start) (all - start) ≡ sum_from f start (all - start) =
+    ap (λ n. sum_from f n (all - start)) place in
+    omega (arith, both, whole, from)
 
 pub nothing : (xs : List ℕ) → sum_by (λ n. 0) xs ≡ 0
 nothing [] = refl

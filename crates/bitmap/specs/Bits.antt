@@ -1,5 +1,5 @@
 -- The bits of bytes, of bitmaps, and what has them.
-use Rattle.std.specs.Prelude.{◌≡◌, ℕ, ◌+◌, ◌*◌, ◌/◌, ◌<◌, Bool, true, false, cond, Option, Some, None}
+use Rattle.std.specs.Prelude.{◌≡◌, ℕ, ◌+◌, ◌*◌, ◌/◌, ◌<◌, ◌≤◌, Bool, true, false, cond, Option, Some, None}
 use Rattle.std.specs.Prelude.{List, nat_eq}
 use Rattle.limits.specs.declared.TheConstants.{BITS_PER_BLOCK}
 use Rattle.disk.specs.Crash.{Image}
@@ -13,6 +13,13 @@ use Rattle.layout_records.specs.Bits.{bit_in}
 abbrev pub IsClearIn : List ℕ → Option ℕ → Type 0
 IsClearIn bytes (Some bit) = (bit < PIECE_BITS) × (bit_in bytes bit ≡ false)
 IsClearIn bytes None = (bit : ℕ) → bit < PIECE_BITS → bit_in bytes bit ≡ true
+
+-- a bit of the pieces of a bitmap from one up to another that is clear, or none is
+abbrev pub IsClearBetween : Image → ℕ → ℕ → ℕ → Option ℕ → Type 0
+IsClearBetween blocks first from end (Some bit) =
+    (PIECE_BITS * from ≤ bit) × (bit < PIECE_BITS * end) × (bit_at blocks first bit ≡ false)
+IsClearBetween blocks first from end None =
+    (bit : ℕ) → PIECE_BITS * from ≤ bit → bit < PIECE_BITS * end → bit_at blocks first bit ≡ true
 
 -- a bit of a bitmap that is clear, or none is
 abbrev pub IsClearOf : Image → ℕ → ℕ → Option ℕ → Type 0

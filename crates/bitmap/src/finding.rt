@@ -12,10 +12,11 @@ ghost use Rattle.inode.specs.Snap.{IsNew};
 ghost use Rattle.layout.specs.Places.{is_data};
 ghost use Rattle.layout.specs.declared.grid.TheConstants.{PIECE_BITS, PIECE_BYTES, PIECES_PER_BLOCK};
 ghost use Rattle.layout_records.specs.Bits.{piece_in};
-ghost use Rattle.bitmap.specs.Bits.{IsClearIn, IsClearOf};
+ghost use Rattle.bitmap.specs.Bits.{IsClearBetween, IsClearIn, IsClearOf};
 ghost use Rattle.bitmap.specs.NewBlock.{HasTaken, IsNewBlock};
 ghost use Rattle.bitmap.specs.Pieces.{IsAskedObject};
 
+use crate::pieces::start_in;
 use inode::{Snap, Stop, bytes_at};
 use layout::{PIECE_BITS, PIECE_BYTES, PIECES_PER_BLOCK};
 use layout_records::piece_addr;
@@ -54,9 +55,32 @@ fn clear_in_piece(snap: &Snap, first: u32, piece: u32) -> Result<Option<u32>, St
     }
 }
 
-// A clear bit of the bitmap of so many blocks that begins with this one, if it has one.
-fn clear_among(snap: &Snap, first: u32, count: u32) -> Result<Option<u32>, Stop>
-    requires from { FIRST_HOME_BLOCK ≤ first }
+// A clear bit of the pieces from one up to another, if they have one.
+fn clear_between(snap: &Snap, first: u32, from: u32, end: u32) -> Result<Option<u32>, Stop>
+    requires low { FIRST_HOME_BLOCK ≤ first }
+    requires to { PIECES_PER_BLOCK * first + end
+        ≤ PIECES_PER_BLOCK * table_at snap.now.geometry.blocks snap.now.geometry.inodes }
+    ensures ok { IfOk result (λ found. (blocks : Image) → Saw blocks snap.now
+        → IsClearBetween blocks first from end found) }
+    ensures err { IfErr result (λ stop. IsNew snap.now stop) }
+    ensures asks { IfErr result (λ stop. IsAskedObject snap.now.geometry stop) }
+    ensures io { IfErr result (λ stop. NoneStand snap.now stop) }
+    ensures pause { IfErr result (λ stop. IsPause stop) }
+{
+    'pieces: for piece in from..end {
+        match clear_in_piece(snap, first, piece) {
+            Ok(Some(bit)) => return Ok(Some(PIECE_BITS * piece + bit)),
+            Ok(None) => {}
+            Err(stop) => return Err(stop),
+        }
+    }
+    Ok(None)
+}
+
+// A clear bit of the bitmap of so many blocks that begins with this one, if it has one. Its pieces are gone through
+// from one of them on, and then from the first.
+fn clear_among(snap: &Snap, first: u32, count: u32, from: u32) -> Result<Option<u32>, Stop>
+    requires low { FIRST_HOME_BLOCK ≤ first }
     requires to { first + count ≤ table_at snap.now.geometry.blocks snap.now.geometry.inodes }
     ensures ok { IfOk result (λ found. (blocks : Image) → Saw blocks snap.now
         → IsClearOf blocks first count found) }
@@ -65,14 +89,13 @@ fn clear_among(snap: &Snap, first: u32, count: u32) -> Result<Option<u32>, Stop>
     ensures io { IfErr result (λ stop. NoneStand snap.now stop) }
     ensures pause { IfErr result (λ stop. IsPause stop) }
 {
-    'pieces: for piece in 0..PIECES_PER_BLOCK * count {
-        match clear_in_piece(snap, first, piece) {
-            Ok(Some(bit)) => return Ok(Some(PIECE_BITS * piece + bit)),
-            Ok(None) => {}
-            Err(stop) => return Err(stop),
-        }
+    let pieces = PIECES_PER_BLOCK * count;
+    let start = start_in(from, pieces);
+    match clear_between(snap, first, start, pieces) {
+        Ok(Some(bit)) => Ok(Some(bit)),
+        Ok(None) => clear_between(snap, first, 0, start),
+        Err(stop) => Err(stop),
     }
-    Ok(None)
 }
 
 /// A number that a file may have and none has.
@@ -85,10 +108,11 @@ pub fn new_number(snap: &Snap) -> Result<Option<u32>, Stop>
 {
     let first = snap.geometry.inode_bitmap();
     let end = snap.geometry.inode_table();
-    clear_among(snap, first.0, end.0 - first.0)
+    clear_among(snap, first.0, end.0 - first.0, 0)
 }
 
-/// A data block that is free, and was not taken for a file that doesn't have it yet.
+/// A data block that is free, and was not taken for a file that doesn't have it yet. The bitmap is gone through from
+/// where the snapshot says.
 pub fn new_block(snap: &Snap) -> Result<Option<u32>, Stop>
     ensures ok { IfOk result (λ found. (image base : Image) (tree : Tree) (taken : List ℕ) → Saw image snap.now
         → HasTaken snap.now.geometry base tree taken image
@@ -99,7 +123,8 @@ pub fn new_block(snap: &Snap) -> Result<Option<u32>, Stop>
         → Saw image snap.now → HasTaken snap.now.geometry base tree taken image → IsPause stop) }
 {
     let first = snap.geometry.inode_bitmap();
-    match clear_among(snap, FIRST_HOME_BLOCK, first.0 - FIRST_HOME_BLOCK) {
+    let count = first.0 - FIRST_HOME_BLOCK;
+    match clear_among(snap, FIRST_HOME_BLOCK, count, snap.from) {
         Ok(Some(number)) => {
             if snap.geometry.is_data(number) {
                 Ok(Some(number))

@@ -18,6 +18,14 @@ use layout::PIECES_PER_BLOCK;
 use layout_records::{clear_in, piece_addr};
 use limits::FIRST_HOME_BLOCK;
 
+/// The piece from which a bitmap of so many is gone through: this one, if there is one, or else the first.
+pub(crate) fn start_in(from: u32, pieces: u32) -> u32
+    ensures within { result ≤ pieces }
+    ensures same { from < pieces → result ≡ from }
+{
+    if from < pieces { from } else { 0 }
+}
+
 // How many bits are clear in a piece.
 pub(crate) fn clear_at(snap: &Snap, first: u32, piece: u32) -> Result<u32, Stop>
     requires from { FIRST_HOME_BLOCK ≤ first }

@@ -1,27 +1,49 @@
 //! What is asked of the files on the blocks of an image.
 ghost use Rattle.std.specs.Prelude.{◌≡◌};
+ghost use Rattle.name_search.specs.Known.{AreKnown};
 
 use crate::contents::{bytes_from, entry_under, name_from, target_in};
 use crate::heads::file;
 use crate::space::{blocks_left, is_room_for, numbers_left};
 use files::{Entry, Files, Head, SlotName};
 use inode::{Snap, Stop, held};
+use name_search::Names;
 use nfs_types::Octets;
 use std::alloc::Global;
 
-/// The files on the blocks that were read so far.
+/// The files on the blocks that were read so far, and what is known of names in their directories.
 #[derive(Drop)]
 pub struct BlockFiles<'a> {
     pub(crate) snap: &'a Snap,
+    pub(crate) names: Option<&'a Names>,
     pub(crate) alloc: Global,
+    pub ghost known: { AreKnown snap.now names },
 }
 
 impl<'a> BlockFiles<'a> {
+    ghost use Rattle.name_search.specs.Known.{IsKnown};
+
     /// The files on the blocks that were read so far.
     pub fn new(alloc: Global, snap: &'a Snap) -> BlockFiles<'a>
         ensures { result.snap.now ≡ snap.now }
     {
-        BlockFiles { snap, alloc }
+        BlockFiles {
+            snap,
+            names: None,
+            alloc,
+        }
+    }
+
+    /// The same, where these names were looked for as far as their blocks were read.
+    pub fn searched(alloc: Global, snap: &'a Snap, names: &'a Names) -> BlockFiles<'a>
+        requires { IsKnown snap.now names.now }
+        ensures { result.snap.now ≡ snap.now }
+    {
+        BlockFiles {
+            snap,
+            names: Some(names),
+            alloc,
+        }
     }
 }
 
@@ -66,7 +88,7 @@ impl<'a> Files for BlockFiles<'a> {
 
     fn entry(&self, directory: &Head, name: &[u8]) -> Result<Option<Entry>, Stop> {
         match held(self.snap, directory.number)? {
-            Some(inode) => entry_under(self.snap, &inode, name),
+            Some(inode) => entry_under(self.snap, self.names, directory.number, &inode, name),
             None => Ok(None),
         }
     }

@@ -1,9 +1,12 @@
 //! What is in the file of an inode.
 ghost use Rattle.std.specs.Prelude.{◌≡◌, ◌≤◌, Ok, ℕ, min, not, IfErr, IfOk, IfSome};
+ghost use Rattle.std.specs.FinMap.{get};
 ghost use Rattle.std.specs.Option.{option_map};
 ghost use Rattle.limits.specs.declared.TheConstants.{TRANSFER_BYTES};
 ghost use Rattle.disk.specs.Crash.{Image};
 ghost use Rattle.layout.specs.declared.inode.InodeKind.TheVariants as kinds;
+ghost use Rattle.layout.specs.Decode.{entries_in};
+ghost use Rattle.layout.specs.Parts.{content_in};
 ghost use Rattle.model.specs.Tree.{Tree};
 ghost use Rattle.procedures.specs.Places.{entry_at, least_free_slot};
 ghost use Rattle.procedures.specs.Read.{bytes_of, piece};
@@ -12,26 +15,59 @@ ghost use Rattle.procedures.specs.RmDir.{has_names};
 ghost use Rattle.files.specs.Heads.{IsNextName, entry_of};
 ghost use Rattle.inode.specs.Over.{HasInode, IsPause, MayStop};
 ghost use Rattle.inode.specs.Shown.{body_in};
+ghost use Rattle.dir.specs.Slots.{IsDirectoryOf};
+ghost use Rattle.name_search.specs.Known.{AreKnown};
 
 use dir::{find, free_slot, is_empty, next_name};
 use files::{Entry, SlotName};
 use inode::{Snap, Stop, piece, target};
 use layout::{Inode, InodeKind};
 use limits::TRANSFER_BYTES;
+use name_search::Names;
 use nfs_types::Octets;
 use std::alloc::Global;
 
-/// What a name leads to: to nothing, but in a directory.
-pub(crate) fn entry_under(snap: &Snap, inode: &Inode, name: &[u8]) -> Result<Option<Entry>, Stop>
-    ensures ok { IfOk result (λ found. (blocks : Image) (tree : Tree) (file : ℕ)
-        → HasInode snap.now blocks tree file inode.now
+// What a name leads to in the directory of a number: by what is known of these names, if there are any.
+fn found_in(
+    snap: &Snap,
+    names: Option<&Names>,
+    number: u32,
+    inode: &Inode,
+    name: &[u8],
+) -> Result<Option<Entry>, Stop>
+    requires { AreKnown snap.now names }
+    ensures ok { IfOk result (λ found. (blocks : Image) (tree : Tree)
+        → IsDirectoryOf snap.now blocks tree number inode.now
+        → option_map entry_of found
+        ≡ get (entries_in snap.now.geometry.inodes (content_in snap.now.geometry blocks) inode.now) name.now) }
+    ensures err { IfErr result (λ stop. MayStop snap.now stop) }
+    ensures pause { IfErr result (λ stop. (blocks : Image) (tree : Tree) (file : ℕ)
+        → IsDirectoryOf snap.now blocks tree file inode.now → IsPause stop) }
+{
+    match names {
+        Some(names) => names.entry(snap, number, inode, name),
+        None => find(snap, inode, name),
+    }
+}
+
+/// What a name leads to in the file of a number: to nothing, but in a directory.
+pub(crate) fn entry_under(
+    snap: &Snap,
+    names: Option<&Names>,
+    number: u32,
+    inode: &Inode,
+    name: &[u8],
+) -> Result<Option<Entry>, Stop>
+    requires { AreKnown snap.now names }
+    ensures ok { IfOk result (λ found. (blocks : Image) (tree : Tree)
+        → HasInode snap.now blocks tree number inode.now
         → option_map entry_of found ≡ entry_at (body_in snap.now.geometry blocks inode.now) name.now) }
     ensures err { IfErr result (λ stop. MayStop snap.now stop) }
     ensures pause { IfErr result (λ stop. (blocks : Image) (tree : Tree) (file : ℕ)
         → HasInode snap.now blocks tree file inode.now → IsPause stop) }
 {
     match inode.kind {
-        InodeKind::Directory => find(snap, inode, name),
+        InodeKind::Directory => found_in(snap, names, number, inode, name),
         InodeKind::Regular => Ok(None),
         InodeKind::Link => Ok(None),
     }

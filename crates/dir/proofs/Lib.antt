@@ -8,3 +8,4 @@ pub mod Passed
 pub mod Filled
 pub mod VacantIn
 pub mod UsedByDirectory
+pub mod Grown

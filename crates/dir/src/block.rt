@@ -1,6 +1,8 @@
 //! The slots of one block of a directory.
-ghost use Rattle.std.specs.Prelude.{◌≡◌, ◌+◌, ◌*◌, ◌≤◌, length, IfOk, IfErr};
+ghost use Rattle.std.specs.Prelude.{◌≡◌, ◌+◌, ◌*◌, ◌^◌, ◌<◌, ◌≤◌, ℕ, false, length, IfOk, IfErr, Ok, Some};
 ghost use Rattle.limits.specs.declared.TheConstants.{BLOCK_BYTES, MOST_SPAN, SLOTS_PER_BLOCK};
+ghost use Rattle.layout.specs.declared.slot.TheConstants.{SLOT_BYTES};
+ghost use Rattle.layout.specs.SlotForm.{number_under, read_slot};
 ghost use Rattle.dir.specs.Slots.{HasFault, IsFound, IsNext, block_slot};
 
 use files::{Entry, SlotName};
@@ -8,32 +10,45 @@ use layout::{LayoutFault, Slot};
 use limits::SLOTS_PER_BLOCK;
 use std::alloc::{AllocError, Global};
 
-/// A slot of a block that has a name, where the block's slots are numbered from one on. It is refused only
-/// where a slot that may have the name is.
+/// Compares a name with what may be one in a slot, and counts that it did. Where they differ the slot has no number
+/// under the name. Nothing else compares names.
+pub fn compare(slot: &[u8], name: &[u8], compared: &mut u64) -> bool
+    requires len { length slot.now ≡ SLOT_BYTES }
+    requires room { compared.old + 1 < 2 ^ 64 }
+    ensures differ { result ≡ false → (inodes number : ℕ)
+        → number_under name.now (read_slot inodes slot.now) ≡ Ok (Some number) → ⊥ }
+    ensures one { compared.new ≡ compared.old + 1 }
+{
+    *compared += 1;
+    Slot::may_have(slot, name)
+}
+
+/// A slot of a block that has a name, where the block's slots are numbered from one on. One that the layout refuses
+/// has none.
 pub(crate) fn find_in_block(
     inodes: u32,
     block: &[u8],
     first: u32,
     name: &[u8],
-) -> Result<Option<Entry>, LayoutFault>
+    compared: &mut u64,
+) -> Option<Entry>
     requires len { length block.now ≡ BLOCK_BYTES }
     requires small { first + SLOTS_PER_BLOCK ≤ SLOTS_PER_BLOCK * MOST_SPAN }
-    ensures ok { IfOk result
-        (λ found. IsFound (block_slot inodes first block.now) name.now first (first + SLOTS_PER_BLOCK) found) }
-    ensures err { IfErr result (λ fault. HasFault (block_slot inodes first block.now) first
-        (first + SLOTS_PER_BLOCK)) }
+    requires room { compared.old + SLOTS_PER_BLOCK < 2 ^ 64 }
+    ensures found { IsFound (block_slot inodes first block.now) name.now first (first + SLOTS_PER_BLOCK) result }
+    ensures count { compared.new ≤ compared.old + SLOTS_PER_BLOCK }
 {
     'slots: for slot in first..first + SLOTS_PER_BLOCK {
         let bytes = Slot::bytes_in(block, slot - first);
-        if Slot::may_have(bytes, name) {
+        if compare(bytes, name, compared) {
             match Slot::number_under(inodes, bytes, name) {
+                Ok(Some(number)) => return Some(Entry { number, slot }),
                 Ok(None) => {}
-                Ok(Some(number)) => return Ok(Some(Entry { number, slot })),
-                Err(fault) => return Err(fault),
+                Err(_) => {}
             }
         }
     }
-    Ok(None)
+    None
 }
 
 /// The first slot of a block, from one on, in which a name lies.

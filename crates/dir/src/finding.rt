@@ -30,15 +30,9 @@ fn find_at(snap: &Snap, inode: &Inode, index: usize, name: &[u8]) -> Result<Opti
         → IsDirectoryOf snap.now blocks tree file inode.now → index < span_of inode.now → IsPause stop) }
 {
     let block = directory_block(snap, inode, index)?;
-    match find_in_block(
-        snap.geometry.inodes,
-        block,
-        SLOTS_PER_BLOCK * index as u32,
-        name,
-    ) {
-        Ok(found) => Ok(found),
-        Err(_) => Err(Stop::Io),
-    }
+    let mut compared = 0;
+    let first = SLOTS_PER_BLOCK * index as u32;
+    Ok(find_in_block(snap.geometry.inodes, block, first, name, &mut compared))
 }
 
 // How many of a directory's first blocks were read, as it seems: the last of them was, and the one behind them

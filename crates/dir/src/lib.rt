@@ -5,11 +5,14 @@ mod block;
 mod empty;
 mod finding;
 mod next;
+mod sought;
 mod span;
 mod vacant;
 
+pub use block::compare;
 pub use empty::is_empty;
 pub use finding::find;
 pub use next::next_name;
+pub use sought::{Sought, find_known, go_on};
 pub use span::used_of_directory;
 pub use vacant::free_slot;

@@ -58,6 +58,7 @@ impl<'a> Draft<'a> {
             geometry: seen.geometry,
             objects: on_grid(&seen.geometry, &seen.objects)?,
             claims: seen.claims.clone()?,
+            from: seen.from,
         };
         Ok(Draft {
             seen,

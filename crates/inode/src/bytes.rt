@@ -64,8 +64,8 @@ fn piece_len(at: u64, end: u64) -> usize
     }
 }
 
-// Asks for the block at an index of a file, if it has one.
-fn ask_block(snap: &Snap, inode: &Inode, index: usize) -> Result<(), Stop>
+/// Asks for the block at an index of a file, if it has one.
+pub fn ask_block(snap: &Snap, inode: &Inode, index: usize) -> Result<(), Stop>
     requires { index < FILE_INDEXES }
     ensures err { IfErr result (λ stop. MayStop snap.now stop) }
     ensures pause { IfErr result (λ stop. (blocks : Image) (tree : Tree) (file : ℕ)

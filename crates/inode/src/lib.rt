@@ -8,7 +8,7 @@ mod read;
 mod snap;
 mod stop;
 
-pub use bytes::{piece, target};
+pub use bytes::{ask_block, piece, target};
 pub use inodes::{file_kind, held, used_of};
 pub use map::{block_number, data_block};
 pub use read::{bytes_at, inode_of};

@@ -9,18 +9,20 @@ use std::alloc::{AllocError, Global};
 use txn::Object;
 
 /// The geometry of the image, the objects that were read so far in their order, and the blocks that were
-/// claimed.
+/// claimed. Free blocks are looked for from a piece of their bitmap on: any does.
 #[derive(Drop)]
 pub struct Snap {
     pub geometry: Geometry,
     pub objects: Vec<Object>,
     pub claims: Vec<BlockNo>,
+    pub from: u32,
 }
 
 impl Snap {
     /// Nothing was read yet.
-    pub fn new(alloc: Global, geometry: Geometry) -> Snap
+    pub fn new(alloc: Global, geometry: Geometry, from: u32) -> Snap
         ensures geometry { result.geometry ≡ geometry }
+        ensures from { result.from ≡ from }
         ensures objects { result.objects.items ≡ [] }
         ensures claims { result.claims.items ≡ [] }
     {
@@ -28,6 +30,7 @@ impl Snap {
             geometry,
             objects: Vec::new(alloc),
             claims: Vec::new(alloc),
+            from,
         }
     }
 
@@ -37,6 +40,7 @@ impl Snap {
         ensures geometry { self.new.geometry ≡ self.old.geometry }
         ensures objects { self.new.objects.items ≡ self.old.objects.items }
         ensures claims { self.new.claims.items ≡ self.old.claims.items }
+        ensures from { self.new.from ≡ self.old.from }
     {
         self.objects.reserve(1)?;
         self.claims.reserve(1)
@@ -50,6 +54,7 @@ impl Snap {
             ++ record { addr = addr; bytes = bytes } ∷ [] }
         ensures geometry { self.new.geometry ≡ self.old.geometry }
         ensures claims { self.new.claims.items ≡ self.old.claims.items }
+        ensures from { self.new.from ≡ self.old.from }
     {
         match self.objects.push(Object::new(addr, bytes)) {
             Ok(()) => {}
@@ -63,6 +68,7 @@ impl Snap {
         ensures claims { self.new.claims.items ≡ self.old.claims.items ++ block ∷ [] }
         ensures geometry { self.new.geometry ≡ self.old.geometry }
         ensures objects { self.new.objects.items ≡ self.old.objects.items }
+        ensures from { self.new.from ≡ self.old.from }
     {
         match self.claims.push(block) {
             Ok(()) => {}

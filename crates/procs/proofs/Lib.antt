@@ -7,3 +7,4 @@ pub mod RefusedThere
 pub mod ChangesOf
 mod Finishes
 mod NoPlan
+pub mod KnownNames

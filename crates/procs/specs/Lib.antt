@@ -7,3 +7,4 @@ pub mod Planned
 pub mod Refused
 pub mod FileBytes
 pub mod Finished
+pub mod Planning

@@ -1,6 +1,6 @@
 //! What a call asks for behind a run that stopped, without another. These are positions, of which nothing is claimed:
 //! the procedure is run again once all of it was read.
-ghost use Rattle.std.specs.Prelude.{◌≡◌, ◌<◌, ◌≤◌, IfErr, IfSome};
+ghost use Rattle.std.specs.Prelude.{◌≡◌, ◌≤◌, IfErr, IfSome};
 ghost use Rattle.limits.specs.declared.TheConstants.{FILE_INDEXES};
 ghost use Rattle.inode.specs.Over.{MayStop};
 ghost use Rattle.inode.specs.declared.stop.Stop.TheVariants as stop;
@@ -9,7 +9,7 @@ ghost use Rattle.procedures.specs.Listing.{entry_room};
 use crate::next::Plan;
 use block_files::BlockFiles;
 use files::{Files, Head};
-use inode::{Snap, Stop, block_number, data_block, held};
+use inode::{Snap, Stop, ask_block, held};
 use layout::{Inode, InodeKind};
 use limits::{
     BLOCK_BYTES, ENTRY_BYTES, ENTRY_PLUS_BYTES, LARGEST_FILE, LISTING_BYTES, LISTING_FRAME,
@@ -112,18 +112,6 @@ impl Listing {
             Err(stop) => Err(stop),
         }
     }
-}
-
-// Asks for the block at an index of a file, if it has one.
-fn ask_block(snap: &Snap, inode: &Inode, index: usize) -> Result<(), Stop>
-    requires { index < FILE_INDEXES }
-    ensures { IfErr result (λ why. MayStop snap.now why) }
-{
-    let number = block_number(snap, inode, index)?;
-    if number != 0 {
-        data_block(snap, number)?;
-    }
-    Ok(())
 }
 
 impl Blocks {

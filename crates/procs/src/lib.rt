@@ -2,6 +2,7 @@
 #![tactic(auto)]
 
 mod ahead;
+mod anew;
 mod asks;
 mod changing;
 mod done;
@@ -15,6 +16,7 @@ mod rules;
 mod telling;
 mod work;
 
+pub use anew::plan;
 pub use asks::{
     a_plan_asks_for_few, a_plan_claims_few, what_is_claimed_was_asked_for,
     what_is_read_was_asked_for,
@@ -26,4 +28,3 @@ pub use next::Plan;
 pub use planner::Planner;
 pub use refused::refused_reply;
 pub use rules::{begins_transaction, is_answered_stable};
-pub use work::plan;

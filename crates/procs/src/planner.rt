@@ -1,38 +1,62 @@
 //! Plans that go on: what a call needs next, asked for as it was read.
-ghost use Rattle.std.specs.Prelude.{◌≡◌, ◌++◌, ◌∷◌, [], true, length, OnOk};
-ghost use Rattle.model.specs.Calls.{begins_transaction};
-ghost use Rattle.inode.specs.Snap.{HasRoom};
-ghost use Rattle.procs.specs.Planned.{IsPlanFor, IsPlanOf, IsStepPlan};
-ghost use Rattle.procs.specs.Refused.{IsIoWhereRefused};
-ghost use Rattle.procs.specs.SoundCalls.{SoundCall};
+ghost use Rattle.std.specs.Prelude.{◌≡◌};
+ghost use Rattle.procs.specs.Planning.{IsKnownBy};
 
 use crate::ahead::{Ahead, behind};
+use crate::anew::{is_same, names_of};
 use crate::next::Plan;
-use crate::work::plan;
+use crate::work::run;
 use disk::BlockNo;
-use inode::Snap;
-use layout::Geometry;
+use inode::{Snap, Stop};
+use layout::{Geometry, PIECE_BITS};
+use name_search::Names;
 use nfs_types::{Call, Ctx};
 use objects::{Addr, Mode, SharedBytes};
 use std::alloc::{AllocError, Global};
 
-/// What was read for a call so far, and what is asked for behind its last plan without another run, of which nothing is
-/// claimed.
+/// What was read for a call so far, and what its plans have found out: how far its names were looked for, of which it
+/// is known that it is so, and what is asked for behind the last run without another, of which nothing is claimed.
 #[derive(Drop)]
 pub struct Planner {
     pub snap: Snap,
+    names: Option<Names>,
+    searches: Option<bool>,
     ahead: Ahead,
+    ghost known: { IsKnownBy snap names },
 }
 
 impl Planner {
-    /// Nothing was read yet.
-    pub fn new(alloc: Global, geometry: Geometry) -> Planner
+    ghost use Rattle.std.specs.Prelude.{◌++◌, ◌∷◌, ◌≤◌, ◌*◌, ℕ, [], None, Some, Ok, true, length, IfSome, OnOk};
+    ghost use Rattle.limits.specs.declared.TheConstants.{HANDLE_BYTES, SLOTS_PER_BLOCK};
+    ghost use Rattle.disk.specs.Crash.{Image};
+    ghost use Rattle.nfs_types.specs.declared.call.Call.{Call};
+    ghost use Rattle.nfs_types.specs.declared.call.DirectoryName.{DirectoryName};
+    ghost use Rattle.model.specs.Calls.{begins_transaction};
+    ghost use Rattle.model.specs.Find.{number_in};
+    ghost use Rattle.layout.specs.declared.inode.Inode.{Inode};
+    ghost use Rattle.layout.specs.Decode.{inode_at, span_of};
+    ghost use Rattle.inode.specs.declared.snap.Snap.{Snap};
+    ghost use Rattle.inode.specs.Read.{Saw};
+    ghost use Rattle.inode.specs.Snap.{HasRoom};
+    ghost use Rattle.name_search.specs.Known.{IsKnown, IsOfCall};
+    ghost use Rattle.name_search.specs.Places.{first_place, second_place};
+    ghost use Rattle.procs.specs.Planned.{IsPlanFor, IsPlanOf, IsStepPlan};
+    ghost use Rattle.procs.specs.Planning.{AreOf};
+    ghost use Rattle.procs.specs.Refused.{IsIoWhereRefused};
+    ghost use Rattle.procs.specs.SoundCalls.{SoundCall};
+
+    /// Nothing was read yet, and free blocks are looked for from a piece of their bitmap on.
+    pub fn new(alloc: Global, geometry: Geometry, from: u32) -> Planner
         ensures geometry { result.snap.geometry ≡ geometry }
         ensures objects { result.snap.objects.items ≡ [] }
         ensures claims { result.snap.claims.items ≡ [] }
+        ensures from { result.snap.from ≡ from }
+        ensures of { (call : Call) → AreOf call result.names }
     {
         Planner {
-            snap: Snap::new(alloc, geometry),
+            snap: Snap::new(alloc, geometry, from),
+            names: None,
+            searches: None,
             ahead: Ahead::Nothing,
         }
     }
@@ -43,6 +67,7 @@ impl Planner {
         ensures geometry { self.new.snap.geometry ≡ self.old.snap.geometry }
         ensures objects { self.new.snap.objects.items ≡ self.old.snap.objects.items }
         ensures claims { self.new.snap.claims.items ≡ self.old.snap.claims.items }
+        ensures names { self.new.names ≡ self.old.names }
     {
         self.snap.make_room()
     }
@@ -55,6 +80,7 @@ impl Planner {
             ++ record { addr = addr; bytes = bytes } ∷ [] }
         ensures geometry { self.new.snap.geometry ≡ self.old.snap.geometry }
         ensures claims { self.new.snap.claims.items ≡ self.old.snap.claims.items }
+        ensures names { self.new.names ≡ self.old.names }
     {
         self.snap.add(addr, bytes);
     }
@@ -65,12 +91,23 @@ impl Planner {
         ensures claims { self.new.snap.claims.items ≡ self.old.snap.claims.items ++ block ∷ [] }
         ensures geometry { self.new.snap.geometry ≡ self.old.snap.geometry }
         ensures objects { self.new.snap.objects.items ≡ self.old.snap.objects.items }
+        ensures names { self.new.names ≡ self.old.names }
     {
         self.snap.claimed(block);
     }
 
-    /// What a call needs next, or what comes of it, by what was read so far: what `plan` answers. The procedure is run
-    /// only where what follows isn't told by where the last run stopped.
+    /// The piece of the bitmap in which the last block was claimed, or from which free blocks are looked for, if none
+    /// was: where the next call may look for them first.
+    pub fn room(&self) -> u32 {
+        match self.snap.claims.last() {
+            Some(block) => block.0 / PIECE_BITS,
+            None => self.snap.from,
+        }
+    }
+
+    /// What a call needs next, or what comes of it, by what was read so far. It asks for one object at a time, each for
+    /// its call alone, as `plan` does that begins anew: the procedure is run only where what follows isn't told by where
+    /// the last run stopped.
     pub fn next(&mut self, alloc: Global, ctx: &Ctx, call: &Call) -> Plan
         requires served { begins_transaction call.now ≡ true }
         requires sound { SoundCall ctx.now.credential ctx.now.moment call.now }
@@ -79,12 +116,63 @@ impl Planner {
         ensures step { IsStepPlan self.old.snap.geometry ctx.now call.now result }
         ensures io { IsIoWhereRefused call.now self.old.snap result }
         ensures snap { self.new.snap ≡ self.old.snap }
+        ensures of { AreOf call.now self.old.names → AreOf call.now self.new.names }
     {
+        let Some(mut names) = names_of(alloc, call, self.names.take()) else {
+            return Plan::NoMemory;
+        };
+        let next = self.next_by(alloc, ctx, call, &mut names);
+        self.names = Some(names);
+        next
+    }
+
+    // The same, once it was begun to look for the names.
+    fn next_by(&mut self, alloc: Global, ctx: &Ctx, call: &Call, names: &mut Names) -> Plan
+        requires served { begins_transaction call.now ≡ true }
+        requires sound { SoundCall ctx.now.credential ctx.now.moment call.now }
+        requires known { IsKnown self.old.snap names.old }
+        ensures plan { IsPlanFor self.old.snap result }
+        ensures made { IsPlanOf ctx.now call.now result }
+        ensures step { IsStepPlan self.old.snap.geometry ctx.now call.now result }
+        ensures io { IsIoWhereRefused call.now self.old.snap result }
+        ensures snap { self.new.snap ≡ self.old.snap }
+        ensures names { self.new.names ≡ self.old.names }
+        ensures known { IsKnown self.old.snap names.new }
+        ensures of { (asked : Call) → IsOfCall asked names.old → IsOfCall asked names.new }
+    {
+        let search = names.go_on(&self.snap);
+        if self.searches == Some(names.is_second()) {
+            if let Err(Stop::Need(addr)) = search {
+                return Plan::Need(addr, Mode::Exclusive);
+            }
+        }
         if let Some(addr) = self.ahead.next(alloc, &self.snap) {
             return Plan::Need(addr, Mode::Exclusive);
         }
-        let next = plan(alloc, ctx, call, &self.snap);
-        self.ahead = behind(alloc, call, &self.snap, &next);
+        let next = run(alloc, ctx, call, &self.snap, names);
+        if is_same(&next, &search) {
+            self.searches = Some(names.is_second());
+            self.ahead = Ahead::Nothing;
+        } else {
+            self.searches = None;
+            self.ahead = behind(alloc, call, &self.snap, &next);
+        }
         next
+    }
+
+    /// How many names were compared in all calls of `next` together: for a call of one name at most 32 for each block
+    /// of its directory. Nothing else compares names for it, but for what a call that changes files looks for itself.
+    pub fn compared(&self) -> u64
+        ensures { (call : Call) (place : DirectoryName) → AreOf call self.now.names
+            → first_place call ≡ Some place → second_place call ≡ None
+            → length place.directory.bytes ≡ HANDLE_BYTES
+            → (blocks : Image) (inode : Inode) → Saw blocks self.now.snap
+            → inode_at self.now.snap.geometry blocks (number_in place.directory.bytes) ≡ Ok (Some inode)
+            → result ≤ SLOTS_PER_BLOCK * span_of inode }
+    {
+        match &self.names {
+            Some(names) => names.compared(),
+            None => 0,
+        }
     }
 }

@@ -1,6 +1,7 @@
 //! Calls that only tell something, over the blocks of an image.
 ghost use Rattle.std.specs.Prelude.{◌≡◌, true, [], IfErr, IfOk};
 ghost use Rattle.inode.specs.Snap.{IsNew};
+ghost use Rattle.name_search.specs.Known.{IsKnown};
 ghost use Rattle.procs_steps.specs.Kinds.{tells};
 ghost use Rattle.procs.specs.Asks.{IsAsked};
 ghost use Rattle.procs.specs.Finished.{EndsFrom};
@@ -10,6 +11,7 @@ ghost use Rattle.procs.specs.Steps.{IsStepOf, NoneStandFor};
 use crate::draft::Draft;
 use block_files::BlockFiles;
 use inode::{Snap, Stop};
+use name_search::Names;
 use nfs_types::{Call, Ctx, Reply};
 use procs_steps::tell;
 use std::alloc::{AllocError, Global};
@@ -31,8 +33,15 @@ pub(crate) fn told(
 }
 
 /// A call that only tells something, or refuses to make a special file (RFC 1813, section 3.3).
-pub(crate) fn tell_call(alloc: Global, ctx: &Ctx, call: &Call, snap: &Snap) -> Result<Draft, Stop>
-    requires { tells call.now ≡ true }
+pub(crate) fn tell_call(
+    alloc: Global,
+    ctx: &Ctx,
+    call: &Call,
+    snap: &Snap,
+    names: &Names,
+) -> Result<Draft, Stop>
+    requires tells { tells call.now ≡ true }
+    requires known { IsKnown snap.now names.now }
     ensures made { IfOk result (λ done. IsMadeFor ctx.now call.now done) }
     ensures ok { IfOk result (λ done. EndsFrom snap.now done) }
     ensures step { IfOk result (λ done. IsStepOf snap.now.geometry ctx.now call.now done) }
@@ -40,7 +49,7 @@ pub(crate) fn tell_call(alloc: Global, ctx: &Ctx, call: &Call, snap: &Snap) -> R
     ensures asks { IfErr result (λ stop. IsAsked snap.now stop) }
     ensures io { IfErr result (λ stop. NoneStandFor ctx.now call.now snap.now stop) }
 {
-    let files = BlockFiles::new(alloc, snap);
+    let files = BlockFiles::searched(alloc, snap, names);
     match tell(alloc, &files, ctx, call) {
         Ok(answer) => match answer {
             Some(reply) => Ok(told(alloc, ctx, call, snap, reply)?),

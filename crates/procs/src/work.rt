@@ -2,6 +2,7 @@
 ghost use Rattle.std.specs.Prelude.{◌≡◌, true, IfErr, IfOk};
 ghost use Rattle.model.specs.Calls.{begins_transaction};
 ghost use Rattle.inode.specs.Snap.{IsNew};
+ghost use Rattle.name_search.specs.Known.{IsKnown};
 ghost use Rattle.procs.specs.Asks.{IsAsked};
 ghost use Rattle.procs.specs.Finished.{EndsFrom};
 ghost use Rattle.procs.specs.Outcome.{IsMadeFor};
@@ -19,13 +20,15 @@ use crate::refused::refused_reply;
 use crate::telling::{tell_call, told};
 use inode::{Snap, Stop};
 use inspection::{is_refused, what_is_refused_is_in_no_tree};
+use name_search::Names;
 use nfs_types::{Call, Ctx, Status};
 use objects::Mode;
 use std::alloc::Global;
 
 // What comes of a call that is served, or what stands in its way, by the one body of its procedure.
-fn answer(alloc: Global, ctx: &Ctx, call: &Call, snap: &Snap) -> Result<Draft, Stop>
-    requires { begins_transaction call.now ≡ true }
+fn answer(alloc: Global, ctx: &Ctx, call: &Call, snap: &Snap, names: &Names) -> Result<Draft, Stop>
+    requires served { begins_transaction call.now ≡ true }
+    requires known { IsKnown snap.now names.now }
     ensures made { IfOk result (λ done. IsMadeFor ctx.now call.now done) }
     ensures ok { IfOk result (λ done. EndsFrom snap.now done) }
     ensures step { IfOk result (λ done. IsStepOf snap.now.geometry ctx.now call.now done) }
@@ -45,7 +48,7 @@ fn answer(alloc: Global, ctx: &Ctx, call: &Call, snap: &Snap) -> Result<Draft, S
         | Call::FsStat { .. }
         | Call::FsInfo { .. }
         | Call::PathConf { .. }
-        | Call::Commit { .. } => tell_call(alloc, ctx, call, snap),
+        | Call::Commit { .. } => tell_call(alloc, ctx, call, snap, names),
         Call::SetAttr { .. }
         | Call::Write { .. }
         | Call::Create { .. }
@@ -61,8 +64,15 @@ fn answer(alloc: Global, ctx: &Ctx, call: &Call, snap: &Snap) -> Result<Draft, S
 
 // The same, where the file of the call's first handle is read before. Where the layout refuses nothing that was
 // read, it doesn't refuse this file.
-fn answer_behind(alloc: Global, ctx: &Ctx, call: &Call, snap: &Snap) -> Result<Draft, Stop>
-    requires { begins_transaction call.now ≡ true }
+fn answer_behind(
+    alloc: Global,
+    ctx: &Ctx,
+    call: &Call,
+    snap: &Snap,
+    names: &Names,
+) -> Result<Draft, Stop>
+    requires served { begins_transaction call.now ≡ true }
+    requires known { IsKnown snap.now names.now }
     ensures made { IfOk result (λ done. IsMadeFor ctx.now call.now done) }
     ensures ok { IfOk result (λ done. EndsFrom snap.now done) }
     ensures step { IfOk result (λ done. IsStepOf snap.now.geometry ctx.now call.now done) }
@@ -73,17 +83,18 @@ fn answer_behind(alloc: Global, ctx: &Ctx, call: &Call, snap: &Snap) -> Result<D
 {
     match first_handle(call) {
         Some(handle) => match read_file(snap, handle) {
-            Ok(()) => answer(alloc, ctx, call, snap),
+            Ok(()) => answer(alloc, ctx, call, snap, names),
             Err(stop) => Err(stop),
         },
-        None => answer(alloc, ctx, call, snap),
+        None => answer(alloc, ctx, call, snap, names),
     }
 }
 
 // The same, where nothing that was read is refused. All of it is looked through once, when nothing more is to be
 // read.
-fn work(alloc: Global, ctx: &Ctx, call: &Call, snap: &Snap) -> Result<Draft, Stop>
-    requires { begins_transaction call.now ≡ true }
+fn work(alloc: Global, ctx: &Ctx, call: &Call, snap: &Snap, names: &Names) -> Result<Draft, Stop>
+    requires served { begins_transaction call.now ≡ true }
+    requires known { IsKnown snap.now names.now }
     ensures made { IfOk result (λ done. IsMadeFor ctx.now call.now done) }
     ensures ok { IfOk result (λ done. EndsFrom snap.now done) }
     ensures step { IfOk result (λ done. IsStepOf snap.now.geometry ctx.now call.now done) }
@@ -92,7 +103,7 @@ fn work(alloc: Global, ctx: &Ctx, call: &Call, snap: &Snap) -> Result<Draft, Sto
     ensures io { IfErr result (λ stop. NoneStandFor ctx.now call.now snap.now stop) }
     ensures sound { IfOk result (λ done. NoneRefusedIn snap.now call.now × NoneRead snap.now) }
 {
-    match answer_behind(alloc, ctx, call, snap) {
+    match answer_behind(alloc, ctx, call, snap, names) {
         Ok(done) => {
             if is_refused(snap) {
                 what_is_refused_is_in_no_tree();
@@ -120,19 +131,20 @@ fn finish(ctx: &Ctx, call: &Call, snap: &Snap, draft: Draft) -> Plan
     Plan::Done(Done::new(draft))
 }
 
-/// What a call needs next, or what comes of it, by what was read so far. It asks for one object at a time, each for
-/// its call alone, and begins anew each time. Any object that was read and that the layout refuses makes it IO, with
-/// nothing told and nothing written. Where blocks stand for a tree what comes of the call is a step of the sequential
-/// server, so that it is never IO there.
-pub fn plan(alloc: Global, ctx: &Ctx, call: &Call, snap: &Snap) -> Plan
+/// A run of the procedure over what was read so far, and by what is known of the call's names: what the call needs
+/// next, or what comes of it. Any object that was read and that the layout refuses makes it IO, with nothing told and
+/// nothing written. Where blocks stand for a tree what comes of the call is a step of the sequential server, so that
+/// it is never IO there.
+pub(crate) fn run(alloc: Global, ctx: &Ctx, call: &Call, snap: &Snap, names: &Names) -> Plan
     requires served { begins_transaction call.now ≡ true }
     requires sound { SoundCall ctx.now.credential ctx.now.moment call.now }
+    requires known { IsKnown snap.now names.now }
     ensures plan { IsPlanFor snap.now result }
     ensures made { IsPlanOf ctx.now call.now result }
     ensures step { IsStepPlan snap.now.geometry ctx.now call.now result }
     ensures io { IsIoWhereRefused call.now snap.now result }
 {
-    match work(alloc, ctx, call, snap) {
+    match work(alloc, ctx, call, snap, names) {
         Ok(done) => finish(ctx, call, snap, done),
         Err(Stop::Need(addr)) => Plan::Need(addr, Mode::Exclusive),
         Err(Stop::Claim(block)) => Plan::Claim(block),

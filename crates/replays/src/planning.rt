@@ -49,7 +49,7 @@ pub(crate) fn plan_over<D: CrashDisk>(
     a_plan_asks_for_few();
     what_is_claimed_was_asked_for();
     a_plan_claims_few();
-    let mut snap = Snap::new(alloc, geometry);
+    let mut snap = Snap::new(alloc, geometry, 0);
     'asks: loop {
         if snap.make_room().is_err() {
             return Err(OpenFault::NoMemory);

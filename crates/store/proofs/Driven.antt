@@ -599,7 +599,7 @@ given old mid new is read back made same work true has =
     left = left_in Planning old.worker.work old.core
 
     seen : seen_in new.worker.work.planner ≡ seen_in old.worker.work.planner
-    seen = ap (λ (s : State). seen_in s.work.planner) has.worker ∙ ap (λ (w : Work). seen_in w.snap) work ∙ is.seen
+    seen = ap (λ (s : State). seen_in s.work.planner) has.worker ∙ ap (λ (w : Work). seen_in w.planner) work ∙ is.seen
 
     log : new.core.log ≡ old.core.log
     log = ap (λ (c : CoreState). c.log) has.only ∙ ap (λ (c : CoreState). c.log) is.fetched.only

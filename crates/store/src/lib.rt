@@ -10,6 +10,7 @@ pub use calling::{a_settled_store_stays_open, an_opened_store_is_open};
 pub use image_check::{CheckFault, Counts, Progress, Unlinked, check, check_telling};
 pub use image_lines::{Line, show};
 pub use one_call::procedure;
+pub use replays::replay;
 pub use store_images::{FormatFault, Store, close, format, open, parts, settle};
 pub use store_promise::{
     Answer, CallAnswer, Committed, Committing, Ending, Entry, Event, OpenFault, Run, Step, Verdict,

@@ -55,7 +55,7 @@ pub(crate) fn plans_alike(
     requires sound { SoundCall ctx.now.credential ctx.now.moment call.now }
 {
     layout::objects_lie_at_home();
-    let mut planner = Planner::new(alloc, geometry);
+    let mut planner = Planner::new(alloc, geometry, 0);
     for _ in 0..MOST_ASKED {
         planner.make_room()?;
         let anew = plan(alloc, ctx, call, &planner.snap);

@@ -28,18 +28,20 @@ const NOW: Moment = Moment {
     nanoseconds: 0,
 };
 
-// A row: a call of the superuser; or the second file's links in the directory, or files that are made there, at the names
-// of a first byte and each second byte from one on and below an end.
+// A row: a call of the superuser; or the second file's links in a directory, or files that are made in the first one, at
+// the names of a first byte and each second byte from one on and below an end.
 enum Row<'a> {
     Asks(Asked<'a>),
-    Links(u8, u8, u8),
+    Links(File, u8, u8, u8),
     Creates(u8, u8, u8),
 }
 
-// What the first two rows make.
+// What the first two rows make, and the third of names.
 const DIRECTORY: File = File(2, 1, 1);
 
 const FILE: File = File(3, 1, 2);
+
+const OTHER: File = File(4, 1, 3);
 
 const PLAIN: CreateHow = CreateHow::Guarded(UNSET);
 
@@ -90,13 +92,15 @@ const BYTES: &[Row] = &[
     Row::Asks(Asked::Remove(ROOT, b"f")),
 ];
 
-// What a directory of three blocks lists, with room for all and for some, behind cookies; and names that come and go.
+// What a directory of three blocks lists, with room for all and for some, behind cookies; names that come and go; and
+// names that go from a directory of several blocks to another, from the first block of one and a later one of the other.
 const NAMES: &[Row] = &[
     Row::Asks(Asked::MkDir(ROOT, b"d", UNSET)),
     Row::Asks(Asked::Create(ROOT, b"f", PLAIN)),
+    Row::Asks(Asked::MkDir(ROOT, b"e", UNSET)),
     Row::Asks(Asked::ReadDir(DIRECTORY, 0, ZEROS, 32_768)),
     Row::Asks(Asked::ReadDirPlus(DIRECTORY, 0, ZEROS, 32_768, 32_768)),
-    Row::Links(b'n', 48, 68),
+    Row::Links(DIRECTORY, b'n', 48, 68),
     Row::Creates(b'm', 48, 96),
     Row::Asks(Asked::ReadDir(DIRECTORY, 0, ZEROS, 4_294_967_295)),
     Row::Asks(Asked::ReadDir(DIRECTORY, 0, ZEROS, 500)),
@@ -118,6 +122,13 @@ const NAMES: &[Row] = &[
     Row::Asks(Asked::MkNod(DIRECTORY, b"s", SpecialFile::Fifo(UNSET))),
     Row::Asks(Asked::Rename(DIRECTORY, b"m0", ROOT, b"f")),
     Row::Asks(Asked::Rename(DIRECTORY, b"m1", DIRECTORY, b"m2")),
+    Row::Links(OTHER, b'k', 48, 88),
+    Row::Asks(Asked::Rename(DIRECTORY, b"m_", OTHER, b"k0")),
+    Row::Asks(Asked::Rename(DIRECTORY, b"m4", OTHER, b"none")),
+    Row::Asks(Asked::Rename(OTHER, b"kW", DIRECTORY, b"n0")),
+    Row::Asks(Asked::Rename(OTHER, b"none", DIRECTORY, b"m5")),
+    Row::Asks(Asked::Rename(DIRECTORY, b"n1", DIRECTORY, b"m6")),
+    Row::Asks(Asked::Rename(DIRECTORY, b"never", OTHER, b"k1")),
     Row::Asks(Asked::Remove(DIRECTORY, b"m3")),
     Row::Asks(Asked::RmDir(ROOT, b"d")),
     Row::Asks(Asked::ReadDirPlus(DIRECTORY, 0, ZEROS, 32_768, 32_768)),
@@ -181,9 +192,9 @@ fn row_goes_alike(
             }
             next += 1;
         }
-        Row::Links(first, from, end) => {
+        Row::Links(directory, first, from, end) => {
             for second in from..end {
-                let asked = Asked::Link(FILE, DIRECTORY, &[first, second]);
+                let asked = Asked::Link(FILE, directory, &[first, second]);
                 if !goes_alike(alloc, disk, next, &asked)? {
                     return Ok(None);
                 }

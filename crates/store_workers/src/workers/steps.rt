@@ -100,6 +100,7 @@ impl State {
             self.give(Verdict::Reply(Reply::Null), None);
             return Step::Replied;
         }
+        let from = room_of(&self.work.planner);
         match core.begin() {
             Ok(tx) => {
                 let number = tx.number();
@@ -112,7 +113,7 @@ impl State {
                     blocks,
                     inodes,
                 };
-                self.work.planner = Some(Planner::new(alloc, geometry));
+                self.work.planner = Some(Planner::new(alloc, geometry, from));
                 self.known.give_back();
                 self.go_on(tx, Phase::Planning);
                 Step::Begun(Ok(number))
@@ -240,6 +241,14 @@ impl State {
     {
         self.phase = phase;
         put(&mut self.begun.tx, tx);
+    }
+}
+
+// The piece of the bitmap from which free blocks are looked for: that of the block which the last call claimed last.
+fn room_of(last: &Option<Planner>) -> u32 {
+    match last {
+        Some(planner) => planner.room(),
+        None => 0,
     }
 }
 

@@ -1,22 +1,15 @@
-use Rattle.std.proofs.Common.{arith}
-use Rattle.bitmap.proofs.Clears.{found_clear, more_set}
+use Rattle.std.proofs.Common.{◌*◌, arith}
+use Rattle.bitmap.proofs.Clears.{in_two, one_of}
+use Rattle.bitmap.proofs.OfResults.{mapped}
 use Rattle.bitmap.proofs.finding.clear_among.Goals as goal
-
-pub overflow_add-result : goal.overflow_add-result
-overflow_add-result c =
-    let few = rw c.in-Ok-Some.field-0-is at c.in-Ok-Some.ensures.few in
-    let less = c.pieces-test.true in
-    let to = c.requires.to in
-    let blocks = c.args.snap.now.geometry.lawful.0.1 in
-    let inodes = c.args.snap.now.geometry.lawful.1.1 in
-    omega (arith, few, less, to, blocks, inodes)
 
 pub returns-in-Ok-Some-clause-ok : goal.returns-in-Ok-Some-clause-ok
 returns-in-Ok-Some-clause-ok c = λ blocks saw.
-    found_clear blocks c.args.first c.args.count c.pieces.piece c.in-Ok-Some.bit c.pieces-test.true
-    (rw c.in-Ok-Some.field-0-is at (c.in-Ok-Some.ensures.ok blocks saw))
+    one_of blocks c.args.first c.args.count c.start_in-start.result (8 * c.args.count) c.in-Ok-Some.bit
+    (omega arith) (rw c.in-Ok-Some.field-0-is at (c.in-Ok-Some.ensures.ok blocks saw))
 
-pub pieces-preserved : goal.pieces-preserved
-pieces-preserved c = λ blocks saw.
-    more_set blocks c.args.first c.pieces.piece (c.pieces.invariant blocks saw)
-    (rw c.in-Ok-None.field-0-is at (c.in-Ok-None.ensures.ok blocks saw))
+pub returns-in-Ok-None-clause-ok : goal.returns-in-Ok-None-clause-ok
+returns-in-Ok-None-clause-ok c = mapped _ _ (λ found is blocks saw.
+    in_two blocks c.args.first c.args.count c.start_in-start.result c.start_in-start.ensures.within
+    (rw c.in-Ok-None.field-0-is at (c.in-Ok-None.ensures.ok blocks saw)) found (is blocks saw))
+    c.clear_between-in-Ok-None.result c.clear_between-in-Ok-None.ensures.ok

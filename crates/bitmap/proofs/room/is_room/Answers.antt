@@ -2,19 +2,16 @@ use Rattle.std.proofs.Common.{◌≡◌, ◌-◌, ap, ◌∙◌, nat_le, arith}
 use Rattle.limits.specs.declared.TheConstants.{FIRST_HOME_BLOCK}
 use Rattle.layout.specs.Geometry.{bitmap_blocks}
 use Rattle.bitmap.specs.Clear.{clear_of}
-use Rattle.bitmap.proofs.Enough.{same_answer}
 use Rattle.bitmap.proofs.FreeBits.{data_there, free_blocks}
+use Rattle.bitmap.proofs.OfResults.{mapped}
 use Rattle.bitmap.proofs.room.is_room.Goals as goal
 
 pub returns-clause-ok : goal.returns-clause-ok
-returns-clause-ok c = λ blocks tree saw holds.
+returns-clause-ok c = mapped _ _ (λ is ok blocks tree saw holds.
     let g = c.args.snap.now.geometry in
     let there = data_there g blocks tree holds in
     let first = c.inode_bitmap-first.ensures in
-    let count : c.inode_bitmap-first.result.0 - FIRST_HOME_BLOCK ≡ bitmap_blocks g.blocks =
-    omega (arith, first) in
+    let count : c.inode_bitmap-first.result.0 - FIRST_HOME_BLOCK ≡ bitmap_blocks g.blocks = omega (arith, first) in
     let all = ap (clear_of blocks FIRST_HOME_BLOCK) count ∙ free_blocks g blocks tree holds in
-    same_answer c.args.wanted c.in_ok-clear.clear _
-    (c.in_ok-clear.ensures.ok blocks saw
-    (λ number less. (holds.bytes number (omega (arith, less, there, first))).0))
-    ∙ ap (nat_le c.args.wanted) all
+    ok blocks saw (λ number less. (holds.bytes number (omega (arith, less, there, first))).0)
+    ∙ ap (nat_le c.args.wanted) all) c.is_clear_enough.result c.is_clear_enough.ensures.ok

@@ -4,19 +4,19 @@ use Rattle.block_files.proofs.contents.entry_under.Goals as goal
 
 pub returns-in-Directory-clause-ok : goal.returns-in-Directory-clause-ok
 returns-in-Directory-clause-ok c =
-    IfOk-weaker c.find.result _ _ (λ found is blocks tree file has.
+    IfOk-weaker c.found_in.result _ _ (λ found is blocks tree has.
     directory_entry c.args.snap.now.geometry blocks c.args.inode.now c.args.name.now found c.in-Directory.is
-    (is blocks tree file (record { has = has; kind = c.in-Directory.is }))) c.find.ensures.ok
+    (is blocks tree (record { has = has; kind = c.in-Directory.is }))) c.found_in.ensures.ok
 
 pub returns-in-Directory-clause-pause : goal.returns-in-Directory-clause-pause
 returns-in-Directory-clause-pause c =
-    IfErr-weaker c.find.result _ _ (λ why p blocks tree file has.
-    p blocks tree file (record { has = has; kind = c.in-Directory.is })) c.find.ensures.pause
+    IfErr-weaker c.found_in.result _ _ (λ why p blocks tree file has.
+    p blocks tree file (record { has = has; kind = c.in-Directory.is })) c.found_in.ensures.pause
 
 pub returns-in-Regular-clause-ok : goal.returns-in-Regular-clause-ok
-returns-in-Regular-clause-ok c = λ blocks tree file has.
+returns-in-Regular-clause-ok c = λ blocks tree has.
     regular_entry c.args.snap.now.geometry blocks c.args.inode.now c.args.name.now c.in-Regular.is
 
 pub returns-in-Link-clause-ok : goal.returns-in-Link-clause-ok
-returns-in-Link-clause-ok c = λ blocks tree file has.
+returns-in-Link-clause-ok c = λ blocks tree has.
     link_entry c.args.snap.now.geometry blocks c.args.inode.now c.args.name.now c.in-Link.is

@@ -9,21 +9,21 @@ returns-in_ok-told-in-Some-clause-step c =
     told_is_step c.args.snap.now c.args.ctx.now c.args.call.now c.in_ok-told-in-Some.field-0 c.in-Some.reply
     c.in_ok-told-in-Some.ensures.done c.in_ok-told-in-Some.ensures.reply c.in_ok-told-in-Some.ensures.written
     (λ blocks tree new over. (rw c.in-Some.is at c.in-Ok.ensures.step) blocks tree new
-    (subst (λ snap. IsOver snap blocks tree) (sym c.new-files.ensures) over))
+    (subst (λ snap. IsOver snap blocks tree) (sym c.searched-files.ensures) over))
 
 pub returns-in-Err-clause-err : goal.returns-in-Err-clause-err
 returns-in-Err-clause-err c =
     is_new c.args.snap.now c.in-Err.stop
-    (subst (λ snap. MayStop snap c.in-Err.stop) c.new-files.ensures c.in-Err.ensures.err)
+    (subst (λ snap. MayStop snap c.in-Err.stop) c.searched-files.ensures c.in-Err.ensures.err)
 
 pub returns-in-Err-clause-asks : goal.returns-in-Err-clause-asks
 returns-in-Err-clause-asks c =
     is_asked c.args.snap.now c.in-Err.stop
-    (subst (λ snap. MayStop snap c.in-Err.stop) c.new-files.ensures c.in-Err.ensures.err)
+    (subst (λ snap. MayStop snap c.in-Err.stop) c.searched-files.ensures c.in-Err.ensures.err)
 
 pub returns-in-Err-clause-io : goal.returns-in-Err-clause-io
 returns-in-Err-clause-io c =
     for_calls c.args.ctx.now c.args.call.now c.args.snap.now c.in-Err.stop
     (none_stand c.args.snap.now c.in-Err.stop (λ blocks tree over.
     c.in-Err.ensures.pause blocks tree
-    (subst (λ snap. IsOver snap blocks tree) (sym c.new-files.ensures) over)))
+    (subst (λ snap. IsOver snap blocks tree) (sym c.searched-files.ensures) over)))

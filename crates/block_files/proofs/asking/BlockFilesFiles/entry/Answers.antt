@@ -8,7 +8,7 @@ pub returns-in-Some-clause-ok : goal.returns-in-Some-clause-ok
 returns-in-Some-clause-ok c =
     IfOk-weaker c.entry_under.result _ _ (λ found is blocks tree body over file.
     let held = rw c.in-Some.is at (c.in_ok-inode.ensures.ok blocks tree over) in
-    is blocks tree c.args.directory.now.number held.0
+    is blocks tree held.0
     ∙ ap (λ one. entry_at one c.args.name.now)
     (same_body c.args.self.now.snap.now blocks tree c.args.directory.now body c.in-Some.inode held file))
     c.entry_under.ensures.ok

@@ -5,7 +5,7 @@ use Rattle.inode.specs.Snap.{IsNew}
 use Rattle.procs.specs.Asks.{IsAsked}
 use Rattle.procs.specs.Steps.{NoneStandFor}
 use Rattle.procs.proofs.RefusedThere.{io_by_none, io_by_reply}
-use Rattle.procs.proofs.work.plan.Goals as goal
+use Rattle.procs.proofs.work.run.Goals as goal
 
 pub returns-in-Err-Need-clause-plan : goal.returns-in-Err-Need-clause-plan
 returns-in-Err-Need-clause-plan c =

@@ -1,0 +1,40 @@
+use Rattle.std.proofs.Common.{ℕ, List, ap, ◌∙◌, Some, None, arith}
+use Rattle.std.specs.FinMap.{get}
+use Rattle.layout.specs.Decode.{entries_in}
+use Rattle.layout.specs.Parts.{content_in}
+use Rattle.dir.proofs.FoundIn.{is_found}
+use Rattle.dir.proofs.Grown.{known_none, known_some}
+use Rattle.dir.proofs.Passed.{ok_more}
+use Rattle.dir.proofs.SlotBlocks.{of_directory}
+use Rattle.dir.proofs.sought.find_known.Goals as goal
+
+pub returns-in_default-clause-pause : goal.returns-in_default-clause-pause
+returns-in_default-clause-pause c = λ blocks tree file is.
+    c.in_default.ensures.none c.args.snap.now blocks tree file is
+
+pub returns-in-Some-found-clause-ok : goal.returns-in-Some-found-clause-ok
+returns-in-Some-found-clause-ok c = λ is blocks tree directory.
+    let snap = c.args.snap.now in
+    let sought = c.args.sought.now in
+    is_found snap.geometry (content_in snap.geometry blocks) c.args.inode.now sought.name (Some c.in-Some-found.place)
+    (of_directory snap blocks tree sought.directory c.args.inode.now directory)
+    (known_some snap sought is blocks tree c.args.inode.now directory c.in-Some-found.place c.in-Some-found.is)
+
+pub returns-then-sought-span-clause-ok : goal.returns-then-sought-span-clause-ok
+returns-then-sought-span-clause-ok c = λ is blocks tree directory.
+    let snap = c.args.snap.now in
+    let sought = c.args.sought.now in
+    let spans = c.in-Some.ensures.some in
+    let most = c.if-sought-span.true in
+    is_found snap.geometry (content_in snap.geometry blocks) c.args.inode.now sought.name None
+    (of_directory snap blocks tree sought.directory c.args.inode.now directory)
+    (known_none snap sought is blocks tree c.args.inode.now directory c.in_default-found.is
+    (omega (arith, spans, most)))
+
+pub returns-in-Ok-clause-ok : goal.returns-in-Ok-clause-ok
+returns-in-Ok-clause-ok c =
+    let snap = c.args.snap.now in
+    ok_more c.find.result (λ found told is blocks tree directory.
+    told blocks tree c.args.sought.now.directory directory
+    ∙ ap (λ (name : List ℕ). get (entries_in snap.geometry.inodes (content_in snap.geometry blocks) c.args.inode.now)
+    name) c.as_slice.ensures) c.find.ensures.ok

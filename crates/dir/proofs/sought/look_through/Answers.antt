@@ -1,0 +1,21 @@
+use Rattle.std.proofs.Common.{ℕ, List, refl, subst, ◌*◌, ◌+◌}
+use Rattle.limits.specs.declared.TheConstants.{SLOTS_PER_BLOCK}
+use Rattle.layout.specs.Parts.{content_in}
+use Rattle.dir.specs.Slots.{IsFound, block_slot, slot_at}
+use Rattle.dir.proofs.Grown.{looked}
+use Rattle.dir.proofs.Moved.{moved_found}
+use Rattle.dir.proofs.sought.look_through.Goals as goal
+
+pub returns-clause-knows : goal.returns-clause-knows
+returns-clause-knows c =
+    let inode = c.args.inode.now in
+    let snap = c.args.snap.now in
+    let old = c.args.sought.now in
+    let first = SLOTS_PER_BLOCK * old.blocks in
+    looked snap old _ inode refl refl refl c.requires.none c.requires.less c.requires.there
+    (λ blocks tree file is less.
+    moved_found (slot_at snap.geometry.inodes (content_in snap.geometry blocks) inode)
+    (block_slot snap.geometry.inodes first c.in_ok-block.block.now) first (first + SLOTS_PER_BLOCK)
+    (c.in_ok-block.ensures.ok blocks tree file is less) old.name c.find_in_block-found.result
+    (subst (λ (name : List ℕ). IsFound (block_slot snap.geometry.inodes first c.in_ok-block.block.now) name first
+    (first + SLOTS_PER_BLOCK) c.find_in_block-found.result) c.as_slice.ensures c.find_in_block-found.ensures.found))

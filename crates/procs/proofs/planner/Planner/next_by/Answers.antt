@@ -1,0 +1,10 @@
+use Rattle.std.proofs.Common.{rules, ◌≡◌, refl, subst}
+use Rattle.inode.specs.declared.stop.Stop.TheVariants as stop
+use Rattle.inode.specs.Over.{MayStop}
+use Rattle.procs.proofs.planner.Planner.next_by.Goals as goal
+
+pub returns-in-Err-Need-clause-plan : goal.returns-in-Err-Need-clause-plan
+returns-in-Err-Need-clause-plan c =
+    let is : c.in-Err-Need.field-0 ≡ stop.Need c.in-Err-Need.addr = search rules in
+    let may : MayStop c.args.self.now.snap c.in-Err-Need.field-0 = rw c.in-Err-Need.is at c.go_on-search.ensures.err in
+    let asks = subst (MayStop c.args.self.now.snap) is may in (asks.0, asks.1, refl)
