@@ -1,10 +1,10 @@
 //! A planner beside plans that begin anew on what it has read.
-ghost use Rattle.std.specs.Prelude.{◌≡◌, true};
-ghost use Rattle.disk.specs.MemDisk.{memory_device};
+ghost use Rattle.std.specs.Prelude.{◌≡◌, ◌^◌, ◌<◌, true};
 ghost use Rattle.model.specs.Calls.{begins_transaction};
-ghost use Rattle.procs.specs.SoundCalls.{SoundCall};
+ghost use Rattle.model.specs.Sound.{SoundTime};
+ghost use Rattle.nfs_types.specs.Fits.{CallFits};
 
-use disk::MemDisk;
+use disk::{CrashDisk, MemDisk};
 use layout::Geometry;
 use nfs_results::encode_reply;
 use nfs_types::{Call, Ctx};
@@ -42,6 +42,14 @@ fn is_same(alloc: Global, one: &Done, other: &Done) -> Result<bool, Fail> {
     )
 }
 
+// Numbers that are told in 32 bits.
+fn are_told(uid: u32, gid: u32)
+    ensures uid { uid < 2 ^ 32 }
+    ensures gid { gid < 2 ^ 32 }
+{
+    let _ = (uid, gid);
+}
+
 /// Whether a planner over the homes of an image asks, claims and ends as a plan that begins anew, each time.
 pub(crate) fn plans_alike(
     alloc: Global,
@@ -50,11 +58,11 @@ pub(crate) fn plans_alike(
     ctx: &Ctx,
     call: &Call,
 ) -> Result<bool, Fail>
-    requires size { geometry.blocks ≡ (memory_device disk.now).size }
     requires served { begins_transaction call.now ≡ true }
-    requires sound { SoundCall ctx.now.credential ctx.now.moment call.now }
+    requires timely { SoundTime ctx.now.moment }
+    requires spelled { CallFits call.now }
 {
-    layout::objects_lie_at_home();
+    are_told(ctx.credential.uid, ctx.credential.gid);
     let mut planner = Planner::new(alloc, geometry, 0);
     for _ in 0..MOST_ASKED {
         planner.make_room()?;
@@ -62,6 +70,9 @@ pub(crate) fn plans_alike(
         match (planner.next(alloc, ctx, call), anew) {
             (Plan::Need(addr, mode), Plan::Need(other, other_mode)) => {
                 if addr != other || mode != other_mode {
+                    return Ok(false);
+                }
+                if addr.block.0 >= disk.blocks() {
                     return Ok(false);
                 }
                 let bytes = extract(alloc, disk.newest(addr.block), addr)?;

@@ -1,12 +1,13 @@
 //! Calls one behind the other on an image: each is planned both ways on what those before it left, and is replayed then.
-ghost use Rattle.std.specs.Prelude.{◌≡◌};
+ghost use Rattle.std.specs.Prelude.{◌≡◌, All, OnOk};
 ghost use Rattle.model.specs.Sound.{SoundTime};
+ghost use Rattle.replays.specs.Replayed.{CanBeReplayed};
 
 use crate::tests::beside::plans_alike;
-use disk::{CrashDisk, MemDisk};
+use disk::MemDisk;
 use layout::{FormatVersion, Geometry};
 use limits::LEAST_BLOCKS;
-use nfs_types::{CreateHow, Credential, Ctx, Moment, NewAttributes, NumberList, SpecialFile};
+use nfs_types::{Call, CreateHow, Credential, Ctx, Moment, NewAttributes, NumberList, SpecialFile};
 use procs::begins_transaction;
 use replays::replay;
 use std::alloc::Global;
@@ -156,6 +157,37 @@ fn context(alloc: Global, transaction: u64) -> Ctx
     }
 }
 
+// Adds a call of the first boot.
+fn add(
+    alloc: Global,
+    entries: &mut Vec<(Ctx, Call)>,
+    transaction: u64,
+    call: Call,
+) -> Result<(), Fail>
+    requires { All CanBeReplayed entries.old.items }
+    ensures { OnOk result (All CanBeReplayed entries.new.items) }
+{
+    if !can_be_spelled(&call) {
+        return Err("it can't be spelled")?;
+    }
+    entries.push((context(alloc, transaction), call))?;
+    Ok(())
+}
+
+// Whether each call is planned alike both ways on the image as it is.
+fn are_alike(alloc: Global, disk: &MemDisk, entries: &[(Ctx, Call)]) -> Result<bool, Fail>
+    requires { All CanBeReplayed entries.now }
+{
+    for entry in entries {
+        if !begins_transaction(&entry.1)
+            || !plans_alike(alloc, disk, GEOMETRY, &entry.0, &entry.1)?
+        {
+            return Ok(false);
+        }
+    }
+    Ok(true)
+}
+
 // A call is planned both ways, and then replayed. Whether the plans were alike.
 fn goes_alike(
     alloc: Global,
@@ -163,18 +195,11 @@ fn goes_alike(
     transaction: u64,
     asked: &Asked,
 ) -> Result<bool, Fail> {
-    let call = call(alloc, asked)?;
-    let ctx = context(alloc, transaction);
-    if !can_be_spelled(&call) || !begins_transaction(&call) || disk.blocks() != LEAST_BLOCKS {
-        return Ok(false);
-    }
-    if !plans_alike(alloc, disk, GEOMETRY, &ctx, &call)? {
-        return Ok(false);
-    }
     let mut entries = Vec::new(alloc);
-    entries.push((ctx, call))?;
+    add(alloc, &mut entries, transaction, call(alloc, asked)?)?;
+    let is_alike = are_alike(alloc, disk, &entries)?;
     replay(alloc, disk, &entries)?;
-    Ok(true)
+    Ok(is_alike)
 }
 
 // The same for each of the calls of a row, of which the first has this number. The number of the next, where all were.
@@ -190,7 +215,7 @@ fn row_goes_alike(
             if !goes_alike(alloc, disk, next, asked)? {
                 return Ok(None);
             }
-            next += 1;
+            next = next.saturating_add(1);
         }
         Row::Links(directory, first, from, end) => {
             for second in from..end {
@@ -198,7 +223,7 @@ fn row_goes_alike(
                 if !goes_alike(alloc, disk, next, &asked)? {
                     return Ok(None);
                 }
-                next += 1;
+                next = next.saturating_add(1);
             }
         }
         Row::Creates(first, from, end) => {
@@ -207,7 +232,7 @@ fn row_goes_alike(
                 if !goes_alike(alloc, disk, next, &asked)? {
                     return Ok(None);
                 }
-                next += 1;
+                next = next.saturating_add(1);
             }
         }
     }
