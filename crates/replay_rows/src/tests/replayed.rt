@@ -1,6 +1,7 @@
 //! Entries that are replayed on an image: its files are those of the plain server behind the same entries.
 
 ghost use Rattle.std.specs.Prelude.{All, IfOk};
+ghost use Rattle.nfs_types.specs.Fits.{CallFits};
 ghost use Rattle.replays.specs.Replayed.{CanBeReplayed};
 ghost use Rattle.store_images.specs.Settling.{IsIdle};
 
@@ -75,16 +76,38 @@ fn opened(alloc: Global, disk: MemDisk) -> Result<Store<MemDisk>, Fail>
     }
 }
 
-// An image in whose log alone a directory lies.
-fn logged(alloc: Global) -> Result<MemDisk, Fail> {
+// The call that makes the directory `d` of the root.
+fn directory(alloc: Global) -> Result<Call, Fail>
+    ensures { IfOk result CallFits }
+{
     let call = mk_dir(name(alloc, root(alloc)?, b'd')?);
     if !can_be_spelled(&call) {
         return Err("it can't be spelled")?;
     }
+    Ok(call)
+}
+
+// A store serves a call of the superuser, and is closed.
+fn served(alloc: Global, store: Store<MemDisk>, call: Call) -> MemDisk
+    requires idle { IsIdle store.core }
+    requires spelled { CallFits call }
+{
+    let mut store = store;
     let ctx = context(alloc, 1);
-    let mut store = opened(alloc, formatted(alloc)?)?;
     drop(procedure(alloc, &mut store, ctx.credential, NOW, call));
-    Ok(close(store))
+    close(store)
+}
+
+// An image in whose log alone that directory lies.
+fn logged(alloc: Global) -> Result<MemDisk, Fail> {
+    let store = opened(alloc, formatted(alloc)?)?;
+    match directory(alloc) {
+        Ok(call) => Ok(served(alloc, store, call)),
+        Err(why) => {
+            drop(close(store));
+            Err(why)
+        }
+    }
 }
 
 #[test]
