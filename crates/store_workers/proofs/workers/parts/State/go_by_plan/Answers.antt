@@ -18,6 +18,6 @@ pub returns-in-Done-clause-stays : goal.returns-in-Done-clause-stays
 returns-in-Done-clause-stays c =
     let had : c.args.self.now.begun.tx ≡ Some c.take_tx-tx.result = search rules in
     λ other keeps. end_stays (side (record c.next-next.new.self { begun = c.take_tx-tx.new.self }) c.args.core.now)
-        (side c.commit.new.self c.commit.new.core)
-        c.take_tx-tx.result c.in-Done.done c.commit.ensures.stays other
-        (λ same. keeps (had ∙ ap (λ (n : ℕ). Some n) (sym same))) c.commit.result c.commit.ensures.step
+    (side c.commit.new.self c.commit.new.core)
+    c.take_tx-tx.result c.in-Done.done c.commit.ensures.stays other
+    (λ same. keeps (had ∙ ap (λ (n : ℕ). Some n) (sym same))) c.commit.result c.commit.ensures.step
