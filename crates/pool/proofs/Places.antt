@@ -1,14 +1,12 @@
 -- A step of a worker takes a place just where it is told that its change was committed.
-use Rattle.std.proofs.Common.{arith, ◌≡◌, ◌∙◌, refl, sym, ap, subst, ℕ, ◌+◌, Bool, true, false, Option, Some, None}
+use Rattle.std.proofs.Common.{arith, ◌≡◌, ◌∙◌, ap, ℕ, ◌+◌, Bool, true, false, Option, Some}
 use Rattle.objects.specs.declared.addr.Addr.{Addr}
 use Rattle.objects.specs.declared.mode.Mode.{Mode}
 use Rattle.procs.specs.Outcome.{Outcome}
-use Rattle.store_promise.specs.declared.events.Ending.TheVariants as ending
 use Rattle.store_promise.specs.declared.events.Step.{Step}
-use Rattle.store_promise.specs.declared.events.Step.TheVariants as step
 use Rattle.store_workers.proofs.WorkCases.{Cases, by_cases}
 use Rattle.store_workers.specs.WorkerAnswers.{claim_wish, committing_of, wish_of}
-use Rattle.store_workers.specs.WorkerSteps.{GoesOn, HasAborted, Side, given_step, planned_of}
+use Rattle.store_workers.specs.WorkerSteps.{GoesOn, Side, given_step, planned_of}
 use Rattle.store_workers.specs.declared.workers.parts.Phase.{Phase}
 use Rattle.txn.specs.Core.{CoreState}
 use Rattle.txn.specs.Outcomes.{IsClaimed, IsCommit, IsWanted}

@@ -1,6 +1,7 @@
 -- A step keeps what a worker has its job's, and what it gives answers the job.
-use Rattle.std.proofs.Common.{◌≡◌, ◌∙◌, refl, sym, ap, subst, ℕ, Bool, true, false, true≢false, Option, Some, None, inl, inr}
-use Rattle.std.specs.Prelude.{IsSomeAnd, IsTrue, MatchOption, if◌then◌else◌, is_some, ◌↔◌, ◌≤◌, unwrap_or}
+use Rattle.std.proofs.Common.{◌≡◌, ◌∙◌, refl, sym, ap, subst, ℕ, List, Bool, true, false, true≢false, Option, Some, None, inl, inr}
+use Rattle.std.specs.Prelude.{IsSomeAnd, IsTrue, MatchOption, if◌then◌else◌, is_some, option_map, ◌↔◌, ◌≤◌, unwrap_or}
+use Rattle.disk.specs.Ports.{AnsweredCalls}
 use Rattle.disk.specs.declared.block.BlockNo.{BlockNo}
 use Rattle.model.specs.Calls.{begins_transaction, is_answered_stable}
 use Rattle.model.specs.Refused.{refused}
@@ -10,37 +11,38 @@ use Rattle.nfs_types.specs.declared.reply.Reply.TheVariants.{Null}
 use Rattle.nfs_types.specs.declared.status.Status.TheVariants as status
 use Rattle.objects.specs.declared.addr.Addr.{Addr}
 use Rattle.objects.specs.declared.mode.Mode.{Mode}
-use Rattle.objects.specs.declared.mode.Mode.TheVariants as modes
 use Rattle.procs.specs.Outcome.{Outcome}
-use Rattle.procs.specs.Steps.{IsStepOf}
-use Rattle.procs.specs.declared.next.Plan.TheVariants as plan
+use Rattle.store_promise.specs.Aims.{is_barred}
 use Rattle.store_promise.specs.Verdicts.{cause_of, refusal}
+use Rattle.store_promise.specs.declared.aims.Aim.TheVariants as aim
 use Rattle.store_promise.specs.declared.answers.CallAnswer.{CallAnswer}
+use Rattle.store_promise.specs.declared.answers.Entry.{Entry}
 use Rattle.store_promise.specs.declared.answers.Verdict.{Verdict}
 use Rattle.store_promise.specs.declared.answers.Verdict.TheVariants as verdict
 use Rattle.store_promise.specs.declared.events.Cause.{Cause}
 use Rattle.store_promise.specs.declared.events.Cause.TheVariants as cause
-use Rattle.store_promise.specs.declared.events.Ending.TheVariants as ending
+use Rattle.store_promise.specs.declared.events.Committing.TheVariants as committing
 use Rattle.store_promise.specs.declared.events.Step.{Step}
 use Rattle.store_promise.specs.declared.events.Step.TheVariants as step
 use Rattle.store_workers.proofs.WorkCases.{Cases, by_cases}
+use Rattle.store_workers.specs.SourceReads.{HasReadFrom}
 use Rattle.store_workers.specs.Telling.{told}
-use Rattle.store_promise.specs.Aims.{is_barred}
-use Rattle.store_promise.specs.declared.aims.Aim.TheVariants as aim
+use Rattle.store_workers.specs.Vouched.{Vouches, vouched_entry}
 use Rattle.store_workers.specs.WorkerAnswers.{after_commit, asked_wanted, begun_claimed, begun_wanted}
-use Rattle.store_workers.specs.WorkerAnswers.{known_claimed, known_wanted, phase_claimed, phase_wanted}
+use Rattle.store_workers.specs.WorkerAnswers.{committing_of, known_claimed, known_wanted, phase_claimed, phase_wanted}
 use Rattle.store_workers.specs.WorkerAnswers.{told_of, with_answer, with_entry}
-use Rattle.store_workers.specs.WorkerSteps.{GoesOn, HasBegun, HasClaimed, HasCommitted, HasGivenBack}
-use Rattle.store_workers.specs.WorkerSteps.{HasWanted, IsNext, IsTold, Side, Waits, none_begun, numbered}
-use Rattle.store_workers.specs.WorkerSteps.{phase_given, planned_of, with_snap}
+use Rattle.store_workers.specs.WorkerSteps.{GoesOn, HasClaimed, HasGivenBack}
+use Rattle.store_workers.specs.WorkerSteps.{HasWanted, IsTold, Side, Waits, none_begun, with_snap}
+use Rattle.store_workers.specs.declared.workers.Worker.{Worker}
 use Rattle.store_workers.specs.declared.workers.parts.Job as own
 use Rattle.store_workers.specs.declared.workers.parts.Phase.{Phase}
 use Rattle.store_workers.specs.declared.workers.parts.Phase.TheVariants.{Idle, Called, Planning}
 use Rattle.store_workers.specs.declared.workers.parts.Phase.TheVariants.{Reading, Read}
 use Rattle.store_workers.specs.declared.workers.parts.Phase.TheVariants.{Refused, Again, Waiting}
 use Rattle.store_workers.specs.declared.workers.parts.State.{State}
+use Rattle.txn.specs.Core.{CoreState}
 use Rattle.txn.specs.Fetch.{Fetch}
-use Rattle.txn.specs.Outcomes.{IsClaimed, IsCommit, IsWanted, TakesPlace}
+use Rattle.txn.specs.Receipts.{Given}
 use Rattle.txn.specs.declared.outcomes.Claim.{Claim}
 use Rattle.txn.specs.declared.outcomes.Claim.TheVariants as claim
 use Rattle.txn.specs.declared.outcomes.Commit.{Commit}
@@ -49,15 +51,13 @@ use Rattle.txn.specs.declared.outcomes.Want.{Want}
 use Rattle.txn.specs.declared.outcomes.Want.TheVariants as want
 use Rattle.wal_law.specs.Log.{settled_place}
 use Rattle.wal_law.specs.declared.outcomes.Seq.{Seq}
-use Rattle.pool_jobs.specs.declared.job.Job.{Job}
-use Rattle.pool_jobs.specs.declared.answer.Answer.{Answer}
-use Rattle.disk.specs.Ports.{AnsweredCalls}
-use Rattle.store_workers.specs.SourceReads.{HasReadFrom}
-use Rattle.store_workers.specs.declared.workers.Worker.{Worker}
-use Rattle.pool.specs.Answers.{AnswersJob, IsCommittedFor, IsOfItsChange}
-use Rattle.pool.specs.Seated.{GivesFor, HasCall, IsReadyFor, IsSeated, StandsWith, WaitsWith}
-use Rattle.pool.specs.Stepping.{ReadsFrom, answer_with}
+use Rattle.pool_answers.specs.Evident.{Answered, IsInItsPlace, IsOwn}
+use Rattle.pool_jobs.specs.Sent.{Sent}
+use Rattle.pool.specs.Answers.{GivesBy, GivesFor, body_of, errand_after, errand_with, given_to, kept, way_by}
+use Rattle.pool.specs.Seated.{HasCall, IsOf, IsSeated, StandsWith, WaitsWith}
+use Rattle.pool.specs.Stepping.{ReadsFrom}
 use Rattle.pool.specs.Working.{Working}
+use Rattle.pool.specs.declared.errand.Errand.{Errand}
 
 -- what holds of what there is
 at_some : {X : Type 0} (P : X → Type 0) (found : Option X) (x : X) → found ≡ Some x → IsSomeAnd found P → P x
@@ -66,155 +66,178 @@ at_some {X = X} P found x is all = subst (λ (o : Option X). IsSomeAnd o P) is a
 some_inj : {X : Type 0} {a b : X} → Some a ≡ Some b → a ≡ b
 some_inj {X = X} {a = a} is = ap (λ (o : Option X). unwrap_or o a) is
 
--- the call and the credential of the job
-abbrev IsOf : Job → own.Job → Type 0
-IsOf job mine = (mine.ctx.credential ≡ job.credential) × (mine.call ≡ job.call)
+-- nothing was shown
+none_shown : (shown : Option (Given Outcome)) → option_map vouched_entry shown ≡ None → shown ≡ None
+none_shown None is = refl
+none_shown (Some given) is = absurd (true≢false (ap (λ (o : Option Entry). is_some o) is))
 
--- what is left of a worker with this job
-record Leaves (job : Job) (state : State) : Type 0 where
-  pub stands : StandsWith (Some job) state.phase (told state)
-  pub gives : GivesFor (Some job) state.work.answer
+-- this was shown
+some_shown : (shown : Option (Given Outcome)) (entry : Entry) → option_map vouched_entry shown ≡ Some entry
+    → (given : Given Outcome) × (shown ≡ Some given) × (vouched_entry given ≡ entry)
+some_shown None entry is = absurd (true≢false (sym (ap (λ (o : Option Entry). is_some o) is)))
+some_shown (Some given) entry is = (given, refl, some_inj is)
 
-module _ (job : Job) (old new : Side) (none : old.worker.work.answer ≡ None) where
+-- Once its call is answered it is idle; else it stands as before.
+abbrev StandsAfter : Option Sent → Option (Given Outcome) → Option CallAnswer → State → Type 0
+StandsAfter ticket voucher None state = StandsWith ticket voucher state.phase (told state)
+StandsAfter ticket voucher (Some given) state = state.phase ≡ Idle
+
+-- what a step leaves of a worker with this job, and of what shows its commit
+record Leaves (sent : Sent) (voucher : Option (Given Outcome)) (core : CoreState) (made : Option Step) (state : State)
+    : Type 0 where
+  pub stands : StandsAfter (Some sent) voucher state.work.answer state
+  pub gives : given_to core made (Some sent) voucher state.work.answer
+
+in_its_place : (call : Call) (why : Cause) → IsInItsPlace call (body_of (refusal call why))
+in_its_place call cause.NoMemory = inl refl
+in_its_place call cause.Io = inr (inl refl)
+in_its_place call cause.Spent = inr (inr refl)
+
+module _ (sent : Sent) (before shown : Option (Given Outcome)) (old new : Side) (none : old.worker.work.answer ≡ None) where
+  abbrev keeping : Option (Given Outcome)
+  keeping = kept before shown
+
   abbrev LeavesIt : Phase → Option Step → Type 0
-  LeavesIt phase made = old.worker.phase ≡ phase → StandsWith (Some job) phase old.worker → Leaves job new.worker
+  LeavesIt phase made = old.worker.phase ≡ phase → StandsWith (Some sent) before phase old.worker
+      → Vouches made new.worker shown → Leaves sent keeping new.core made new.worker
 
-  so : (state : State) → new.worker ≡ state → Leaves job state → Leaves job new.worker
-  so state is leaves = subst (λ (s : State). Leaves job s) (sym is) leaves
-
-  nothing : (state : State) → state.work.answer ≡ None → GivesFor (Some job) state.work.answer
-  nothing state is = subst (λ (a : Option CallAnswer). GivesFor (Some job) a) (sym is) tt
+  so : (made : Option Step) (state : State) → new.worker ≡ state → Leaves sent keeping new.core made state
+      → Leaves sent keeping new.core made new.worker
+  so made state is leaves = subst (λ (s : State). Leaves sent keeping new.core made s) (sym is) leaves
 
   -- it goes on with its call
-  stays : (state : State) → state.work.answer ≡ None → StandsWith (Some job) state.phase (told state)
-      → Leaves job state
-  stays state is stands = record { stands = stands; gives = nothing state is }
+  stays : (made : Option Step) (state : State) → state.work.answer ≡ None
+      → StandsWith (Some sent) keeping state.phase (told state) → Leaves sent keeping new.core made state
+  stays made state is stands = record {
+    stands = subst (λ (a : Option CallAnswer). StandsAfter (Some sent) keeping a state) (sym is) stands;
+    gives = subst (λ (a : Option CallAnswer). given_to new.core made (Some sent) keeping a) (sym is) tt;
+  }
 
-  unchanged : (phase : Phase) → old.worker.phase ≡ phase → StandsWith (Some job) phase old.worker
-      → StandsWith (Some job) phase (told old.worker) → new.worker ≡ old.worker → Leaves job new.worker
-  unchanged phase phase_is stands going is = so old.worker is (stays old.worker none
-      (subst (λ (p : Phase). StandsWith (Some job) p (told old.worker)) (sym phase_is) going))
+  unchanged : (made : Option Step) (phase : Phase) → old.worker.phase ≡ phase
+      → StandsWith (Some sent) keeping phase (told old.worker) → new.worker ≡ old.worker
+      → Leaves sent keeping new.core made new.worker
+  unchanged made phase phase_is going is = so made old.worker is (stays made old.worker none
+      (subst (λ (p : Phase). StandsWith (Some sent) keeping p (told old.worker)) (sym phase_is) going))
 
   -- it gives an answer, and is idle
-  answers : (base : State) (heard : Verdict) (place : Option Seq)
-      → AnswersJob job (record { verdict = heard; place = place }) → new.worker ≡ with_answer heard place base
-      → Leaves job new.worker
-  answers base heard place is worker =
-      so (with_answer heard place base) worker (record { stands = tt; gives = is })
-
-  -- it is refused
-  refuses : (base : State) (mine : own.Job) (why : Cause) → IsOf job mine
-      → new.worker ≡ with_answer (refusal mine.call why) None base → Leaves job new.worker
-  refuses base mine why of worker = answers base (refusal mine.call why) None
-      (inr (inl (why, ap (λ (call : Call). refusal call why) of.1))) worker
-
-  replies : (mine : own.Job) → IsOf job mine → begins_transaction mine.call ≡ false
-      → new.worker ≡ with_answer (verdict.Reply Null) None old.worker → Leaves job new.worker
-  replies mine of served worker = answers old.worker (verdict.Reply Null) None
-      (inr (inr (
-        sym (ap begins_transaction of.1) ∙ served,
-        refl,
-      ))) worker
+  answers : (made : Option Step) (base : State) (heard : Verdict) (place : Option Seq)
+      → GivesBy new.core (way_by made) sent keeping heard → new.worker ≡ with_answer heard place base
+      → Leaves sent keeping new.core made new.worker
+  answers made base heard place is worker =
+      so made (with_answer heard place base) worker (record { stands = refl; gives = is })
 
   -- one that is kept off waits, or begins again: its call stays
-  kept_off : (above : Bool) (state : State) → HasCall state job
-      → StandsWith (Some job) (if above then Again else Planning) state
+  kept_off : (above : Bool) (state : State) → HasCall state sent
+      → StandsWith (Some sent) keeping (if above then Again else Planning) state
   kept_off true state call = call
   kept_off false state call = call
 
-  wants : (tx : ℕ) (addr : Addr) (mode : Mode) (made : Step) (has : HasWanted tx addr mode old made new) → HasCall old.worker job
-      → Leaves job new.worker
-  wants tx addr mode made has call = so _ has.worker (by has.answer)
+  wants : (tx : ℕ) (addr : Addr) (mode : Mode) (made : Step) (tells : Option Step) (has : HasWanted tx addr mode old made new)
+      → HasCall old.worker sent → Leaves sent keeping new.core tells new.worker
+  wants tx addr mode made tells has call = so tells _ has.worker (by has.answer)
     where
-      by : (answer : Want) → Leaves job (record (with_snap new.worker old.worker) {
+      by : (answer : Want) → Leaves sent keeping new.core tells (record (with_snap new.worker old.worker) {
         phase = phase_wanted addr mode answer old.worker.known;
         begun = begun_wanted answer;
         asked = asked_wanted addr mode answer old.worker.asked;
         known = known_wanted addr mode answer (with_snap new.worker old.worker).known;
       })
-      by (want.Held back bytes) = stays _ none call
-      by (want.Fetch back io) = stays _ none call
-      by (want.Busy back) = stays _ none (kept_off (is_barred (aim.Object addr mode) old.worker.known.taken) _ call)
-      by (want.Loading back) = stays _ none (kept_off (is_barred (aim.Object addr mode) old.worker.known.taken) _ call)
-      by (want.Outside back) = stays _ none call
-      by (want.NoMemory back) = stays _ none call
+      by (want.Held back bytes) = stays tells _ none call
+      by (want.Fetch back io) = stays tells _ none call
+      by (want.Busy back) = stays tells _ none (kept_off (is_barred (aim.Object addr mode) old.worker.known.taken) _ call)
+      by (want.Loading back) = stays tells _ none (kept_off (is_barred (aim.Object addr mode) old.worker.known.taken) _ call)
+      by (want.Outside back) = stays tells _ none call
+      by (want.NoMemory back) = stays tells _ none call
 
-  claims : (tx : ℕ) (block : BlockNo) (made : Step) (has : HasClaimed tx block old made new)
-      → HasCall old.worker job → Leaves job new.worker
-  claims tx block made has call = so _ has.worker (by has.answer)
+  claims : (tx : ℕ) (block : BlockNo) (made : Step) (tells : Option Step) (has : HasClaimed tx block old made new)
+      → HasCall old.worker sent → Leaves sent keeping new.core tells new.worker
+  claims tx block made tells has call = so tells _ has.worker (by has.answer)
     where
-      by : (answer : Claim) → Leaves job (record (with_snap new.worker old.worker) {
+      by : (answer : Claim) → Leaves sent keeping new.core tells (record (with_snap new.worker old.worker) {
         phase = phase_claimed block answer old.worker.known;
         begun = begun_claimed answer;
         known = known_claimed block answer (with_snap new.worker old.worker).known;
       })
-      by (claim.Held back) = stays _ none call
-      by (claim.Busy back) = stays _ none (kept_off (is_barred (aim.Claim block) old.worker.known.taken) _ call)
-      by (claim.Loading back) = stays _ none (kept_off (is_barred (aim.Claim block) old.worker.known.taken) _ call)
-      by (claim.Outside back) = stays _ none call
-      by (claim.NoMemory back) = stays _ none call
+      by (claim.Held back) = stays tells _ none call
+      by (claim.Busy back) = stays tells _ none (kept_off (is_barred (aim.Claim block) old.worker.known.taken) _ call)
+      by (claim.Loading back) = stays tells _ none (kept_off (is_barred (aim.Claim block) old.worker.known.taken) _ call)
+      by (claim.Outside back) = stays tells _ none call
+      by (claim.NoMemory back) = stays tells _ none call
 
-  module _ (mine : own.Job) (mine_is : old.worker.work.job ≡ Some mine) (of : IsOf job mine) (tx : ℕ)
-      (done : Outcome) (next : IsNext old.worker (plan.Done done)) (call : HasCall old.worker job) where
+  module _ (mine : own.Job) (of : IsOf sent mine) (done : Outcome) (call : HasCall old.worker sent) where
     abbrev planned : State
     planned = record (with_snap new.worker old.worker) { begun = none_begun }
 
-    -- the plan was for the job's own call
-    same_job : next.job ≡ mine
-    same_job = some_inj (sym next.job_is ∙ mine_is)
+    module _ (blocks : List BlockNo) (place : Seq) (given : Given Outcome) (shown_is : shown ≡ Some given)
+        (entry : vouched_entry given ≡ record { ctx = mine.ctx; call = mine.call; reply = done.reply })
+        (place_is : given.place ≡ place) where
+      abbrev commit_made : Option Step
+      commit_made = Some (step.Commit blocks (committing.Committed place))
 
-    module _ (place : Seq) (is : TakesPlace old.core tx (planned_of done) place.0 new.core) where
-      for_job : IsCommittedFor job place done.reply
-      for_job = record {
-        ctx = next.job.ctx;
-        credential = ap (λ (j : own.Job). j.ctx.credential) same_job ∙ of.0;
-        geometry = next.snap.geometry;
-        done = done;
-        planned = subst (λ (c : Call). IsStepOf next.snap.geometry next.job.ctx c done)
-            (ap (λ (j : own.Job). j.call) same_job ∙ of.1) next.is_step;
-        reply_is = refl;
-        before = old.core;
-        after = new.core;
-        tx = tx;
-        committed = is;
+      after_is : keeping ≡ Some given
+      after_is = ap (λ (s : Option (Given Outcome)). kept before s) shown_is
+
+      mine_own : IsOwn sent given.change
+      mine_own = record {
+        call = ap (λ (e : Entry). e.call) entry ∙ of.call;
+        credential = ap (λ (e : Entry). e.ctx.credential) entry ∙ of.credential;
+        moment = ap (λ (e : Entry). e.ctx.moment) entry ∙ of.moment;
       }
+
+      reply_is : given.change.reply ≡ done.reply
+      reply_is = ap (λ (e : Entry). e.reply) entry
 
       placed : (stable : Bool) → is_answered_stable mine.call ≡ stable
-          → Leaves job (with_entry mine done.reply (told_of stable mine done.reply place planned))
+          → Leaves sent (Some given) new.core commit_made (with_entry mine done.reply (told_of stable mine done.reply place planned))
       placed true stable = record {
-        stands = record {
-          reply = done.reply;
-          reply_is = refl;
-          committed = for_job;
-          broken_is = ap (λ (c : Call). Some (refused status.Io c)) of.1;
-        };
-        gives = nothing (with_entry mine done.reply (told_of true mine done.reply place planned)) none;
+        stands = subst (λ (a : Option CallAnswer). StandsAfter (Some sent) (Some given) a
+            (with_entry mine done.reply (told_of true mine done.reply place planned))) (sym none) (record {
+              place_is = place_is;
+              own = mine_own;
+              reply_is = ap (λ (r : Reply). Some r) (sym reply_is);
+              broken_is = ap (λ (c : Call). Some (refused status.Io c)) of.call;
+            });
+        gives = subst (λ (a : Option CallAnswer). given_to new.core commit_made (Some sent) (Some given) a) (sym none) tt;
       }
       placed false stable = record {
-        stands = tt;
-        gives = inl (record {
-          place = place;
-          place_is = refl;
-          reply = done.reply;
-          told = refl;
-          committed = for_job;
-          stable = λ must. absurd (true≢false (sym must ∙ sym (ap is_answered_stable of.1) ∙ stable));
-        });
+        stands = refl;
+        gives = (
+          record { own = mine_own; told_is = ap (λ (r : Reply). verdict.Reply r) (sym reply_is) },
+          sym (ap is_answered_stable of.call) ∙ stable,
+        );
       }
 
-    commits_by : (answer : Commit Outcome) → IsCommit old.core tx (planned_of done) done answer new.core
-        → Leaves job (after_commit mine done.reply answer planned)
-    commits_by (commit.Committed receipt) is = placed receipt.place is (is_answered_stable mine.call) refl
-    commits_by (commit.Full back same) is = stays _ none call
-    commits_by (commit.Foreign back same) is = stays _ none call
-    commits_by (commit.NoMemory back same) is = stays _ none call
-    commits_by (commit.Broken back same) is = stays _ none call
-    commits_by (commit.Spent back same) is = stays _ none call
+    commits_by : (blocks : List BlockNo) (answer : Commit Outcome) → new.worker ≡ after_commit mine done.reply answer planned
+        → Vouches (Some (step.Commit blocks (committing_of answer))) new.worker shown
+        → Leaves sent keeping new.core (Some (step.Commit blocks (committing_of answer))) (after_commit mine done.reply answer planned)
+    commits_by blocks (commit.Committed receipt) worker vouches =
+        let entry_is = vouches.entry ∙ ap (λ (s : State). s.work.entry) worker in
+        let is = some_shown shown _ entry_is in
+        let place_is : is.0.place ≡ receipt.place =
+        some_inj (sym (ap (λ (s : Option (Given Outcome)). option_map (λ (g : Given Outcome). g.place) s) is.1) ∙ vouches.place) in
+        subst (λ (v : Option (Given Outcome)). Leaves sent v new.core (Some (step.Commit blocks (committing_of {C = Outcome} (commit.Committed receipt))))
+        (after_commit mine done.reply (commit.Committed receipt) planned))
+        (sym (after_is blocks receipt.place is.0 is.1 is.2 place_is))
+        (placed_at blocks receipt is.0 is.1 is.2 place_is)
+      where
+        placed_at : (blocks : List BlockNo) (receipt given : Given Outcome) (shown_is : shown ≡ Some given)
+            (entry : vouched_entry given ≡ record { ctx = mine.ctx; call = mine.call; reply = done.reply })
+            (place_is : given.place ≡ receipt.place)
+            → Leaves sent (Some given) new.core (Some (step.Commit blocks (committing_of {C = Outcome} (commit.Committed receipt))))
+            (after_commit mine done.reply (commit.Committed receipt) planned)
+        placed_at blocks receipt given shown_is entry place_is =
+            let it = placed blocks receipt.place given shown_is entry place_is (is_answered_stable mine.call) refl in
+            record { stands = it.stands; gives = it.gives }
+    commits_by blocks (commit.Full back same) worker vouches = stays _ _ none call
+    commits_by blocks (commit.Foreign back same) worker vouches = stays _ _ none call
+    commits_by blocks (commit.NoMemory back same) worker vouches = stays _ _ none call
+    commits_by blocks (commit.Broken back same) worker vouches = stays _ _ none call
+    commits_by blocks (commit.Spent back same) worker vouches = stays _ _ none call
 
-  gives_back : (ok : Bool) (io : Fetch) (made : Step) → HasGivenBack ok io old made new → HasCall old.worker job
-      → Leaves job new.worker
-  gives_back true io made has call = so _ has.worker (stays _ none call)
-  gives_back false io made has call = so _ has.worker (stays _ none call)
+  gives_back : (ok : Bool) (io : Fetch) (made : Step) (tells : Option Step) → HasGivenBack ok io old made new
+      → HasCall old.worker sent → Leaves sent keeping new.core tells new.worker
+  gives_back true io made tells has call = so tells _ has.worker (stays tells _ none call)
+  gives_back false io made tells has call = so tells _ has.worker (stays tells _ none call)
 
   abbrev without_reply : State
   without_reply = record old.worker { work = record old.worker.work { reply = None } }
@@ -222,109 +245,143 @@ module _ (job : Job) (old new : Side) (none : old.worker.work.answer ≡ None) w
   abbrev without_broken : State
   without_broken = record old.worker { work = record old.worker.work { broken_reply = None } }
 
-  waits : (place : Seq) (made : Step) (has : Waits place old made new) → old.worker.phase ≡ Waiting place
-      → WaitsWith place old.worker job → Leaves job new.worker
-  waits place made has phase_is stands = by has.settled old.core.log.broken has.told has.settled_is
-    where
-      by : (settled broken : Bool) → IsTold settled broken place old.worker new.worker
-          → IsTrue settled ↔ (place.0 ≤ settled_place old.core.log) → Leaves job new.worker
-      by true broken told_it settled_is =
-          answers without_reply (verdict.Reply stands.reply) (Some place) (inl (record {
-            place = place;
-            place_is = refl;
-            reply = stands.reply;
-            told = refl;
-            committed = stands.committed;
-            stable = λ must. (old.core, settled_is.0 refl);
-          })) (at_some (λ (reply : Reply). new.worker
-          ≡ with_answer (verdict.Reply reply) (Some place) without_reply)
-          old.worker.work.reply stands.reply stands.reply_is told_it)
-      by false true told_it settled_is =
-          answers without_broken (verdict.Reply (refused status.Io job.call)) (Some place)
-          (inr (inl (cause.Io, refl))) (at_some (λ (reply : Reply). new.worker
-          ≡ with_answer (verdict.Reply reply) (Some place) without_broken)
-          old.worker.work.broken_reply (refused status.Io job.call) stands.broken_is told_it)
-      by false false told_it settled_is = unchanged (Waiting place) phase_is stands (record {
-        reply = stands.reply;
-        reply_is = stands.reply_is;
-        committed = stands.committed;
-        broken_is = stands.broken_is;
-      }) told_it
+  module _ (given : Given Outcome) (place : Seq) (after_is : keeping ≡ Some given)
+      (stands : WaitsWith place old.worker sent given) (core_is : new.core ≡ old.core)
+      (phase_is : old.worker.phase ≡ Waiting place) where
+    waits_by : (settled broken : Bool) → IsTold settled broken place old.worker new.worker
+        → IsTrue settled ↔ (place.0 ≤ settled_place old.core.log)
+        → Leaves sent keeping new.core (Some (step.Stable place settled)) new.worker
+    waits_by true broken told_it settled_is =
+        answers (Some (step.Stable place true)) without_reply (verdict.Reply given.change.reply) (Some place)
+        (subst (λ (v : Option (Given Outcome)). GivesBy new.core (way_by (Some (step.Stable place true))) sent v (verdict.Reply given.change.reply))
+        (sym after_is) (
+          record { own = stands.own; told_is = refl },
+          stands.place_is,
+          subst (λ (c : CoreState). place.0 ≤ settled_place c.log) (sym core_is) (settled_is.0 refl),
+        )) (at_some (λ (reply : Reply). new.worker ≡ with_answer (verdict.Reply reply) (Some place) without_reply)
+        old.worker.work.reply given.change.reply stands.reply_is told_it)
+    waits_by false true told_it settled_is =
+        answers (Some (step.Stable place false)) without_broken (verdict.Reply (refused status.Io sent.job.call)) (Some place)
+        (inr (inl refl)) (at_some (λ (reply : Reply). new.worker
+        ≡ with_answer (verdict.Reply reply) (Some place) without_broken)
+        old.worker.work.broken_reply (refused status.Io sent.job.call) stands.broken_is told_it)
+    waits_by false false told_it settled_is = unchanged (Some (step.Stable place false)) (Waiting place) phase_is
+        (subst (λ (v : Option (Given Outcome)). StandsWith (Some sent) v (Waiting place) (told old.worker)) (sym after_is) (record {
+          place_is = stands.place_is;
+          own = stands.own;
+          reply_is = stands.reply_is;
+          broken_is = stands.broken_is;
+        })) told_it
+
+  waits_with : (voucher : Option (Given Outcome)) → before ≡ voucher → (place : Seq) (made : Step) (has : Waits place old made new)
+      → old.worker.phase ≡ Waiting place → IsSomeAnd voucher (WaitsWith place old.worker sent)
+      → Vouches (Some (step.Stable place has.settled)) new.worker shown
+      → Leaves sent keeping new.core (Some (step.Stable place has.settled)) new.worker
+  waits_with None before_is place made has phase_is stands vouches = absurd stands
+  waits_with (Some given) before_is place made has phase_is stands vouches =
+      let shown_is = none_shown shown vouches.entry in
+      let after_is : keeping ≡ Some given = ap (λ (s : Option (Given Outcome)). kept before s) shown_is ∙ before_is in
+      waits_by given place after_is stands has.core phase_is has.settled old.core.log.broken has.told has.settled_is
+
+  own_job : (state : State) (mine : own.Job) → state.work.job ≡ Some mine → HasCall state sent → IsOf sent mine
+  own_job state mine is call = at_some (IsOf sent) state.work.job mine is call
 
   cases : Cases old new LeavesIt
   cases = record {
-    idle = λ is phase_is stands. unchanged Idle phase_is tt tt (ap (λ (s : Side). s.worker) is);
-    reading = λ is phase_is stands. unchanged Reading phase_is stands stands (ap (λ (s : Side). s.worker) is);
-    begun = λ mine number mine_is served has phase_is stands.
-        so _ has.worker (stays _ none (at_some (IsOf job) old.worker.work.job mine mine_is stands));
-    not_begun = λ mine why mine_is served no core worker phase_is stands.
-        refuses old.worker mine (cause_of why) (at_some (IsOf job) old.worker.work.job mine mine_is stands) worker;
-    replied = λ mine mine_is served core worker phase_is stands.
-        replies mine (at_some (IsOf job) old.worker.work.job mine mine_is stands) served worker;
-    wanted = λ tx addr mode made tx_is next has phase_is stands. wants tx addr mode made has stands;
-    claimed = λ tx block made tx_is next has phase_is stands. claims tx block made has stands;
-    committed = λ mine tx done made tx_is next left mine_is has phase_is stands.
-        so _ has.worker (commits_by mine mine_is (at_some (IsOf job) old.worker.work.job mine mine_is stands) tx
-        done next stands has.answer has.core);
-    lacked = λ tx made tx_is left has phase_is stands.
-        answers (record (with_snap new.worker old.worker) { begun = none_begun }) verdict.NoMemory None (inr (inl (cause.NoMemory, refl))) has.worker;
-    given = λ ok io made io_is has phase_is stands. gives_back ok io made has stands;
-    refused = λ why mine tx made mine_is tx_is has phase_is stands.
-        refuses (record old.worker { begun = none_begun }) mine why (at_some (IsOf job) old.worker.work.job mine mine_is stands) has.worker;
-    left = λ tx made tx_is has phase_is stands. so _ has.worker (stays _ none stands);
-    waited = λ place made has phase_is stands. waits place made has phase_is stands;
+    idle = λ is phase_is stands vouches. unchanged None Idle phase_is tt (ap (λ (s : Side). s.worker) is);
+    reading = λ is phase_is stands vouches. unchanged None Reading phase_is stands (ap (λ (s : Side). s.worker) is);
+    begun = λ mine number mine_is served has phase_is stands vouches.
+        let of = own_job old.worker mine mine_is stands in
+        so _ _ has.worker (stays _ _ none (record { call = of.call; credential = of.credential; moment = of.moment }));
+    not_begun = λ mine why mine_is served no core worker phase_is stands vouches.
+        let of = own_job old.worker mine mine_is stands in
+        answers _ old.worker (refusal mine.call (cause_of why)) None
+        (subst (λ (c : Call). IsInItsPlace sent.job.call (body_of (refusal c (cause_of why)))) (sym of.call)
+        (in_its_place sent.job.call (cause_of why))) worker;
+    replied = λ mine mine_is served core worker phase_is stands vouches.
+        let of = own_job old.worker mine mine_is stands in
+        answers _ old.worker (verdict.Reply Null) None
+        (sym (ap begins_transaction of.call) ∙ served, refl) worker;
+    wanted = λ tx addr mode made tx_is next has phase_is stands vouches. wants tx addr mode made _ has stands;
+    claimed = λ tx block made tx_is next has phase_is stands vouches. claims tx block made _ has stands;
+    committed = λ mine tx done made tx_is next left mine_is has phase_is stands vouches.
+        let of = own_job old.worker mine mine_is stands in
+        so _ _ has.worker (commits_by mine of done stands _ has.answer has.worker vouches);
+    lacked = λ tx made tx_is left has phase_is stands vouches.
+        answers _ (record (with_snap new.worker old.worker) { begun = none_begun }) verdict.NoMemory None (inl refl) has.worker;
+    given = λ ok io made io_is has phase_is stands vouches. gives_back ok io made _ has stands;
+    refused = λ why mine tx made mine_is tx_is has phase_is stands vouches.
+        let of = own_job old.worker mine mine_is stands in
+        answers _ (record old.worker { begun = none_begun }) (refusal mine.call why) None
+        (subst (λ (c : Call). IsInItsPlace sent.job.call (body_of (refusal c why))) (sym of.call)
+        (in_its_place sent.job.call why)) has.worker;
+    left = λ tx made tx_is has phase_is stands vouches. so _ _ has.worker (stays _ _ none stands);
+    waited = λ place made has phase_is stands vouches. waits_with before refl place made has phase_is stands vouches;
   }
 
--- the same of a worker that may have no job
-pub record LeavesWith (job : Option Job) (state : State) : Type 0 where
-  pub stands : StandsWith job state.phase (told state)
-  pub gives : GivesFor job state.work.answer
+-- the same of a seat that may have no job
+pub record LeavesWith (ticket : Option Sent) (voucher : Option (Given Outcome)) (core : CoreState) (made : Option Step)
+    (state : State) : Type 0 where
+  pub stands : StandsAfter ticket voucher state.work.answer state
+  pub gives : given_to core made ticket voucher state.work.answer
 
-without : (old new : Side) (phase : Phase) (made : Option Step) → old.worker.phase ≡ phase
-    → old.worker.work.answer ≡ None → StandsWith None phase old.worker → GoesOn phase old made new
-    → LeavesWith None new.worker
-without old new Idle made phase_is none stands goes =
+without : (before later : Option (Given Outcome)) (old new : Side) (phase : Phase) (made : Option Step)
+    → old.worker.phase ≡ phase → old.worker.work.answer ≡ None → StandsWith None before phase old.worker
+    → GoesOn phase old made new → LeavesWith None later new.core made new.worker
+without before later old new Idle made phase_is none stands goes =
     let is = ap (λ (s : Side). s.worker) goes.1 in
-    subst (λ (s : State). LeavesWith None s) (sym is) (record {
-      stands = subst (λ (p : Phase). StandsWith None p (told old.worker)) (sym phase_is) tt;
-      gives = subst (λ (a : Option CallAnswer). GivesFor None a) (sym none) tt;
+    subst (λ (s : State). LeavesWith None later new.core made s) (sym is) (record {
+      stands = subst (λ (a : Option CallAnswer). StandsAfter None later a old.worker) (sym none)
+          (subst (λ (p : Phase). StandsWith None later p (told old.worker)) (sym phase_is) tt);
+      gives = subst (λ (a : Option CallAnswer). given_to new.core made None later a) (sym none) tt;
     })
-without old new Called made phase_is none stands goes = absurd stands
-without old new Planning made phase_is none stands goes = absurd stands
-without old new Reading made phase_is none stands goes = absurd stands
-without old new (Read ok) made phase_is none stands goes = absurd stands
-without old new (Refused why) made phase_is none stands goes = absurd stands
-without old new Again made phase_is none stands goes = absurd stands
-without old new (Waiting place) made phase_is none stands goes = absurd stands
+without before later old new Called made phase_is none stands goes = absurd stands
+without before later old new Planning made phase_is none stands goes = absurd stands
+without before later old new Reading made phase_is none stands goes = absurd stands
+without before later old new (Read ok) made phase_is none stands goes = absurd stands
+without before later old new (Refused why) made phase_is none stands goes = absurd stands
+without before later old new Again made phase_is none stands goes = absurd stands
+without before later old new (Waiting place) made phase_is none stands goes = absurd stands
 
-pub stays_seated : (job : Option Job) (old new : Side) (made : Option Step)
-    → old.worker.work.answer ≡ None → StandsWith job old.worker.phase old.worker
-    → GoesOn old.worker.phase old made new → LeavesWith job new.worker
-stays_seated None old new made none stands goes = without old new old.worker.phase made refl none stands goes
-stays_seated (Some job) old new made none stands goes =
-    let left = by_cases old new (LeavesIt job old new none) (cases job old new none) old.worker.phase made goes refl
-    stands in
+pub stays_seated : (ticket : Option Sent) (before shown : Option (Given Outcome)) (old new : Side) (made : Option Step)
+    → old.worker.work.answer ≡ None → StandsWith ticket before old.worker.phase old.worker
+    → GoesOn old.worker.phase old made new → Vouches made new.worker shown
+    → LeavesWith ticket (kept before shown) new.core made new.worker
+stays_seated None before shown old new made none stands goes vouches =
+    without before (kept before shown) old new old.worker.phase made refl none stands goes
+stays_seated (Some sent) before shown old new made none stands goes vouches =
+    let left = by_cases old new (LeavesIt sent before shown old new none) (cases sent before shown old new none)
+    old.worker.phase made goes refl stands vouches in
     record { stands = left.stands; gives = left.gives }
 
-next_ready : (job : Option Job) (ready : Option Answer) (given : Option CallAnswer) → IsReadyFor job ready
-    → GivesFor job given → IsReadyFor job (answer_with job ready given)
-next_ready job ready None is gives = is
-next_ready (Some job) ready (Some given) is gives =
-    record { given = given; answer_is = refl; answers = gives }
-next_ready None ready (Some given) is gives = is
+-- an idle worker needs nothing of its job
+still_stands : (made : Option Step) (ticket : Option Sent) (voucher : Option (Given Outcome)) (ready : Option Answered)
+    (given : Option CallAnswer) (state : State) → StandsAfter ticket voucher given state
+    → StandsWith (errand_with made ticket voucher ready given).ticket (errand_with made ticket voucher ready given).voucher
+    state.phase (told state)
+still_stands made ticket voucher ready None state is = is
+still_stands made None voucher ready (Some given) state is =
+    subst (λ (p : Phase). StandsWith None voucher p (told state)) (sym is) tt
+still_stands made (Some sent) voucher ready (Some given) state is =
+    subst (λ (p : Phase). StandsWith None None p (told state)) (sym is) tt
 
 -- what a step leaves of a seat
-pub next_seated : (job : Option Job) (ready : Option Answer) (old new : Side) (made : Option Step)
-    → IsSeated old.worker job ready → GoesOn old.worker.phase old made new
-    → IsSeated (told new.worker) job (answer_with job ready new.worker.work.answer)
-next_seated job ready old new made seated goes =
-    let left = stays_seated job old new made seated.given seated.stands goes in
+pub next_seated : (errand : Errand) (shown : Option (Given Outcome)) (old new : Side) (made : Option Step)
+    → IsSeated old.worker errand → GoesOn old.worker.phase old made new → Vouches made new.worker shown
+    → IsSeated (told new.worker) (errand_after made errand shown new.worker.work.answer)
+next_seated errand shown old new made seated goes vouches =
+    let left = stays_seated errand.ticket errand.voucher shown old new made seated.given seated.stands goes vouches in
     record {
       entry = refl;
       given = refl;
-      stands = left.stands;
-      ready = next_ready job ready new.worker.work.answer seated.ready left.gives;
+      stands = still_stands made errand.ticket (kept errand.voucher shown) errand.answer new.worker.work.answer new.worker left.stands;
     }
+
+pub next_gives : (errand : Errand) (shown : Option (Given Outcome)) (old new : Side) (made : Option Step)
+    → IsSeated old.worker errand → GoesOn old.worker.phase old made new → Vouches made new.worker shown
+    → GivesFor new.core made errand shown new.worker.work.answer
+next_gives errand shown old new made seated goes vouches =
+    (stays_seated errand.ticket errand.voucher shown old new made seated.given seated.stands goes vouches).gives
 
 -- ---- a read
 

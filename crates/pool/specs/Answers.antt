@@ -1,80 +1,105 @@
--- What a seat hands over.
-use Rattle.std.specs.Prelude.{◌≡◌, ◌≤◌, ◌⊎◌, ℕ, true, false, Option, Some}
-use Rattle.layout.specs.declared.geometry.Geometry.{Geometry}
+-- What a step gives, and what it leaves of a job at its seat.
+use Rattle.std.specs.Prelude.{◌≡◌, ◌≤◌, true, false, Option, Some, None, IsSomeAnd}
 use Rattle.model.specs.Calls.{begins_transaction, is_answered_stable}
-use Rattle.nfs_types.specs.declared.ctx.Ctx.{Ctx}
-use Rattle.nfs_types.specs.declared.program.ProgramReply.TheVariants as program_replies
-use Rattle.nfs_types.specs.declared.reply.Reply.{Reply}
 use Rattle.nfs_types.specs.declared.reply.Reply.TheVariants.{Null}
 use Rattle.procs.specs.Outcome.{Outcome}
-use Rattle.procs.specs.Steps.{IsStepOf}
 use Rattle.rpc.specs.declared.refusal.Refusal.TheVariants.{SystemError}
 use Rattle.session_wire.specs.declared.message.ReplyBody.{ReplyBody}
 use Rattle.session_wire.specs.declared.message.ReplyBody.TheVariants as body
-use Rattle.store_promise.specs.Verdicts.{refusal}
 use Rattle.store_promise.specs.declared.answers.CallAnswer.{CallAnswer}
 use Rattle.store_promise.specs.declared.answers.Verdict.{Verdict}
 use Rattle.store_promise.specs.declared.answers.Verdict.TheVariants as verdict
-use Rattle.store_promise.specs.declared.events.Cause.{Cause}
-use Rattle.store_workers.specs.WorkerSteps.{planned_of}
+use Rattle.store_promise.specs.declared.events.Committing.{Committing}
+use Rattle.store_promise.specs.declared.events.Committing.TheVariants as committing
+use Rattle.store_promise.specs.declared.events.Step.{Step}
+use Rattle.store_promise.specs.declared.events.Step.TheVariants as step
 use Rattle.txn.specs.Core.{CoreState}
-use Rattle.txn.specs.Outcomes.{TakesPlace}
+use Rattle.txn.specs.Receipts.{Given}
 use Rattle.wal_law.specs.Log.{settled_place}
-use Rattle.wal_law.specs.declared.outcomes.Seq.{Seq}
-use Rattle.pool_jobs.specs.declared.answer.Answer.{Answer}
-use Rattle.pool_jobs.specs.declared.job.Job.{Job}
+use Rattle.pool_answers.specs.Evident.{Answered, IsInItsPlace, IsOwn, answer_to as made_of, with_reply}
+use Rattle.pool_answers.specs.declared.evidence.Evidence.{Evidence}
+use Rattle.pool_answers.specs.declared.evidence.Evidence.TheVariants as evidence
+use Rattle.pool_jobs.specs.Sent.{Sent}
+use Rattle.pool.specs.declared.errand.Errand.{Errand}
+use Rattle.pool.specs.declared.errand.Way.{Way}
+use Rattle.pool.specs.declared.errand.Way.TheVariants as way
 
 -- what came of a procedure, as the body of a message
 abbrev pub body_of : Verdict → ReplyBody
-body_of (verdict.Reply reply) = body.Done (program_replies.Nfs reply)
+body_of (verdict.Reply reply) = with_reply reply
 body_of verdict.NoMemory = body.Refused SystemError
 
--- it goes where the job came from
-abbrev pub answer_to : Job → CallAnswer → Answer
-answer_to job given = record {
-  key = job.key;
-  number = job.number;
-  xid = job.xid;
-  body = body_of given.verdict;
+-- what an answer rests on, by the step that gives it
+abbrev pub way_at : Committing → Way
+way_at (committing.Committed place) = way.Commit
+way_at committing.Full = way.InItsPlace
+way_at committing.Foreign = way.InItsPlace
+way_at committing.NoMemory = way.InItsPlace
+way_at committing.Broken = way.InItsPlace
+way_at committing.Spent = way.InItsPlace
+
+abbrev pub way_by : Option Step → Way
+way_by (Some (step.Commit added answer)) = way_at answer
+way_by (Some (step.Stable place true)) = way.Settled place
+way_by (Some step.Replied) = way.Nothing
+way_by _ = way.InItsPlace
+
+-- the evidence of it
+abbrev pub evidence_by : Way → Sent → Option (Given Outcome) → Evidence
+evidence_by way.Commit sent (Some given) = evidence.Committed sent given None
+evidence_by way.Commit sent None = evidence.InItsPlace sent
+evidence_by (way.Settled place) sent (Some given) = evidence.Committed sent given (Some place.0)
+evidence_by (way.Settled place) sent None = evidence.InItsPlace sent
+evidence_by way.Nothing sent voucher = evidence.Nothing sent
+evidence_by way.InItsPlace sent voucher = evidence.InItsPlace sent
+
+abbrev pub answer_of : Way → Sent → Option (Given Outcome) → Verdict → Answered
+answer_of by sent voucher told = made_of sent.job (body_of told) (evidence_by by sent voucher)
+
+-- what was committed is the job's own, and this is its reply
+pub record IsReplyOf (sent : Sent) (given : Given Outcome) (told : Verdict) : Type 0 where
+  pub own : IsOwn sent given.change
+  pub told_is : told ≡ verdict.Reply given.change.reply
+
+-- What a step may tell for a job: the reply of its change, at the commit where it needn't be stable, or once its place
+-- is settled; the one to a call that begins no transaction; or one of the three in its place.
+abbrev pub GivesBy : CoreState → Way → Sent → Option (Given Outcome) → Verdict → Type 0
+GivesBy core way.Commit sent voucher told = IsSomeAnd voucher (λ given. IsReplyOf sent given told
+    × (is_answered_stable sent.job.call ≡ false))
+GivesBy core (way.Settled place) sent voucher told = IsSomeAnd voucher (λ given. IsReplyOf sent given told
+    × (given.place ≡ place) × (place.0 ≤ settled_place core.log))
+GivesBy core way.Nothing sent voucher told = (begins_transaction sent.job.call ≡ false)
+    × (told ≡ verdict.Reply Null)
+GivesBy core way.InItsPlace sent voucher told = IsInItsPlace sent.job.call (body_of told)
+
+-- what shows the last commit
+abbrev pub kept : Option (Given Outcome) → Option (Given Outcome) → Option (Given Outcome)
+kept voucher (Some shown) = Some shown
+kept voucher None = voucher
+
+abbrev pub no_errand : Errand
+no_errand = record { ticket = None; voucher = None; answer = None }
+
+abbrev pub given_to : CoreState → Option Step → Option Sent → Option (Given Outcome) → Option CallAnswer → Type 0
+given_to core made ticket voucher None = Unit {0}
+given_to core made None voucher (Some given) = Unit {0}
+given_to core made (Some sent) voucher (Some given) = GivesBy core (way_by made) sent voucher given.verdict
+
+-- what a step gives may be told for the job
+abbrev pub GivesFor : CoreState → Option Step → Errand → Option (Given Outcome) → Option CallAnswer → Type 0
+GivesFor core made errand shown given = given_to core made errand.ticket (kept errand.voucher shown) given
+
+-- what a step leaves of a job: with the answer that it gives, the job is answered
+abbrev pub errand_with : Option Step → Option Sent → Option (Given Outcome) → Option Answered → Option CallAnswer
+    → Errand
+errand_with made ticket voucher ready None = record { ticket = ticket; voucher = voucher; answer = ready }
+errand_with made None voucher ready (Some given) = record { ticket = None; voucher = voucher; answer = ready }
+errand_with made (Some sent) voucher ready (Some given) = record {
+  ticket = None;
+  voucher = None;
+  answer = Some (answer_of (way_by made) sent voucher given.verdict);
 }
 
--- The reply is that of a change which was planned for the call and the credential of the job, and which a core
--- committed at this place.
-pub record IsCommittedFor (job : Job) (place : Seq) (reply : Reply) : Type 0 where
-  pub ctx : Ctx
-  pub credential : ctx.credential ≡ job.credential
-  pub geometry : Geometry
-  pub done : Outcome
-  pub planned : IsStepOf geometry ctx job.call done
-  pub reply_is : reply ≡ done.reply
-  pub before : CoreState
-  pub after : CoreState
-  pub tx : ℕ
-  pub committed : TakesPlace before tx (planned_of done) place.0 after
-
--- The reply of its committed change. Where it must be stable, a core had its place settled.
-pub record IsOfItsChange (job : Job) (given : CallAnswer) : Type 0 where
-  pub place : Seq
-  pub place_is : given.place ≡ Some place
-  pub reply : Reply
-  pub told : given.verdict ≡ verdict.Reply reply
-  pub committed : IsCommittedFor job place reply
-  pub stable : is_answered_stable job.call ≡ true → (core : CoreState) × (place.0 ≤ settled_place core.log)
-
--- one of the three in its place: a system error for want of memory, IO, or SERVERFAULT
-abbrev pub IsInItsPlace : Job → CallAnswer → Type 0
-IsInItsPlace job given = (why : Cause) × (given.verdict ≡ refusal job.call why)
-
--- the reply to a call that begins no transaction
-abbrev pub IsWithoutTransaction : Job → CallAnswer → Type 0
-IsWithoutTransaction job given = (begins_transaction job.call ≡ false)
-    × (given.verdict ≡ verdict.Reply Null)
-
-abbrev pub AnswersJob : Job → CallAnswer → Type 0
-AnswersJob job given = IsOfItsChange job given ⊎ (IsInItsPlace job given ⊎ IsWithoutTransaction job given)
-
--- What is handed over for a job: it bears the job's key and numbers.
-pub record HandsOver (job : Job) (answer : Answer) : Type 0 where
-  pub given : CallAnswer
-  pub answer_is : answer ≡ answer_to job given
-  pub answers : AnswersJob job given
+abbrev pub errand_after : Option Step → Errand → Option (Given Outcome) → Option CallAnswer → Errand
+errand_after made errand shown given =
+    errand_with made errand.ticket (kept errand.voucher shown) errand.answer given

@@ -2,7 +2,6 @@
 use Rattle.std.specs.Prelude.{◌≡◌, ℕ, true, false, Bool, Option, Some, None}
 use Rattle.disk.specs.Ports.{AnsweredCalls}
 use Rattle.nfs_types.specs.declared.ctx.Moment.{Moment}
-use Rattle.store_promise.specs.declared.answers.CallAnswer.{CallAnswer}
 use Rattle.store_promise.specs.declared.events.Committing.{Committing}
 use Rattle.store_promise.specs.declared.events.Committing.TheVariants as committing
 use Rattle.store_promise.specs.declared.events.Step.{Step}
@@ -11,34 +10,35 @@ use Rattle.store_promise.specs.declared.events.Wish.{Wish}
 use Rattle.store_promise.specs.declared.events.Wish.TheVariants as wish
 use Rattle.store_workers.specs.SourceReads.{HasReadFrom}
 use Rattle.store_workers.specs.Telling.{told}
+use Rattle.store_workers.specs.Vouched.{Vouches}
 use Rattle.store_workers.specs.Worker.{at_rest, ctx_of, with_call}
 use Rattle.store_workers.specs.WorkerSteps.{GoesOn, side}
 use Rattle.store_workers.specs.declared.workers.parts.Phase.TheVariants.{Idle}
 use Rattle.store_workers.specs.declared.workers.parts.State.{State}
 use Rattle.txn.specs.Core.{CoreState}
+use Rattle.txn.specs.Receipts.{Given}
+use Rattle.procs.specs.Outcome.{Outcome}
 use Rattle.pool_calls.specs.declared.turn.Turn.{Turn}
 use Rattle.pool_calls.specs.declared.turn.Turn.TheVariants as turn
-use Rattle.pool_jobs.specs.declared.answer.Answer.{Answer}
 use Rattle.pool_jobs.specs.declared.job.Job.{Job}
-use Rattle.pool.specs.Answers.{answer_to}
+use Rattle.pool.specs.Answers.{errand_after, no_errand}
 use Rattle.pool.specs.Working.{Working}
 use Rattle.pool.specs.declared.told.Told.{Told}
 use Rattle.pool.specs.declared.told.Told.TheVariants.{Nothing, Committed, KeptOff, Full}
 
 -- it has no job, and no answer lies ready
 abbrev pub IsFree : Working → Type 0
-IsFree w = (w.worker.phase ≡ Idle) × (w.answer ≡ None)
+IsFree w = (w.worker.phase ≡ Idle) × (w.errand.answer ≡ None)
 
 -- a worker that was handed nothing yet
 abbrev pub seated : Working
-seated = record { worker = at_rest; job = None; answer = None; told = Nothing }
+seated = record { worker = at_rest; errand = no_errand; told = Nothing }
 
 -- it was handed a job at this moment
 abbrev pub with_job : Job → Moment → Working → Working
 with_job job moment w = record {
   worker = with_call (ctx_of job.credential moment) job.call w.worker;
-  job = Some job;
-  answer = None;
+  errand = record { ticket = Some (record { job = job; moment = moment }); voucher = None; answer = None };
   told = Nothing;
 }
 
@@ -80,21 +80,17 @@ grown Nothing = 0
 grown KeptOff = 0
 grown Full = 0
 
--- what lies ready, with what the worker gives
-abbrev pub answer_with : Option Job → Option Answer → Option CallAnswer → Option Answer
-answer_with job ready None = ready
-answer_with (Some job) ready (Some given) = Some (answer_to job given)
-answer_with None ready (Some given) = ready
-
--- One step of the worker, which is one call of the core or none: what it gives lies ready then.
+-- One step of the worker, which is one call of the core or none: what it gives is the answer that lies ready then,
+-- with what shows that it committed the job's procedure.
 pub record HasStepped (old : Working) (before : CoreState) (turn : Turn) (new : Working) (after : CoreState)
     : Type 0 where
   pub made : Option Step
   pub state : State
   pub goes : GoesOn old.worker.phase (side old.worker before) made (side state after)
   pub worker : new.worker ≡ told state
-  pub job : new.job ≡ old.job
-  pub answer : new.answer ≡ answer_with old.job old.answer state.work.answer
+  pub shown : Option (Given Outcome)
+  pub vouches : Vouches made state shown
+  pub errand : new.errand ≡ errand_after made old.errand shown state.work.answer
   pub told_is : new.told ≡ told_by made
   pub turn_is : turn ≡ turn_by made
 

@@ -4,7 +4,8 @@ ghost use Rattle.std.specs.Prelude.{◌≡◌, ◌<◌};
 use crate::Told;
 use crate::work::Work;
 use nfs_types::Moment;
-use pool_jobs::{Answer, Job};
+use pool_answers::Answer;
+use pool_jobs::Job;
 use std::alloc::Global;
 use std::sync::ledger::{Ledger, Share};
 use txn::Seq;
@@ -18,9 +19,9 @@ pub struct Seat<L: Ledger> {
 }
 
 impl<L: Ledger> Seat<L> {
-    ghost use Rattle.std.specs.Prelude.{◌≡◌, ◌<◌, ◌↔◌, IsTrue, IsErr, IfErr, IfSome, OnOk, None, IsSomeAnd};
+    ghost use Rattle.std.specs.Prelude.{◌≡◌, ◌<◌, ◌↔◌, IsTrue, IsErr, IfErr, IfSome, OnOk, None};
     ghost use Rattle.model.specs.Sound.{SoundTime};
-    ghost use Rattle.pool.specs.Answers.{HandsOver};
+    ghost use Rattle.pool_answers.specs.Evident.{IsEvident};
     ghost use Rattle.pool.specs.Stepping.{IsFree, seated, with_job};
     ghost use Rattle.store_workers.specs.SourceReads.{place_awaited};
     ghost use Rattle.store_workers.specs.declared.workers.parts.Phase.TheVariants.{Reading};
@@ -77,13 +78,15 @@ impl<L: Ledger> Seat<L> {
         self.work.told()
     }
 
-    /// Takes the answer that lies ready: for its job, the reply of its committed change, or one of the three in
-    /// its place, or the reply to a call that begins no transaction.
+    /// Takes the answer that lies ready, which shows that it may be given: the reply of the job's own change, which
+    /// was committed, and is settled where it has to be; or one of the three in its place, or the reply to a call that
+    /// begins no transaction.
     pub fn take_answer(&mut self) -> Option<Answer>
-        ensures answer { result ≡ self.old.work.answer }
-        ensures rest { self.new.work ≡ record self.old.work { answer = None } }
-        ensures hands_over { IfSome result (λ answer.
-            IsSomeAnd self.old.work.job (λ job. HandsOver job answer)) }
+        ensures answer { result ≡ self.old.work.errand.answer }
+        ensures rest { self.new.work ≡ record self.old.work {
+          errand = record self.old.work.errand { answer = None };
+        } }
+        ensures evident { IfSome result IsEvident }
         ensures share { self.new.share ≡ self.old.share }
     {
         self.work.take_answer()

@@ -1,71 +1,51 @@
 //! A worker with its job.
-ghost use Rattle.std.specs.Prelude.{◌≡◌, ◌+◌, ◌↔◌, IsTrue, Option, Some, None, IsSomeAnd, option_map};
-ghost use Rattle.pool.specs.Answers.{answer_to, body_of};
-ghost use Rattle.pool.specs.Seated.{GivesFor, StandsWith};
-ghost use Rattle.pool.specs.Stepping.{answer_with, told_by, told_commit, told_wish, turn_by};
+ghost use Rattle.std.specs.Prelude.{◌≡◌, Option, Some};
+ghost use Rattle.pool.specs.Stepping.{told_by, told_commit, told_wish, turn_by};
 ghost use Rattle.store_workers.specs.Telling.{told};
+ghost use Rattle.store_workers.specs.Vouched.{Vouches};
 ghost use Rattle.store_workers.specs.WorkerSteps.{GoesOn, side};
 ghost use Rattle.store_workers.specs.declared.workers.parts.State.{State};
 
 use crate::Told;
+use crate::errand::Errand;
 use disk::Source;
-use nfs_types::{Moment, ProgramReply};
+use nfs_types::Moment;
+use pool_answers::Answer;
 use pool_calls::Turn;
-use pool_jobs::{Answer, Job};
+use pool_jobs::Job;
 use procs::Done;
-use rpc::Refusal;
-use session_wire::ReplyBody;
 use std::alloc::Global;
 use std::marker::Model;
 use std::mem;
-use std::snapshot::Snapshot;
-use store_promise::{CallAnswer, Committing, Step, Verdict, Wish};
+use store_promise::{CallAnswer, Committing, Step, Wish};
 use store_workers::Worker;
 use txn::{Core, Seq};
+use vouchers::Voucher;
 
-/// A worker with the job that it was handed last, and the answer that lies ready. Its type keeps that what the
-/// worker has is the job's, and so is the answer.
+/// A worker with what its seat has of the job that it was handed last. Its type keeps that what the worker has is the
+/// job's, and that it waits only for the place of the job's own change.
 pub struct Work {
     worker: Worker,
-    held: Option<Held>,
-    answer: Option<Answer>,
+    errand: Errand,
     told: Told,
 }
 
-// Where the answer to a job goes. The job itself is kept for proofs alone.
-#[derive(Drop)]
-struct Held {
-    key: usize,
-    number: u64,
-    xid: u32,
-    job: Snapshot<Job>,
-    ghost key_is: { key ≡ job.value.key },
-    ghost number_is: { number ≡ job.value.number },
-    ghost xid_is: { xid ≡ job.value.xid },
-}
-
 impl Model for Work {
-    ghost use Rattle.std.specs.Prelude.{option_map};
     ghost use Rattle.pool.specs.Working.{Working};
 
     ghost Value = { Working };
 
-    ghost view = { λ w. record {
-      worker = w.worker.state;
-      job = option_map (λ held. held.job.value) w.held;
-      answer = w.answer;
-      told = w.told;
-    } };
+    ghost view = { λ w. record { worker = w.worker.state; errand = w.errand; told = w.told } };
 
     ghost use Rattle.pool.specs.Seated.{IsSeated};
 
-    ghost invariant = { λ w. IsSeated w.worker.state (option_map (λ held. held.job.value) w.held) w.answer };
+    ghost invariant = { λ w. IsSeated w.worker.state w.errand };
 }
 
 impl Work {
-    ghost use Rattle.std.specs.Prelude.{◌≡◌, ◌+◌, ◌↔◌, IsTrue, IsErr, IfErr, IfSome, OnOk, None, IsSomeAnd};
+    ghost use Rattle.std.specs.Prelude.{◌≡◌, ◌+◌, ◌↔◌, IsTrue, IsErr, IfErr, IfSome, OnOk, None};
     ghost use Rattle.model.specs.Sound.{SoundTime};
-    ghost use Rattle.pool.specs.Answers.{HandsOver};
+    ghost use Rattle.pool_answers.specs.Evident.{IsEvident};
     ghost use Rattle.pool_calls.specs.Sides.{HandsOutNone};
     ghost use Rattle.pool.specs.Stepping.{HasStepped, IsFree, ReadsFrom, grown, seated, with_job};
     ghost use Rattle.store_workers.specs.SourceReads.{place_awaited};
@@ -78,8 +58,7 @@ impl Work {
     {
         Work {
             worker: Worker::new(alloc),
-            held: None,
-            answer: None,
+            errand: Errand::none(),
             told: Told::Nothing,
         }
     }
@@ -88,7 +67,7 @@ impl Work {
     pub(crate) fn is_free(&self) -> bool
         ensures { IsTrue result ↔ IsFree self.now }
     {
-        self.worker.is_idle() && self.answer.is_none()
+        self.worker.is_idle() && self.errand.answer.is_none()
     }
 
     /// Hands it a job at this moment, of less than a second of nanoseconds. One that isn't free gives the job back.
@@ -101,14 +80,14 @@ impl Work {
         if !self.is_free() {
             return Err(job);
         }
-        self.held = Some(Held {
-            key: job.key,
-            number: job.number,
-            xid: job.xid,
-            job: Snapshot::of(&job),
-        });
+        let (ticket, credential, call) = job.take_up(moment);
+        let errand = Errand {
+            ticket: Some(ticket),
+            voucher: None,
+            answer: None,
+        };
+        drop(mem::replace(&mut self.errand, errand));
         self.told = Told::Nothing;
-        let (credential, call) = job.into_parts();
         self.worker.hand(credential, moment, call);
         Ok(())
     }
@@ -136,11 +115,15 @@ impl Work {
 
     /// Takes the answer that lies ready.
     pub(crate) fn take_answer(&mut self) -> Option<Answer>
-        ensures answer { result ≡ self.old.answer }
-        ensures rest { self.new ≡ record self.old { answer = None } }
-        ensures hands_over { IfSome result (λ answer. IsSomeAnd self.old.job (λ job. HandsOver job answer)) }
+        ensures answer { result ≡ self.old.errand.answer }
+        ensures rest { self.new ≡ record self.old { errand = record self.old.errand { answer = None } } }
+        ensures evident { IfSome result IsEvident }
     {
-        self.answer.take()
+        let answer = self.errand.answer.take();
+        if let Some(answer) = answer.as_ref() {
+            answer.evident();
+        }
+        answer
     }
 
     /// Reads the block that is due, if one is, by a source.
@@ -156,10 +139,10 @@ impl Work {
         ensures places { core.new.log.places ≡ core.old.log.places + grown self.new.told }
         ensures calls { HandsOutNone core.old core.new }
     {
-        let (made, given) = advance(alloc, core, &mut self.worker);
-        let ready = self.answer.take();
-        let answer = answer_with(&self.held, ready, given);
-        drop(mem::replace(&mut self.answer, answer));
+        let (made, given, shown) = advance(alloc, core, &mut self.worker);
+        let errand = mem::replace(&mut self.errand, Errand::none());
+        let errand = errand.after(core, &made, shown, given);
+        drop(mem::replace(&mut self.errand, errand));
         self.told = told_by(&made);
         turn_by(&made)
     }
@@ -170,74 +153,27 @@ impl Work {
     {
         let Work {
             worker,
-            held: _,
-            answer: _,
+            errand: _,
             told: _,
         } = self;
         worker.end(core);
     }
 }
 
-impl Held {
-    ghost use Rattle.std.specs.Prelude.{◌≡◌};
-    ghost use Rattle.pool.specs.Answers.{answer_to};
-
-    // The answer to the job.
-    fn answer(&self, given: CallAnswer) -> Answer
-        ensures { result ≡ answer_to self.now.job.value given }
-    {
-        Answer {
-            key: self.key,
-            number: self.number,
-            xid: self.xid,
-            body: body_of(given.verdict),
-        }
-    }
-}
-
-// What lies ready, with what the worker gives.
-fn answer_with(
-    held: &Option<Held>,
-    ready: Option<Answer>,
-    given: Option<CallAnswer>,
-) -> Option<Answer>
-    ensures { result ≡ answer_with (option_map (λ held. held.job.value) held.now) ready given }
-{
-    match given {
-        None => ready,
-        Some(given) => match held {
-            None => ready,
-            Some(held) => {
-                drop(ready);
-                Some(held.answer(given))
-            }
-        },
-    }
-}
-
-// What came of a procedure, as the body of a message.
-fn body_of(verdict: Verdict) -> ReplyBody
-    ensures { result ≡ body_of verdict }
-{
-    match verdict {
-        Verdict::Reply(reply) => ReplyBody::Done(ProgramReply::Nfs(reply)),
-        Verdict::NoMemory => ReplyBody::Refused(Refusal::SystemError),
-    }
-}
-
-// The worker's next step, and the answer that it gives with it.
+// The worker's next step, the answer that it gives with it, and what shows that it committed.
 fn advance(
     alloc: Global,
     core: &mut Core<Done>,
     worker: &mut Worker,
-) -> (Option<Step>, Option<CallAnswer>)
+) -> (Option<Step>, Option<CallAnswer>, Option<Voucher>)
     ensures { (state : State)
         × GoesOn worker.old.state.phase (side worker.old.state core.old) result.0 (side state core.new)
-        × (worker.new.state ≡ told state) × (result.1 ≡ state.work.answer) }
+        × (worker.new.state ≡ told state) × (result.1 ≡ state.work.answer)
+        × Vouches result.0 state result.2 }
 {
-    let made = worker.step(alloc, core);
+    let (made, shown) = worker.step_vouched(alloc, core);
     let given = worker.take_answer();
-    (made, given)
+    (made, given, shown)
 }
 
 // What a step was told.

@@ -1,23 +1,19 @@
 -- What is told of a record is what it is, but that a call for which memory was refused is told as refused.
-use Rattle.std.proofs.Common.{◌≡◌, refl, sym, ap, subst, ℕ, List, Bool, true, false, true≢false, inl, inr, ◌⊎◌}
+use Rattle.std.proofs.Common.{◌≡◌, refl, sym, ap, subst, ℕ, List, Bool, true, false, true≢false, inl, inr}
 use Rattle.nfs_types.specs.declared.ctx.Credential.{Credential}
 use Rattle.nfs_types.specs.declared.program.ProgramCall.{ProgramCall}
 use Rattle.nfs_types.specs.declared.program.ProgramCall.TheVariants.{Mount, Nfs}
 use Rattle.rpc.specs.declared.refusal.Refusal.{Refusal}
 use Rattle.nfs_types.specs.declared.call.Call as nfs
 use Rattle.nfs_types.specs.Fits.{CallFits, ProgramCallFits}
-use Rattle.session_wire.specs.Judging.{Judges, judged}
+use Rattle.session_wire.specs.Judging.{Judges}
 use Rattle.session_wire.proofs.CallLaws.{judged_takes}
 use Rattle.xdr.proofs.Coded.{IsBytes}
 use Rattle.session_wire.specs.declared.message.Judged.{Judged}
 use Rattle.session_wire.specs.declared.message.Judged.TheVariants.{Closed, Refused, Call}
-use Rattle.session_wire.specs.declared.message.ReplyBody.{ReplyBody}
 use Rattle.session_wire.specs.declared.message.ReplyBody.TheVariants as body
-use Rattle.model.specs.Mount.{mount_reply}
-use Rattle.nfs_types.specs.declared.mount.MountCall.{MountCall}
-use Rattle.nfs_types.specs.declared.program.ProgramReply.TheVariants as program_replies
 use Rattle.rpc.specs.declared.refusal.Refusal.TheVariants.{SystemError}
-use Rattle.pool_jobs.specs.Received.{RepliesWithout}
+use Rattle.pool_jobs.specs.Immediate.{RepliesWithout}
 use Rattle.pool_jobs.specs.Spelled.{SpellsJob}
 
 is_refused : Judged → Bool
@@ -66,10 +62,3 @@ refused (Call number credential (Mount call)) xid why (inl is) = absurd (other i
 refused (Call number credential (Mount call)) xid why (inr is) = ((same is).0, inr (same is).1)
 refused (Call number credential (Nfs call)) xid why (inl is) = absurd (other is)
 refused (Call number credential (Nfs call)) xid why (inr is) = same is
-
-pub mounted : (verdict : Judged) (xid : ℕ) (credential : Credential) (call : MountCall) (reply : ReplyBody)
-    → Judges (Call xid credential (Mount call)) verdict
-    → (reply ≡ body.Done (program_replies.Mount (mount_reply call))) ⊎ (reply ≡ body.Refused SystemError)
-    → RepliesWithout verdict xid reply
-mounted verdict xid credential call reply told is = subst (λ (verdict : Judged). RepliesWithout verdict xid reply)
-    (sym (called verdict xid credential (Mount call) told)) (refl, is)

@@ -1,5 +1,6 @@
 //! The connections that are open.
 ghost use Rattle.std.specs.Prelude.{◌≡◌, ◌+◌, ◌<◌, ◌^◌, Some, IfErr, IfNone, IfOk, IfSome, OnErr, option_copied};
+ghost use Rattle.pool_jobs.specs.Bearing.{next_at};
 ghost use Rattle.slab.specs.Slab.{get, slab_len};
 
 use slab::Slab;
@@ -37,16 +38,24 @@ impl<T> Connections<T> {
         self.open.len()
     }
 
+    /// The key and the number that the next connection bears.
+    pub fn next(&self) -> (usize, u64)
+        ensures { result ≡ next_at self.now.open self.now.accepted }
+    {
+        (self.open.vacant_key(), self.accepted.saturating_add(1))
+    }
+
     /// Puts one in, which bears the next number. The last number is had for all that come once 2^64 - 1 were
     /// accepted. Where memory is refused the peer comes back, and nothing changes.
     pub fn accept(&mut self, peer: T) -> Result<(usize, u64), AllocFailed<Bearer<T>>>
         ensures put { IfOk result (λ at. get self.new.open at.0 ≡ Some (record { number = at.1; peer = peer })) }
+        ensures bears { IfOk result (λ at. at ≡ next_at self.old.open self.old.accepted) }
         ensures next { IfOk result (λ at. self.old.accepted + 1 < 2 ^ 64
             → (at.1 ≡ self.old.accepted + 1) × (self.new.accepted ≡ at.1)) }
         ensures refused { IfErr result (λ failed. failed.value.peer ≡ peer) }
         ensures same { OnErr result (self.new.accepted ≡ self.old.accepted) }
     {
-        let number = self.accepted.saturating_add(1);
+        let (_, number) = self.next();
         let key = self.open.insert(Bearer { number, peer })?;
         self.accepted = number;
         Ok((key, number))

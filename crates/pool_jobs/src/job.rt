@@ -2,8 +2,9 @@
 ghost use Rattle.nfs_types.specs.Fits.{AreBytes};
 ghost use Rattle.pool_jobs.specs.Spelled.{SpellsJob};
 
+use crate::Ticket;
 use bytes::Bytes;
-use nfs_types::{Call, Credential};
+use nfs_types::{Call, Credential, Moment};
 use std::snapshot::Snapshot;
 
 /// What a connection hands to a worker: the connection's key and number, the call's number, who calls and what.
@@ -24,19 +25,28 @@ impl Job {
     ghost use Rattle.std.specs.Prelude.{◌≡◌};
     ghost use Rattle.nfs_types.specs.Fits.{CallFits};
 
-    /// Who calls, and what: a call that can be spelled.
-    pub fn into_parts(self) -> (Credential, Call)
-        ensures parts { result ≡ (self.credential, self.call) }
-        ensures fits { CallFits result.1 }
+    /// Takes it up at a moment: where its answer goes; and who calls, and what, a call that can be spelled.
+    pub fn take_up(self, moment: Moment) -> (Ticket, Credential, Call)
+        ensures ticket { result.0 ≡ record { job = self; moment = moment } }
+        ensures parts { (result.1 ≡ self.credential) × (result.2 ≡ self.call) }
+        ensures fits { CallFits result.2 }
     {
+        let job = Snapshot::of(&self);
         let Job {
-            key: _,
-            number: _,
-            xid: _,
+            key,
+            number,
+            xid,
             credential,
             call,
             message: _,
         } = self;
-        (credential, call)
+        let ticket = Ticket {
+            key,
+            number,
+            xid,
+            job,
+            moment: Snapshot::of(&moment),
+        };
+        (ticket, credential, call)
     }
 }

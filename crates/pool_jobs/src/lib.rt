@@ -1,14 +1,17 @@
-//! What connections and workers hand each other: jobs and answers, and the connections that are open.
+//! What connections and workers hand each other: jobs and where their answers go, replies to what begins no transaction,
+//! and the connections that are open.
 #![tactic(auto)]
 
-mod answer;
 mod connections;
+mod immediate;
 mod job;
 mod receiving;
 mod stream;
+mod ticket;
 
-pub use answer::Answer;
 pub use connections::{Bearer, Connections};
+pub use immediate::Immediate;
 pub use job::Job;
 pub use receiving::Received;
 pub use stream::Stream;
+pub use ticket::Ticket;

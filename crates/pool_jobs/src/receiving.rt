@@ -1,4 +1,4 @@
-//! From a record of a connection to a job, or to an answer where it begins no transaction.
+//! From a record of a connection to a job, or to a reply where it begins no transaction.
 ghost use Rattle.std.specs.Prelude.{◌≡◌, ◌⊎◌, ◌<◌, ℕ, get_or};
 ghost use Rattle.model.specs.Mount.{mount_reply};
 ghost use Rattle.nfs_types.specs.declared.program.ProgramReply.TheVariants as program_replies;
@@ -6,7 +6,7 @@ ghost use Rattle.pool_jobs.specs.Received.{IsReceived};
 ghost use Rattle.rpc.specs.declared.refusal.Refusal.TheVariants.{SystemError};
 ghost use Rattle.session_wire.specs.declared.message.ReplyBody.TheVariants as body;
 
-use crate::{Answer, Job};
+use crate::{Immediate, Job};
 use bytes::Bytes;
 use nfs_types::{MountCall, ProgramCall, ProgramReply};
 use rpc::Refusal;
@@ -20,7 +20,7 @@ pub enum Received {
     /// No call, or none whose header can be read: the connection is closed without a reply.
     Closed,
     /// The record begins no transaction: it is refused before it comes to its procedure, or calls MOUNT.
-    Answered(Answer),
+    Answered(Immediate),
     /// A call of NFS.
     Job(Job),
 }
@@ -33,22 +33,24 @@ pub(crate) fn receive(alloc: Global, key: usize, number: u64, message: &Bytes) -
     are_bytes(message);
     match judge(alloc, message) {
         Judged::Closed => Received::Closed,
-        Judged::Refused { xid, refusal } => Received::Answered(Answer {
+        Judged::Refused { xid, refusal } => Received::Answered(Immediate {
             key,
             number,
             xid,
             body: ReplyBody::Refused(refusal),
+            message: Snapshot::of(message),
         }),
         Judged::Call {
             xid,
             credential,
             call,
         } => match call {
-            ProgramCall::Mount(call) => Received::Answered(Answer {
+            ProgramCall::Mount(call) => Received::Answered(Immediate {
                 key,
                 number,
                 xid,
                 body: mounted(alloc, &call),
+                message: Snapshot::of(message),
             }),
             ProgramCall::Nfs(call) => Received::Job(Job {
                 key,

@@ -90,7 +90,9 @@ fn let_in<L: Ledger, G: Whole, I: Whole, P, S, R: Wait + Clock>(
     if open.count() >= MOST_CONNECTIONS && !make_place(rt, &mut *open) {
         return None;
     }
-    let connection = Arc::new(hall.alloc, Connection::new(rt, hall.alloc, stream)).ok()?;
+    let (key, number) = open.next();
+    let connection = Connection::new(rt, hall.alloc, stream, key, number);
+    let connection = Arc::new(hall.alloc, connection).ok()?;
     let writer = Arc::try_clone(&connection).ok()?;
     let listed = Arc::try_clone(&connection).ok()?;
     let (key, number) = open.accept(listed).ok()?;

@@ -11,7 +11,7 @@ use std::collections::VecDeque;
 #[derive(Drop)]
 pub struct Batch {
     pub jobs: VecDeque<Job>,
-    pub answers: Vec<Answer>,
+    pub answers: VecDeque<Answer>,
     pub waiting: VecDeque<Parked>,
     pub held_up: Option<SeatKey>,
 }
@@ -21,7 +21,7 @@ impl Batch {
     pub fn new(alloc: Global) -> Result<Batch, AllocError> {
         Ok(Batch {
             jobs: VecDeque::with_capacity(alloc, CALLS_IN_A_ROW)?,
-            answers: Vec::with_capacity(alloc, CALLS_IN_A_ROW)?,
+            answers: VecDeque::with_capacity(alloc, CALLS_IN_A_ROW)?,
             waiting: VecDeque::with_capacity(alloc, CALLS_IN_A_ROW)?,
             held_up: None,
         })

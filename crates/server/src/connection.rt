@@ -1,6 +1,7 @@
 //! A connection.
 use crate::sizes::{IDLE_SECONDS, WRITE_SECONDS};
-use server_parts::Outgoing;
+use pool::ReplyBytes;
+use server_replies::Outgoing;
 use std::alloc::Global;
 use std::net::{Shutdown, TcpStream};
 use std::sync::Wait;
@@ -15,19 +16,25 @@ pub struct Connection {
 
 impl Connection {
     /// A connection over a stream, which sends each write at once, and on which a write and a read that wait too
-    /// long fail.
-    pub fn new<R: Clock>(rt: &R, alloc: Global, stream: TcpStream) -> Connection {
+    /// long fail. It takes answers of this key and number alone.
+    pub fn new<R: Clock>(
+        rt: &R,
+        alloc: Global,
+        stream: TcpStream,
+        key: usize,
+        number: u64,
+    ) -> Connection {
         let _ = stream.set_nodelay(true);
         let _ = stream.set_write_timeout(Some(Duration::from_secs(WRITE_SECONDS)));
         let _ = stream.set_read_timeout(Some(Duration::from_secs(IDLE_SECONDS)));
         Connection {
             stream,
-            outgoing: Outgoing::new(rt, alloc),
+            outgoing: Outgoing::new(rt, alloc, key, number),
         }
     }
 
     /// Writes replies, or leaves them to the thread that writes. False where no more can be written.
-    pub fn write<R: Wait + Clock>(&self, rt: &R, alloc: Global, replies: &[u8]) -> bool {
+    pub fn write<R: Wait + Clock>(&self, rt: &R, alloc: Global, replies: &ReplyBytes) -> bool {
         self.outgoing.write(rt, &mut &self.stream, replies, alloc)
     }
 

@@ -115,7 +115,7 @@ fn drive_in_a_row<L: Ledger, G: Whole, I: Whole, P, S, R: Wait + Clock>(
         match first {
             First::Answered(answer) => {
                 free = Some(key);
-                is_well = batch.answers.push(answer).is_ok() && is_well;
+                is_well = batch.answers.push_back(answer).is_ok() && is_well;
             }
             First::Waits(place) => {
                 let parked = Parked { place, seat: key };

@@ -5,7 +5,7 @@ use crate::connection::Connection;
 use crate::jobs::Jobs;
 use crate::sizes::{MOST_KEPT_COMMITS, URGENT_COMMITS};
 use nfs_types::Moment;
-use pool::{Answer, Connections, IoSeat, Look, Pool, Seat, Shared, Whole};
+use pool::{Answer, Connections, IoSeat, Look, Pool, Put, ReplyBytes, Seat, Shared, Whole};
 use server_parts::{Bell, FreeSeats, Moments, Parking, Rounds, moment_of};
 use std::alloc::{AllocError, Global};
 use std::sync::ledger::Ledger;
@@ -102,13 +102,15 @@ impl Signs {
     }
 
     /// Hands an answer to its connection, which writes it. One to a connection that has ended is let go.
-    pub fn deliver<R: Wait>(&self, rt: &R, alloc: Global, answer: &Answer) {
-        let Some(connection) = self.connection(rt, answer.key, answer.number) else {
+    pub fn deliver<R: Wait>(&self, rt: &R, alloc: Global, answer: Answer) {
+        let (key, number) = answer.goes_to();
+        let Some(connection) = self.connection(rt, key, number) else {
             return;
         };
-        match answer.bytes(alloc) {
-            Ok(bytes) => connection.outgoing.answer(rt, Some(bytes.as_slice())),
-            Err(_) => connection.outgoing.answer(rt, None),
+        let mut reply = ReplyBytes::new(alloc, key, number);
+        match reply.put(alloc, answer) {
+            Put::Done => connection.outgoing.answer(rt, Some(&reply)),
+            Put::Another | Put::Refused => connection.outgoing.answer(rt, None),
         }
     }
 

@@ -7,7 +7,7 @@ use crate::driving::{Seen, drive_batch, see_through, wait_while_crowded};
 use crate::hall::Hall;
 use crate::sizes::{MOST_WAITING_BYTES, REPLY_BATCH_BYTES, STREAM_PIECE_BYTES};
 use disk::Source;
-use pool::{Answer, Received, Stream, Whole};
+use pool::{Answer, Put, Received, ReplyBytes, Stream, Whole};
 use server_parts::SeatKey;
 use std::alloc::Global;
 use std::io::{ErrorKind, Read};
@@ -117,7 +117,7 @@ fn serve_records<L: Ledger, G: Whole, I: Whole, P, S: Source, R: Wait + Clock>(
     stream: &mut Stream,
     batch: &mut Batch,
 ) -> bool {
-    let mut replies = Vec::new(hall.alloc);
+    let mut replies = ReplyBytes::new(hall.alloc, desk.key, desk.number);
     for _ in rt.forever() {
         let gathered = gather(rt, hall, desk, stream, batch, &mut replies);
         let is_well = answer_batch(rt, hall, desk, batch, &mut replies);
@@ -153,7 +153,7 @@ fn gather<L: Ledger, G: Whole, I: Whole, P, S, R: Wait>(
     desk: &Desk<'_>,
     stream: &mut Stream,
     batch: &mut Batch,
-    replies: &mut Vec<u8>,
+    replies: &mut ReplyBytes,
 ) -> Gathered {
     if !desk
         .connection
@@ -185,11 +185,11 @@ fn take_record(
     alloc: Global,
     received: Received,
     batch: &mut Batch,
-    replies: &mut Vec<u8>,
+    replies: &mut ReplyBytes,
 ) -> bool {
     match received {
         Received::Closed => false,
-        Received::Answered(answer) => put(alloc, &answer, replies),
+        Received::Answered(replied) => put(alloc, Answer::immediate(replied), replies),
         Received::Job(job) => batch.jobs.push_back(job).is_ok(),
     }
 }
@@ -200,7 +200,7 @@ fn answer_batch<L: Ledger, G: Whole, I: Whole, P, S: Source, R: Wait + Clock>(
     hall: &Hall<L, G, I, P, S>,
     desk: &Desk<'_>,
     batch: &mut Batch,
-    replies: &mut Vec<u8>,
+    replies: &mut ReplyBytes,
 ) -> bool {
     let mut is_well = true;
     for _ in 0..batch.jobs.len() {
@@ -221,7 +221,7 @@ fn answer_row<L: Ledger, G: Whole, I: Whole, P, S: Source, R: Wait + Clock>(
     hall: &Hall<L, G, I, P, S>,
     desk: &Desk<'_>,
     batch: &mut Batch,
-    replies: &mut Vec<u8>,
+    replies: &mut ReplyBytes,
 ) -> bool {
     let row = drive_batch(rt, hall, batch);
     let mut is_well = row.is_well;
@@ -234,10 +234,12 @@ fn answer_row<L: Ledger, G: Whole, I: Whole, P, S: Source, R: Wait + Clock>(
             is_well = drive_on(rt, hall, desk, key, replies) && is_well;
         }
     }
-    for answer in batch.answers.as_slice() {
+    for _ in 0..batch.answers.len() {
+        let Some(answer) = batch.answers.pop_front() else {
+            break;
+        };
         is_well = put(hall.alloc, answer, replies) && is_well;
     }
-    batch.answers.clear();
     if let Some(key) = batch.held_up.take() {
         desk.connection.outgoing.hand_on(rt);
         is_well = drive_on(rt, hall, desk, key, replies) && is_well;
@@ -268,13 +270,13 @@ fn drive_on<L: Ledger, G: Whole, I: Whole, P, S: Source, R: Wait + Clock>(
     hall: &Hall<L, G, I, P, S>,
     desk: &Desk<'_>,
     key: SeatKey,
-    replies: &mut Vec<u8>,
+    replies: &mut ReplyBytes,
 ) -> bool {
     match see_through(rt, hall, key) {
         Seen::Parked => true,
         Seen::Answered(answer) => {
             desk.connection.outgoing.take_back(rt);
-            put(hall.alloc, &answer, replies)
+            put(hall.alloc, answer, replies)
         }
         Seen::Nothing => {
             desk.connection.outgoing.take_back(rt);
@@ -284,23 +286,21 @@ fn drive_on<L: Ledger, G: Whole, I: Whole, P, S: Source, R: Wait + Clock>(
 }
 
 // Writes the replies, if there are any. False where no more can be written.
-fn write<R: Wait + Clock>(rt: &R, alloc: Global, desk: &Desk<'_>, replies: &mut Vec<u8>) -> bool {
-    if replies.is_empty() {
+fn write<R: Wait + Clock>(
+    rt: &R,
+    alloc: Global,
+    desk: &Desk<'_>,
+    replies: &mut ReplyBytes,
+) -> bool {
+    if replies.len() == 0 {
         return true;
     }
-    let is_written = desk.connection.write(rt, alloc, replies.as_slice());
+    let is_written = desk.connection.write(rt, alloc, replies);
     replies.clear();
     is_written
 }
 
-// Puts the bytes of an answer behind others. False where memory is refused.
-fn put(alloc: Global, answer: &Answer, replies: &mut Vec<u8>) -> bool {
-    let Ok(bytes) = answer.bytes(alloc) else {
-        return false;
-    };
-    if replies.is_empty() {
-        *replies = bytes;
-        return true;
-    }
-    replies.extend_from_slice(bytes.as_slice()).is_ok()
+// Puts the bytes of an answer behind others. False where memory is refused, or it isn't for their connection.
+fn put(alloc: Global, answer: Answer, replies: &mut ReplyBytes) -> bool {
+    replies.put(alloc, answer) == Put::Done
 }

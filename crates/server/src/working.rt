@@ -19,7 +19,7 @@ pub fn work_all<L: Ledger, G: Whole, I: Whole, P, S: Source, R: Wait + Clock>(
         let (peer, number) = (job.key, job.number);
         let key = hall.signs.free.take(rt);
         match answer_in(rt, hall, key, job) {
-            Seen::Answered(answer) => hall.signs.deliver(rt, hall.alloc, &answer),
+            Seen::Answered(answer) => hall.signs.deliver(rt, hall.alloc, answer),
             Seen::Parked => {}
             Seen::Nothing => hall.signs.let_go(rt, peer, number),
         }
@@ -36,7 +36,7 @@ pub fn finish_all<L: Ledger, G: Whole, I: Whole, P, S: Source, R: Wait + Clock>(
             break;
         };
         match see_through(rt, hall, key) {
-            Seen::Answered(answer) => hall.signs.deliver(rt, hall.alloc, &answer),
+            Seen::Answered(answer) => hall.signs.deliver(rt, hall.alloc, answer),
             // (a seat that was parked has a call)
             Seen::Parked | Seen::Nothing => {}
         }

@@ -1,4 +1,3 @@
 pub mod Keys
 pub mod Moments
-pub mod Outbox
 pub mod Parked

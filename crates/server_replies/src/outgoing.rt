@@ -1,5 +1,7 @@
-//! The replies of a connection, shared by the threads that answer its calls.
-use crate::{Offer, Outbox, steady_second};
+//! The replies of a connection, shared by the threads that answer its calls. It takes the bytes of answers to the connection alone.
+use crate::{Offer, Outbox};
+use pool_answers::{Backlog, ReplyBytes};
+use server_parts::steady_second;
 use std::alloc::Global;
 use std::io::Write;
 use std::sync::{Condvar, Mutex, Wait};
@@ -17,10 +19,10 @@ pub struct Outgoing {
 }
 
 impl Outgoing {
-    /// Nothing waits, of a connection that has just come.
-    pub fn new<R: Clock>(rt: &R, alloc: Global) -> Outgoing {
+    /// Nothing waits, of the connection of this key and number, which has just come.
+    pub fn new<R: Clock>(rt: &R, alloc: Global, key: usize, number: u64) -> Outgoing {
         Outgoing {
-            outbox: Mutex::new(Outbox::new(alloc, steady_second(rt))),
+            outbox: Mutex::new(Outbox::new(alloc, key, number, steady_second(rt))),
             to_write: Condvar::new(),
             written: Condvar::new(),
         }
@@ -33,7 +35,7 @@ impl Outgoing {
 
     /// Puts the reply of a call that was handed on, or lets the call go where there is none, for the
     /// connection's own thread to write.
-    pub fn answer<R: Wait>(&self, rt: &R, reply: Option<&[u8]>) {
+    pub fn answer<R: Wait>(&self, rt: &R, reply: Option<&ReplyBytes>) {
         let mut outbox = self.outbox.lock(rt);
         outbox.answer(reply);
         if outbox.is_shut() {
@@ -49,16 +51,17 @@ impl Outgoing {
         self.outbox.lock(rt).take_back();
     }
 
-    /// Writes replies, or leaves them to the thread that writes. False where no more can be written.
+    /// Writes replies, or leaves them to the thread that writes. False where no more can be written, or they are for
+    /// another connection.
     pub fn write<R: Wait + Clock, W: Write>(
         &self,
         rt: &R,
         out: &mut W,
-        bytes: &[u8],
+        replies: &ReplyBytes,
         alloc: Global,
     ) -> bool {
         let mut outbox = self.outbox.lock(rt);
-        match outbox.offer(bytes) {
+        match outbox.offer(replies) {
             Offer::Write => {}
             Offer::Left => {
                 if !outbox.is_writing() {
@@ -69,7 +72,7 @@ impl Outgoing {
             Offer::Shut => return false,
         }
         drop(outbox);
-        let is_done = out.write_all(bytes).is_ok();
+        let is_done = out.write_all(replies.as_slice()).is_ok();
         self.write_rest(rt, out, is_done, alloc)
     }
 
@@ -83,7 +86,7 @@ impl Outgoing {
         alloc: Global,
     ) -> bool {
         let mut is_done = is_done;
-        let mut batch = Vec::new(alloc);
+        let mut batch = Backlog::new(alloc, 0, 0);
         for _ in rt.forever() {
             let Some(next) = self.next_batch(rt, is_done, batch) else {
                 return is_done;
@@ -95,7 +98,7 @@ impl Outgoing {
     }
 
     // What is to be written next, or None where nothing waits: then no thread writes.
-    fn next_batch<R: Wait + Clock>(&self, rt: &R, is_done: bool, used: Vec<u8>) -> Option<Vec<u8>> {
+    fn next_batch<R: Wait + Clock>(&self, rt: &R, is_done: bool, used: Backlog) -> Option<Backlog> {
         let mut outbox = self.outbox.lock(rt);
         let next = outbox.go_on(is_done, used);
         outbox.tell(steady_second(rt));
@@ -106,16 +109,20 @@ impl Outgoing {
     /// Writes what other threads put, until no call comes any more and nothing waits, or a write fails.
     pub fn write_all<R: Wait + Clock, W: Write>(&self, rt: &R, out: &mut W, alloc: Global) {
         for _ in rt.forever() {
-            let mut outbox = self
-                .to_write
-                .wait_while(rt, self.outbox.lock(rt), |o| !o.is_for_writer());
-            let Some(bytes) = outbox.begin(Vec::new(alloc)) else {
+            let Some(taken) = self.take_for_writer(rt, alloc) else {
                 return;
             };
-            drop(outbox);
-            let is_done = out.write_all(bytes.as_slice()).is_ok();
+            let is_done = out.write_all(taken.as_slice()).is_ok();
             self.write_rest(rt, out, is_done, alloc);
         }
+    }
+
+    // Waits until the connection's own writer has something to write, and takes it. None where nothing more will come.
+    fn take_for_writer<R: Wait>(&self, rt: &R, alloc: Global) -> Option<Backlog> {
+        let mut outbox = self
+            .to_write
+            .wait_while(rt, self.outbox.lock(rt), |o| o.keeps_writer_waiting());
+        outbox.begin(Backlog::new(alloc, 0, 0))
     }
 
     /// Waits until no more than so many bytes wait. False where no more can be written.

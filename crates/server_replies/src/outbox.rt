@@ -1,17 +1,19 @@
-//! What a connection still has to be sent.
+//! What a connection still has to be sent: the bytes of answers to it, and of nothing else.
 ghost use Rattle.std.specs.Prelude.{◌≡◌, ◌≢◌, ◌↔◌, ◌⊎◌, ◌+◌, ◌-◌, ◌^◌, ◌<◌, ◌≤◌, ◌||◌, [], true, false, not, max, min, IsTrue, IfSome, IfNone, length};
 
-use crate::{Replies, Silence};
+use crate::Replies;
+use pool_answers::{Backlog, Put, ReplyBytes};
+use server_parts::Silence;
 use std::alloc::Global;
 
-/// What becomes of bytes that a thread would write.
+/// What becomes of replies that a thread would write.
 #[derive(Clone, Copy, Debug, PartialEq, Eq)]
 pub enum Offer {
     /// That thread writes them: nothing waits, and no other thread writes.
     Write,
     /// They were left behind all that waits, where memory wasn't refused for them.
     Left,
-    /// They were let go: no more is written.
+    /// They were let go: no more is written, or they are for another connection.
     Shut,
 }
 
@@ -26,22 +28,23 @@ pub struct Outbox {
     // Whether no call comes any more.
     ended: bool,
     silence: Silence,
-    pub ghost let_go: { shut ≡ true → replies.pending.items ≡ [] },
+    pub ghost let_go: { shut ≡ true → replies.pending.bytes ≡ [] },
 }
 
 impl Outbox {
-    ghost use Rattle.server_parts.specs.Outbox.{IsLeft, IsDone, IsForWriter, IsSilent};
+    ghost use Rattle.pool_answers.specs.Written.{AreForOne, nothing_for};
+    ghost use Rattle.server_replies.specs.Outbox.{IsLeft, IsDone, IsForWriter, IsSilent};
 
-    /// Nothing waits, of a connection that came at this second.
-    pub fn new(alloc: Global, second: u64) -> Outbox
-        ensures pending { result.replies.pending.items ≡ [] }
+    /// Nothing waits, of the connection of this key and number, which came at this second.
+    pub fn new(alloc: Global, key: usize, number: u64, second: u64) -> Outbox
+        ensures pending { result.replies.pending ≡ nothing_for key number result.replies.pending.room }
         ensures writing { result.replies.writing ≡ false }
         ensures due { result.due ≡ 0 }
         ensures goes_on { (result.shut ≡ false) × (result.ended ≡ false) }
         ensures silence { result.silence ≡ record { last = second; listens = false } }
     {
         Outbox {
-            replies: Replies::new(alloc),
+            replies: Replies::new(alloc, key, number),
             due: 0,
             shut: false,
             ended: false,
@@ -64,61 +67,63 @@ impl Outbox {
     }
 
     /// Puts the reply of a call that was handed on, or shuts where there is none.
-    pub fn answer(&mut self, reply: Option<&[u8]>)
+    pub fn answer(&mut self, reply: Option<&ReplyBytes>)
         ensures due { self.new.due ≡ self.old.due - 1 }
-        ensures left { IfSome reply.entry (λ bytes. IsLeft self.old bytes.now self.new) }
+        ensures left { IfSome reply.entry (λ replies. IsLeft self.old replies.now self.new) }
         ensures none { IfNone reply.entry (self.new.shut ≡ true) }
         ensures writing { self.new.replies.writing ≡ self.old.replies.writing }
         ensures ended { self.new.ended ≡ self.old.ended }
     {
         self.take_back();
         match reply {
-            Some(bytes) => self.leave(bytes),
+            Some(replies) => self.leave(replies),
             None => self.shut(),
         }
     }
 
-    /// Leaves bytes behind all that waits, and shuts where memory is refused for them. Once no more is written they
-    /// are let go.
-    pub fn leave(&mut self, bytes: &[u8])
-        ensures left { IsLeft self.old bytes.now self.new }
+    /// Leaves replies behind all that waits, and shuts where they are for another connection, or memory is refused for
+    /// them. Once no more is written they are let go.
+    pub fn leave(&mut self, replies: &ReplyBytes)
+        ensures left { IsLeft self.old replies.now self.new }
         ensures due { self.new.due ≡ self.old.due }
         ensures ended { self.new.ended ≡ self.old.ended }
     {
-        if !self.shut && self.replies.put(bytes).is_err() {
+        if !self.shut && self.replies.put(replies) != Put::Done {
             self.shut();
         }
     }
 
-    /// What becomes of bytes that a thread would write: where it writes them it is from then on the one that writes.
-    pub fn offer(&mut self, bytes: &[u8]) -> Offer
-        ensures shut { (result ≡ Offer.Shut) ↔ (self.old.shut ≡ true) }
+    /// What becomes of replies that a thread would write: where it writes them it is from then on the one that writes.
+    pub fn offer(&mut self, replies: &ReplyBytes) -> Offer
+        ensures shut { (result ≡ Offer.Shut)
+            ↔ ((self.old.shut ≡ true) ⊎ (AreForOne replies.now self.old.replies.pending → ⊥)) }
         ensures let_go { result ≡ Offer.Shut → self.new ≡ self.old }
         ensures begins { (result ≡ Offer.Write) ↔ ((self.old.shut ≡ false)
-            × (self.old.replies.pending.items ≡ []) × (self.old.replies.writing ≡ false)) }
-        ensures begun { result ≡ Offer.Write → (self.new.replies.pending.items ≡ [])
+            × AreForOne replies.now self.old.replies.pending
+            × (self.old.replies.pending.bytes ≡ []) × (self.old.replies.writing ≡ false)) }
+        ensures begun { result ≡ Offer.Write → (self.new.replies.pending.bytes ≡ [])
             × (self.new.replies.writing ≡ true) × (self.new.shut ≡ false) }
-        ensures left { result ≡ Offer.Left → IsLeft self.old bytes.now self.new }
+        ensures left { result ≡ Offer.Left → IsLeft self.old replies.now self.new }
         ensures due { self.new.due ≡ self.old.due }
         ensures ended { self.new.ended ≡ self.old.ended }
     {
-        if self.shut {
+        if self.shut || !self.replies.are_for(replies) {
             return Offer::Shut;
         }
         if self.replies.begin() {
             return Offer::Write;
         }
-        self.leave(bytes);
+        self.leave(replies);
         Offer::Left
     }
 
     /// What the thread that writes writes next, when its last write was done or failed: all that waits, in a buffer
     /// that is used again. None where nothing waits: then no thread writes any more.
-    pub fn go_on(&mut self, is_done: bool, used: Vec<u8>) -> Option<Vec<u8>>
-        ensures taken { IfSome result (λ bytes. IsTrue is_done × (bytes.items ≡ self.old.replies.pending.items)
-            × (bytes.items ≢ []) × (self.new.replies.pending.items ≡ []) × (self.new.replies.writing ≡ true)) }
-        ensures nothing { IfNone result ((IsTrue is_done → self.old.replies.pending.items ≡ [])
-            × (self.new.replies.pending.items ≡ []) × (self.new.replies.writing ≡ false)) }
+    pub fn go_on(&mut self, is_done: bool, used: Backlog) -> Option<Backlog>
+        ensures taken { IfSome result (λ taken. IsTrue is_done × (taken ≡ self.old.replies.pending)
+            × (taken.bytes ≢ []) × (self.new.replies.pending.bytes ≡ []) × (self.new.replies.writing ≡ true)) }
+        ensures nothing { IfNone result ((IsTrue is_done → self.old.replies.pending.bytes ≡ [])
+            × (self.new.replies.pending.bytes ≡ []) × (self.new.replies.writing ≡ false)) }
         ensures shut { self.new.shut ≡ (self.old.shut || not is_done) }
         ensures due { self.new.due ≡ self.old.due }
         ensures ended { self.new.ended ≡ self.old.ended }
@@ -137,13 +142,21 @@ impl Outbox {
         self.ended || self.shut || (!self.replies.is_writing() && self.replies.waiting() != 0)
     }
 
+    /// Whether the connection's own writer has to wait.
+    pub fn keeps_writer_waiting(&self) -> bool
+        ensures goes { result ≡ false → IsForWriter self.now }
+        ensures waits { result ≡ true → IsForWriter self.now → ⊥ }
+    {
+        !self.is_for_writer()
+    }
+
     /// Makes the connection's own writer the thread that writes, and hands it all that waits. None where it has
     /// nothing more to wait for.
-    pub fn begin(&mut self, used: Vec<u8>) -> Option<Vec<u8>>
+    pub fn begin(&mut self, used: Backlog) -> Option<Backlog>
         requires { IsForWriter self.old }
-        ensures taken { IfSome result (λ bytes. (bytes.items ≡ self.old.replies.pending.items) × (bytes.items ≢ [])
+        ensures taken { IfSome result (λ taken. (taken ≡ self.old.replies.pending) × (taken.bytes ≢ [])
             × (self.old.replies.writing ≡ false)
-            × (self.new.replies.pending.items ≡ []) × (self.new.replies.writing ≡ true)) }
+            × (self.new.replies.pending.bytes ≡ []) × (self.new.replies.writing ≡ true)) }
         ensures ends { IfNone result (((self.old.ended ≡ true) ⊎ (self.old.shut ≡ true)) × (self.new ≡ self.old)) }
         ensures shut { self.new.shut ≡ self.old.shut }
         ensures due { self.new.due ≡ self.old.due }
@@ -157,7 +170,7 @@ impl Outbox {
 
     /// Whether no more than so many bytes wait, or no more is written.
     pub fn has_room(&self, most: usize) -> bool
-        ensures { IsTrue result ↔ ((self.now.shut ≡ true) ⊎ (length self.now.replies.pending.items ≤ most)) }
+        ensures { IsTrue result ↔ ((self.now.shut ≡ true) ⊎ (length self.now.replies.pending.bytes ≤ most)) }
     {
         self.shut || self.replies.waiting() <= most
     }
@@ -194,7 +207,7 @@ impl Outbox {
     /// Lets go all that waits, and writes no more.
     pub fn shut(&mut self)
         ensures shut { self.new.shut ≡ true }
-        ensures pending { self.new.replies.pending.items ≡ [] }
+        ensures pending { self.new.replies.pending.bytes ≡ [] }
         ensures writing { self.new.replies.writing ≡ self.old.replies.writing }
         ensures due { self.new.due ≡ self.old.due }
         ensures ended { self.new.ended ≡ self.old.ended }
@@ -250,7 +263,7 @@ impl Outbox {
     pub fn give_place(&mut self, second: u64, most: u64) -> bool
         ensures given { (result ≡ true) ↔ (IsSilent self.old × (most < second - self.old.silence.last)) }
         ensures ends { result ≡ true → (self.new.shut ≡ true) × (self.new.ended ≡ true)
-            × (self.new.replies.pending.items ≡ []) × (self.new.replies.writing ≡ false) }
+            × (self.new.replies.pending.bytes ≡ []) × (self.new.replies.writing ≡ false) }
         ensures stays { result ≡ false → self.new ≡ self.old }
     {
         match self.silent(second) {

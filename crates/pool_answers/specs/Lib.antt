@@ -1,0 +1,3 @@
+pub mod Evident
+pub mod Written
+pub mod MayGet

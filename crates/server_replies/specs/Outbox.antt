@@ -1,0 +1,33 @@
+-- What a connection still has to be sent.
+use Rattle.std.specs.Prelude.{◌≡◌, ◌≢◌, ◌⊎◌, ◌+◌, ◌<◌, [], true, false, length}
+use Rattle.pool_answers.specs.Written.{AreForOne, Written, with_more}
+use Rattle.server_replies.specs.declared.outbox.Outbox.{Outbox}
+
+-- the replies were put behind all that waits, or no more is written: they are let go only where they are for another
+-- connection, or memory is refused, and that only where the room that there is doesn't suffice
+abbrev pub IsLeft : Outbox → Written → Outbox → Type 0
+IsLeft before more after =
+    (after.shut ≡ false → AreForOne more before.replies.pending
+    × (after.replies.pending ≡ with_more more after.replies.pending.room before.replies.pending))
+    × (before.shut ≡ true → after.shut ≡ true)
+    × (after.shut ≡ true → (before.shut ≡ true) ⊎ ((AreForOne more before.replies.pending → ⊥)
+    ⊎ (before.replies.pending.room < length before.replies.pending.bytes + length more.bytes)))
+    × (after.replies.writing ≡ before.replies.writing)
+
+-- each call that was handed on is answered, and each reply written; or no more is written
+abbrev pub IsDone : Outbox → Type 0
+IsDone outbox = (outbox.shut ≡ true)
+    ⊎ ((outbox.due ≡ 0) × (outbox.replies.pending.bytes ≡ []) × (outbox.replies.writing ≡ false))
+
+-- the connection's own writer has something to write that no other thread writes, or nothing more to wait for
+abbrev pub IsForWriter : Outbox → Type 0
+IsForWriter outbox = ((outbox.ended ≡ true) ⊎ (outbox.shut ≡ true))
+    ⊎ ((outbox.replies.writing ≡ false) × (outbox.replies.pending.bytes ≢ []))
+
+-- its thread waits for bytes, each call is answered and each reply written, and more can be
+pub record IsSilent (outbox : Outbox) : Type 0 where
+  pub listens : outbox.silence.listens ≡ true
+  pub goes_on : outbox.shut ≡ false
+  pub answered : outbox.due ≡ 0
+  pub sent : outbox.replies.pending.bytes ≡ []
+  pub unwritten : outbox.replies.writing ≡ false
