@@ -26,4 +26,4 @@ pub use laws::{
 };
 pub use mem_disk::MemDisk;
 pub use mem_ports::{MemPort, MemSource};
-pub use ports::{Port, PortCall, Source};
+pub use ports::{Port, PortCall, Source, Splits};

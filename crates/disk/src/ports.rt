@@ -1,11 +1,12 @@
 //! The two sides of a device for two threads, and its home blocks for further ones.
-ghost use Rattle.std.specs.Prelude.{◌≡◌, ℕ, ◌∷◌, ◌++◌, [], OnOk};
+ghost use Rattle.std.specs.Prelude.{◌≡◌, ℕ, ◌∷◌, ◌++◌, [], OnOk, IfOk, All, length};
 ghost use Rattle.disk.specs.Overlap.{reads, settles, writes};
 ghost use Rattle.disk.specs.Ports.{AnsweredCalls, LiesOn};
 ghost use Rattle.disk.specs.declared.block.Side.{Side};
-ghost use Rattle.disk.specs.declared.block.Side.TheVariants.{Home};
+ghost use Rattle.disk.specs.declared.block.Side.TheVariants.{Home, Log};
 
 use crate::{Block, BlockNo, Failed, Side};
+use std::alloc::{AllocError, Global};
 use std::snapshot::Snapshot;
 
 /// One side of a device, for one thread. What it is asked it makes, or counts as a failure: a write past the
@@ -47,6 +48,22 @@ pub trait Source {
         ensures call { calls self.new ≡ calls self.old ++ (reads block.0 out.new, result) ∷ [] }
         ensures within { OnOk result (LiesOn (size self.old) Home block.0) }
         ensures same { size self.new ≡ size self.old };
+}
+
+/// A device that is cut, by value and so but once, into what its threads use.
+pub trait Splits<P: Port, S: Source>: Drop {
+    /// How many blocks it has.
+    ghost size: { Self → ℕ };
+
+    /// Its log side, its home side, and so many sources, of none of which a call was made.
+    fn split(self, alloc: Global, workers: usize) -> Result<(P, P, Vec<S>), AllocError>
+        ensures log { IfOk result (λ parts. (P.on parts.0 ≡ Log) × (P.size parts.0 ≡ size self)
+            × (P.calls parts.0 ≡ [])) }
+        ensures home { IfOk result (λ parts. (P.on parts.1 ≡ Home) × (P.size parts.1 ≡ size self)
+            × (P.calls parts.1 ≡ [])) }
+        ensures sources { IfOk result (λ parts. All
+            (λ source. (S.size source ≡ size self) × (S.calls source ≡ [])) parts.2.items) }
+        ensures count { IfOk result (λ parts. length parts.2.items ≡ workers) };
 }
 
 /// A call as it is noted, for proofs alone.

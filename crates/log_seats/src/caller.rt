@@ -106,6 +106,7 @@ impl Caller {
         ensures made { IsTriedOn (P.calls port.old) self.old.io self.old.made result (P.calls port.new)
             self.new.made }
         ensures io { self.new.io ≡ self.old.io }
+        ensures side { P.on port.new ≡ P.on port.old }
     {
         if self.made.is_some() {
             return None;

@@ -3,6 +3,7 @@ ghost use Rattle.std.specs.Prelude.{◌≡◌, false, IfOk};
 ghost use Rattle.wal_law.specs.Log.{settled_place};
 
 use crate::Pool;
+use disk::Port;
 use pool_calls::Whole;
 use procs::Done;
 use std::sync::Wait;
@@ -31,9 +32,9 @@ impl Ended {
 pub struct Unsettled;
 
 /// Gives back what the seats have begun, and takes the core out of its lock.
-pub fn end<L: Ledger, G: Whole, I: Whole, R: Wait>(
+pub fn end<L: Ledger, G: Whole, I: Whole, P: Port + Drop, S: Drop, R: Wait>(
     rt: &R,
-    pool: Pool<L, G, I>,
+    pool: Pool<L, G, I, P, S>,
 ) -> Result<Ended, Unsettled>
     ensures boot { IfOk result (λ ended. ended.core.boot ≡ G.boot) }
 {

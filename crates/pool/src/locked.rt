@@ -1,5 +1,6 @@
 //! What lies behind the lock.
 ghost use Rattle.std.specs.Prelude.{◌≡◌, ◌+◌};
+ghost use Rattle.disk.specs.declared.block.Side.TheVariants.{Home, Log};
 
 use pool_calls::Whole;
 use procs::Done;
@@ -8,7 +9,8 @@ use txn::Core;
 
 /// The core, the book of its commits, and those of the device calls that it has handed out. Its type keeps that the
 /// core's counts of commits and of device calls are the books' totals, with the calls that were handed out before the
-/// books began; and that the core has the boot number that the ledgers name.
+/// books began; that these are of the log side and of the home side; and that the core has the boot number that the
+/// ledgers name.
 #[derive(Drop)]
 pub struct Locked<L: Ledger, G: Whole, I: Whole> {
     pub(crate) core: Core<Done>,
@@ -18,5 +20,7 @@ pub struct Locked<L: Ledger, G: Whole, I: Whole> {
     pub ghost counted: { commits.total ≡ core.log.places },
     pub ghost log_calls: { logged.total + G.first ≡ core.log_calls },
     pub ghost inst_calls: { installed.total + I.first ≡ core.inst_calls },
+    pub ghost log_side: { G.side ≡ Log },
+    pub ghost home_side: { I.side ≡ Home },
     pub ghost booted: { core.boot ≡ G.boot },
 }

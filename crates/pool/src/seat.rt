@@ -10,15 +10,17 @@ use std::alloc::Global;
 use std::sync::ledger::{Ledger, Share};
 use txn::Seq;
 
-/// A worker with its job, and its share of the ledger of commits, which grows by one at each of its commits. A
-/// seat has to be ended: one that is lost doesn't compile, as its worker may have a transaction.
-pub struct Seat<L: Ledger> {
+/// A worker with its job; its share of the ledger of commits, which grows by one at each of its commits; and the source
+/// that it reads by, and no other. A seat has to be ended: one that is lost doesn't compile, as its worker may have a
+/// transaction.
+pub struct Seat<L: Ledger, S> {
     pub(crate) work: Work,
     pub(crate) share: Share<L>,
+    pub(crate) source: S,
     pub ghost backed: { 0 < share.parts },
 }
 
-impl<L: Ledger> Seat<L> {
+impl<L: Ledger, S> Seat<L, S> {
     ghost use Rattle.std.specs.Prelude.{◌≡◌, ◌<◌, ◌↔◌, IsTrue, IsErr, IfErr, IfSome, OnOk, None};
     ghost use Rattle.model.specs.Sound.{SoundTime};
     ghost use Rattle.pool_answers.specs.Evident.{IsEvident};
@@ -26,15 +28,17 @@ impl<L: Ledger> Seat<L> {
     ghost use Rattle.store_workers.specs.SourceReads.{place_awaited};
     ghost use Rattle.store_workers.specs.declared.workers.parts.Phase.TheVariants.{Reading};
 
-    /// A seat that has made no commit.
-    pub fn new(alloc: Global, share: Share<L>) -> Seat<L>
+    /// A seat that has made no commit, and reads by this source.
+    pub fn new(alloc: Global, share: Share<L>, source: S) -> Seat<L, S>
         requires { 0 < share.parts }
         ensures work { result.work ≡ seated }
         ensures share { result.share ≡ share }
+        ensures source { result.source ≡ source }
     {
         Seat {
             work: Work::new(alloc),
             share,
+            source,
         }
     }
 
@@ -52,7 +56,7 @@ impl<L: Ledger> Seat<L> {
         ensures took { OnOk result (self.new.work ≡ with_job job moment self.old.work) }
         ensures busy { IfErr result (λ back. (back ≡ job) × (self.new.work ≡ self.old.work)) }
         ensures cause { IsErr result ↔ (IsFree self.old.work → ⊥) }
-        ensures share { self.new.share ≡ self.old.share }
+        ensures rest { (self.new.share ≡ self.old.share) × (self.new.source ≡ self.old.source) }
     {
         self.work.hand(job, moment)
     }
@@ -83,11 +87,11 @@ impl<L: Ledger> Seat<L> {
     /// begins no transaction.
     pub fn take_answer(&mut self) -> Option<Answer>
         ensures answer { result ≡ self.old.work.errand.answer }
-        ensures rest { self.new.work ≡ record self.old.work {
+        ensures taken { self.new.work ≡ record self.old.work {
           errand = record self.old.work.errand { answer = None };
         } }
         ensures evident { IfSome result IsEvident }
-        ensures share { self.new.share ≡ self.old.share }
+        ensures rest { (self.new.share ≡ self.old.share) × (self.new.source ≡ self.old.source) }
     {
         self.work.take_answer()
     }

@@ -9,7 +9,7 @@ ghost use Rattle.wal_law.specs.Installer.{may_install};
 ghost use Rattle.wal_law.specs.Logger.{may_log};
 
 use crate::{Locked, Seat, installer_step, logger_step, worker_step};
-use disk::Side;
+use disk::{Port, Side};
 use pool_calls::{IoSeat, Turn, Whole, give_up};
 use procs::Done;
 use std::alloc::Global;
@@ -48,38 +48,39 @@ impl<L: Ledger, G: Whole, I: Whole> Shared<L, G, I> {
 
     /// One step of a worker, under the lock: the answer and the seat are the step's, from some value that the
     /// lock held.
-    pub fn work<R: Wait>(&self, rt: &R, alloc: Global, seat: &mut Seat<L>) -> Turn
+    pub fn work<R: Wait, S>(&self, rt: &R, alloc: Global, seat: &mut Seat<L, S>) -> Turn
         ensures step { (before : CoreState) × (after : CoreState) × IsLawful before × IsLawful after
             × (seat.old.share.amount ≤ before.log.places)
             × HasStepped seat.old.work before result seat.new.work after }
         ensures share { seat.new.share.amount ≡ seat.old.share.amount + grown seat.new.work.told }
         ensures parts { seat.new.share.parts ≡ seat.old.share.parts }
+        ensures source { seat.new.source ≡ seat.old.source }
     {
         let mut guard = self.lock.lock(rt);
         worker_step(alloc, &mut *guard, seat)
     }
 
     /// One step of the logger, under the lock.
-    pub fn log<R: Wait>(&self, rt: &R, seat: &mut IoSeat<G>) -> Turn
+    pub fn log<R: Wait, P: Port>(&self, rt: &R, seat: &mut IoSeat<G, P>) -> Turn
         ensures step { (before : CoreState) × (after : CoreState) × IsLawful before × IsLawful after
             × HasTurned may_log LogGoesOut LogComesBack before seat.old.caller.io seat.old.caller.made result after
             seat.new.caller.io seat.new.caller.made }
         ensures numbered { seat.old.caller.io ≡ None → IsSome seat.new.caller.io
             → length seat.new.number.items ≡ seat.old.calls.amount + 1 }
-        ensures taken { seat.new.taken ≡ seat.old.taken }
+        ensures port { (seat.new.taken ≡ seat.old.taken) × (seat.new.port ≡ seat.old.port) }
     {
         let mut guard = self.lock.lock(rt);
         logger_step(&mut *guard, seat)
     }
 
     /// One step of the installer, under the lock.
-    pub fn install<R: Wait>(&self, rt: &R, seat: &mut IoSeat<I>) -> Turn
+    pub fn install<R: Wait, P: Port>(&self, rt: &R, seat: &mut IoSeat<I, P>) -> Turn
         ensures step { (before : CoreState) × (after : CoreState) × IsLawful before × IsLawful after
             × HasTurned may_install InstGoesOut InstComesBack before seat.old.caller.io seat.old.caller.made result after
             seat.new.caller.io seat.new.caller.made }
         ensures numbered { seat.old.caller.io ≡ None → IsSome seat.new.caller.io
             → length seat.new.number.items ≡ seat.old.calls.amount + 1 }
-        ensures taken { seat.new.taken ≡ seat.old.taken }
+        ensures port { (seat.new.taken ≡ seat.old.taken) × (seat.new.port ≡ seat.old.port) }
     {
         let mut guard = self.lock.lock(rt);
         installer_step(&mut *guard, seat)
@@ -99,19 +100,19 @@ impl<L: Ledger, G: Whole, I: Whole> Shared<L, G, I> {
     }
 
     /// Ends a seat: what its worker has begun is given back, and what it was to answer is lost.
-    pub fn leave<R: Wait>(&self, rt: &R, seat: Seat<L>) {
+    pub fn leave<R: Wait, S: Drop>(&self, rt: &R, seat: Seat<L, S>) {
         let mut guard = self.lock.lock(rt);
         end_seat(&mut *guard, seat);
     }
 
     /// Ends the logger's seat: a call that is out is given back with its port's answer, or as failed.
-    pub fn leave_log<R: Wait>(&self, rt: &R, seat: IoSeat<G>) {
+    pub fn leave_log<R: Wait, P: Port + Drop>(&self, rt: &R, seat: IoSeat<G, P>) {
         let mut guard = self.lock.lock(rt);
         end_calls(Side::Log, &mut *guard, seat);
     }
 
     /// Ends the installer's seat: a call that is out is given back with its port's answer, or as failed.
-    pub fn leave_install<R: Wait>(&self, rt: &R, seat: IoSeat<I>) {
+    pub fn leave_install<R: Wait, P: Port + Drop>(&self, rt: &R, seat: IoSeat<I, P>) {
         let mut guard = self.lock.lock(rt);
         end_calls(Side::Home, &mut *guard, seat);
     }
@@ -131,19 +132,26 @@ impl<L: Ledger, G: Whole, I: Whole> Shared<L, G, I> {
 }
 
 // Ends a seat.
-fn end_seat<L: Ledger, G: Whole, I: Whole>(locked: &mut Locked<L, G, I>, seat: Seat<L>)
+fn end_seat<L: Ledger, G: Whole, I: Whole, S: Drop>(
+    locked: &mut Locked<L, G, I>,
+    seat: Seat<L, S>,
+)
     ensures log { locked.new.core.log ≡ locked.old.core.log }
     ensures calls { HandsOutNone locked.old.core locked.new.core }
 {
-    let Seat { work, share: _ } = seat;
+    let Seat {
+        work,
+        share: _,
+        source: _,
+    } = seat;
     work.end(&mut locked.core);
 }
 
 // Ends a seat of device calls.
-fn end_calls<L: Ledger, G: Whole, I: Whole, N: Whole>(
+fn end_calls<L: Ledger, G: Whole, I: Whole, N: Whole, P: Port + Drop>(
     side: Side,
     locked: &mut Locked<L, G, I>,
-    seat: IoSeat<N>,
+    seat: IoSeat<N, P>,
 )
     ensures places { locked.new.core.log.places ≡ locked.old.core.log.places }
     ensures calls { HandsOutNone locked.old.core locked.new.core }

@@ -3,7 +3,7 @@ ghost use Rattle.std.specs.Prelude.{◌≡◌, ◌+◌, ◌≤◌, ◌↔◌, le
 ghost use Rattle.log_seats.specs.Steps.{InstComesBack, InstGoesOut, LogComesBack, LogGoesOut};
 ghost use Rattle.pool.specs.Locking.{IsLawful};
 ghost use Rattle.pool.specs.Stepping.{HasStepped, ReadsFrom, grown};
-ghost use Rattle.pool_calls.specs.Numbers.{IsTied, MakesCall, due};
+ghost use Rattle.pool_calls.specs.Numbers.{MakesCall, due};
 ghost use Rattle.pool_calls.specs.Sides.{HasTurned};
 ghost use Rattle.wal_law.specs.Installer.{may_install};
 ghost use Rattle.wal_law.specs.Logger.{may_log};
@@ -16,18 +16,23 @@ use std::sync::ledger::Ledger;
 
 /// One step of a worker: one call of the core, or none where it has no job or a read is due, and at the answer of
 /// a call that begins no transaction.
-pub fn worker_step<L: Ledger, G: Whole, I: Whole>(
+pub fn worker_step<L: Ledger, G: Whole, I: Whole, S>(
     alloc: Global,
     locked: &mut Locked<L, G, I>,
-    seat: &mut Seat<L>,
+    seat: &mut Seat<L, S>,
 ) -> Turn
     ensures bound { seat.old.share.amount ≤ locked.old.core.log.places }
     ensures step { HasStepped seat.old.work locked.old.core result seat.new.work locked.new.core }
     ensures share { seat.new.share.amount ≡ seat.old.share.amount + grown seat.new.work.told }
     ensures parts { seat.new.share.parts ≡ seat.old.share.parts }
+    ensures source { seat.new.source ≡ seat.old.source }
     ensures lawful { IsLawful locked.old.core × IsLawful locked.new.core }
 {
-    let Seat { work, share } = seat;
+    let Seat {
+        work,
+        share,
+        source: _,
+    } = seat;
     let Locked {
         core,
         commits,
@@ -46,9 +51,9 @@ pub fn worker_step<L: Ledger, G: Whole, I: Whole>(
 
 /// One step of the logger: one call of the core at most. A call that is handed out gets the next number.
 #[tactic(auto, using(crate::proofs::Calls::log_turned))]
-pub fn logger_step<L: Ledger, G: Whole, I: Whole>(
+pub fn logger_step<L: Ledger, G: Whole, I: Whole, P: Port>(
     locked: &mut Locked<L, G, I>,
-    seat: &mut IoSeat<G>,
+    seat: &mut IoSeat<G, P>,
 ) -> Turn
     ensures step { HasTurned may_log LogGoesOut LogComesBack locked.old.core seat.old.caller.io seat.old.caller.made
         result locked.new.core seat.new.caller.io seat.new.caller.made }
@@ -56,7 +61,7 @@ pub fn logger_step<L: Ledger, G: Whole, I: Whole>(
         → length seat.new.number.items ≡ seat.old.calls.amount + 1 }
     ensures counted { G.all ≡ G.parts → (locked.old.core.log_calls ≡ seat.old.calls.amount + G.first)
         × (locked.new.core.log_calls ≡ seat.new.calls.amount + G.first) }
-    ensures taken { seat.new.taken ≡ seat.old.taken }
+    ensures port { (seat.new.taken ≡ seat.old.taken) × (seat.new.port ≡ seat.old.port) }
     ensures lawful { IsLawful locked.old.core × IsLawful locked.new.core }
 {
     let Locked {
@@ -73,9 +78,9 @@ pub fn logger_step<L: Ledger, G: Whole, I: Whole>(
 
 /// One step of the installer: one call of the core at most. A call that is handed out gets the next number.
 #[tactic(auto, using(crate::proofs::Calls::inst_turned))]
-pub fn installer_step<L: Ledger, G: Whole, I: Whole>(
+pub fn installer_step<L: Ledger, G: Whole, I: Whole, P: Port>(
     locked: &mut Locked<L, G, I>,
-    seat: &mut IoSeat<I>,
+    seat: &mut IoSeat<I, P>,
 ) -> Turn
     ensures step { HasTurned may_install InstGoesOut InstComesBack locked.old.core seat.old.caller.io seat.old.caller.made
         result locked.new.core seat.new.caller.io seat.new.caller.made }
@@ -83,7 +88,7 @@ pub fn installer_step<L: Ledger, G: Whole, I: Whole>(
         → length seat.new.number.items ≡ seat.old.calls.amount + 1 }
     ensures counted { I.all ≡ I.parts → (locked.old.core.inst_calls ≡ seat.old.calls.amount + I.first)
         × (locked.new.core.inst_calls ≡ seat.new.calls.amount + I.first) }
-    ensures taken { seat.new.taken ≡ seat.old.taken }
+    ensures port { (seat.new.taken ≡ seat.old.taken) × (seat.new.port ≡ seat.old.port) }
     ensures lawful { IsLawful locked.old.core × IsLawful locked.new.core }
 {
     let Locked {
@@ -98,48 +103,44 @@ pub fn installer_step<L: Ledger, G: Whole, I: Whole>(
     turn
 }
 
-/// Makes the read that a worker has due, if one is, by its source. It answers whether there was one.
+/// Makes the read that a worker has due, if one is, by the seat's own source. It answers whether there was one.
 pub fn worker_io<L: Ledger, S: Source, T: Gate>(
-    seat: &mut Seat<L>,
+    seat: &mut Seat<L, S>,
     worker: usize,
-    source: &mut S,
     gate: &T,
 ) -> bool
-    ensures read { ReadsFrom result (S.calls source.old) seat.old.work (S.calls source.new) seat.new.work }
+    ensures read { ReadsFrom result (S.calls seat.old.source) seat.old.work (S.calls seat.new.source) seat.new.work }
     ensures share { seat.new.share ≡ seat.old.share }
 {
     if seat.is_due() {
         gate.pass(Point::Read(worker));
     }
-    seat.work.read_from(source)
+    let Seat {
+        work,
+        share: _,
+        source,
+    } = seat;
+    work.read_from(source)
 }
 
 /// Makes the logger's device call that is out, where it wasn't made, on its port, and leaves the port's answer in
 /// the seat. It answers whether there was one.
-pub fn logger_io<G: Whole, P: Port, T: Gate>(seat: &mut IoSeat<G>, port: &mut P, gate: &T) -> bool
-    ensures made { MakesCall seat.old.caller.io seat.old.caller.made seat.new.caller.made (P.calls port.old)
-        (P.calls port.new) }
+pub fn logger_io<G: Whole, P: Port, T: Gate>(seat: &mut IoSeat<G, P>, gate: &T) -> bool
+    ensures made { MakesCall seat.old.caller.io seat.old.caller.made seat.new.caller.made (P.calls seat.old.port)
+        (P.calls seat.new.port) }
     ensures was_due { IsTrue result ↔ (due seat.old.caller.io seat.old.caller.made ≡ 1) }
     ensures io { seat.new.caller.io ≡ seat.old.caller.io }
-    ensures tied { IsTied (P.calls port.old) seat.old.taken.items
-        → IsTied (P.calls port.new) seat.new.taken.items }
 {
-    make_call(Side::Log, seat, port, gate)
+    make_call(Side::Log, seat, gate)
 }
 
 /// Makes the installer's device call that is out, where it wasn't made, on its port, and leaves the port's answer
 /// in the seat. It answers whether there was one.
-pub fn installer_io<G: Whole, P: Port, T: Gate>(
-    seat: &mut IoSeat<G>,
-    port: &mut P,
-    gate: &T,
-) -> bool
-    ensures made { MakesCall seat.old.caller.io seat.old.caller.made seat.new.caller.made (P.calls port.old)
-        (P.calls port.new) }
+pub fn installer_io<G: Whole, P: Port, T: Gate>(seat: &mut IoSeat<G, P>, gate: &T) -> bool
+    ensures made { MakesCall seat.old.caller.io seat.old.caller.made seat.new.caller.made (P.calls seat.old.port)
+        (P.calls seat.new.port) }
     ensures was_due { IsTrue result ↔ (due seat.old.caller.io seat.old.caller.made ≡ 1) }
     ensures io { seat.new.caller.io ≡ seat.old.caller.io }
-    ensures tied { IsTied (P.calls port.old) seat.old.taken.items
-        → IsTied (P.calls port.new) seat.new.taken.items }
 {
-    make_call(Side::Home, seat, port, gate)
+    make_call(Side::Home, seat, gate)
 }

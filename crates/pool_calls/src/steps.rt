@@ -17,11 +17,11 @@ use txn::{Change, Core};
 /// One step of the logger or of the installer: one call of the core at most. A call that is handed out gets the next
 /// number, and is written into the book.
 #[tactic(auto, using(crate::proofs::Gone::gone_next, crate::proofs::Gone::gone_done, crate::proofs::Gone::gone_idle, crate::proofs::Gone::gone_still, crate::proofs::Places::stepped))]
-pub fn step_calls<C: Change, G: Whole>(
+pub fn step_calls<C: Change, G: Whole, P: Port>(
     side: Side,
     core: &mut Core<C>,
     book: &mut Book<G>,
-    seat: &mut IoSeat<G>,
+    seat: &mut IoSeat<G, P>,
 ) -> Turn
     ensures step { HasTurned (may_call side) (goes_out side) (comes_back side) core.old seat.old.caller.io seat.old.caller.made result
         core.new seat.new.caller.io seat.new.caller.made }
@@ -31,13 +31,14 @@ pub fn step_calls<C: Change, G: Whole>(
         × (book.new.total ≡ seat.new.calls.amount) }
     ensures gone { book.new.total ≡ book.old.total + gone seat.old.caller.io seat.new.caller.io }
     ensures places { core.new.log.places ≡ core.old.log.places }
-    ensures taken { seat.new.taken ≡ seat.old.taken }
+    ensures port { (seat.new.taken ≡ seat.old.taken) × (seat.new.port ≡ seat.old.port) }
 {
     let IoSeat {
         caller,
         calls,
         taken: _,
         number,
+        port: _,
     } = seat;
     book.audit(calls);
     if caller.out().is_none() && core.broken() {
@@ -56,7 +57,11 @@ pub fn step_calls<C: Change, G: Whole>(
 
 /// Ends a seat: a call that is out is given back with its port's answer, or as failed where it wasn't made.
 #[tactic(auto, using(crate::proofs::Places::ended))]
-pub fn give_up<C: Change, G: Whole>(side: Side, core: &mut Core<C>, seat: IoSeat<G>)
+pub fn give_up<C: Change, G: Whole, P: Port + Drop>(
+    side: Side,
+    core: &mut Core<C>,
+    seat: IoSeat<G, P>,
+)
     ensures back { HasEnded (comes_back side) core.old seat.caller.io seat.caller.made core.new }
     ensures places { core.new.log.places ≡ core.old.log.places }
     ensures calls { HandsOutNone core.old core.new }
@@ -66,30 +71,29 @@ pub fn give_up<C: Change, G: Whole>(side: Side, core: &mut Core<C>, seat: IoSeat
         calls: _,
         taken: _,
         number: _,
+        port: _,
     } = seat;
     caller.end(side, core);
 }
 
-/// Makes the device call that is out, where it wasn't made, on a port, and leaves the port's answer in the seat.
-/// It answers whether there was one.
+/// Makes the device call that is out, where it wasn't made, on the seat's own port, and leaves the port's answer in the
+/// seat. It answers whether there was one.
 pub fn make_call<G: Whole, P: Port, T: Gate>(
     side: Side,
-    seat: &mut IoSeat<G>,
-    port: &mut P,
+    seat: &mut IoSeat<G, P>,
     gate: &T,
 ) -> bool
     ensures made { MakesCall seat.old.caller.io seat.old.caller.made seat.new.caller.made
-        (P.calls port.old) (P.calls port.new) }
+        (P.calls seat.old.port) (P.calls seat.new.port) }
     ensures was_due { IsTrue result ↔ (due seat.old.caller.io seat.old.caller.made ≡ 1) }
     ensures out { seat.new.caller.io ≡ seat.old.caller.io }
-    ensures tied { IsTied (P.calls port.old) seat.old.taken.items
-        → IsTied (P.calls port.new) seat.new.taken.items }
 {
     let IoSeat {
         caller,
         calls: _,
         taken,
         number,
+        port,
     } = seat;
     let Some(shown) = due_of(caller) else {
         return false;

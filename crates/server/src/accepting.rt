@@ -5,7 +5,7 @@ use crate::connection::Connection;
 use crate::hall::Hall;
 use crate::reading::read_all;
 use crate::sizes::{ACCEPT_SLEEP_MILLISECONDS, MOST_CONNECTIONS, SILENT_SECONDS};
-use disk::Source;
+use disk::{Port, Source};
 use pool::{Connections, Whole};
 use server_parts::{Silent, steady_second};
 use std::alloc::Global;
@@ -36,7 +36,7 @@ where
     L: Ledger + Send + Sync,
     G: Whole + Send + Sync,
     I: Whole + Send + Sync,
-    P: Send,
+    P: Port + Send,
     S: Source + Send,
     R: Threads + Wait + Clock + Sync,
 {
@@ -81,7 +81,7 @@ where
 }
 
 // Lets a connection in, where not too many are open, or one of them gives it its place.
-fn let_in<L: Ledger, G: Whole, I: Whole, P, S, R: Wait + Clock>(
+fn let_in<L: Ledger, G: Whole, I: Whole, P: Port, S, R: Wait + Clock>(
     rt: &R,
     hall: &Hall<L, G, I, P, S>,
     stream: TcpStream,
@@ -151,7 +151,7 @@ fn longest_silent<R: Wait>(
 }
 
 // Ends a connection for which there is no thread.
-fn turn_away<L: Ledger, G: Whole, I: Whole, P, S, R: Wait>(
+fn turn_away<L: Ledger, G: Whole, I: Whole, P: Port, S, R: Wait>(
     rt: &R,
     hall: &Hall<L, G, I, P, S>,
     connection: &Connection,

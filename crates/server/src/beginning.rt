@@ -1,13 +1,12 @@
 //! From an open store over a file to a server.
 ghost use Rattle.std.specs.Prelude.{◌≡◌, ◌+◌, IfOk};
+ghost use Rattle.disk.specs.declared.block.Side.TheVariants.{Home, Log};
 ghost use Rattle.server.specs.Announcing.{Announces};
 
 use crate::announcing::Announcer;
-use crate::hall::Sides;
 use crate::serving::{ServeFault, serve};
 use disk::{BlockFile, FileDisk, FilePort, FileSource};
 use pool::{Ended, Ledgers, Whole, begin};
-use procs::Done;
 use std::alloc::Global;
 use std::marker::Brand;
 use std::net::TcpListener;
@@ -15,8 +14,7 @@ use std::sync::Wait;
 use std::sync::ledger::Ledger;
 use std::thread::Threads;
 use std::time::Clock;
-use store_images::{Store, parts};
-use txn::Core;
+use store_images::{Store, TakenApart, parts};
 
 /// Serves from an open store: so many workers, and so many connections, or without end where that is 0. Then
 /// all is settled, and the core is given back. It is announced once memory and threads are there; where that fails no client is served.
@@ -36,19 +34,16 @@ where
     ensures told { Announces A.tells announcer result.1 result.0 }
     ensures boot { IfOk result.1 (λ ended. ended.core.boot ≡ store.core.boot) }
 {
-    let (core, _, disk) = parts(store);
-    let Ok((log, home, sources)) = disk.split(alloc, workers as usize) else {
-        return (announcer, Err(ServeFault::Memory));
+    let opened = Opened {
+        parts: parts(store),
+        workers,
     };
-    let sides = Sides { log, home, sources };
     let ledgers = Ledgers::new(workers);
-    let opened = Opened { core, workers };
     serve_opened::<Brand, Brand, Brand, F, R, A>(
         rt,
         alloc,
         opened,
         ledgers,
-        sides,
         listener,
         connections,
         announcer,
@@ -57,8 +52,8 @@ where
 
 // What was opened, and how many workers are to use it.
 #[derive(Drop)]
-struct Opened {
-    core: Core<Done>,
+struct Opened<F: BlockFile> {
+    parts: TakenApart<FileDisk<F>>,
     workers: u32,
 }
 
@@ -66,9 +61,8 @@ struct Opened {
 fn serve_opened<L, G, I, F, R, A>(
     rt: &R,
     alloc: Global,
-    opened: Opened,
+    opened: Opened<F>,
     ledgers: Ledgers,
-    sides: Sides<FilePort<F>, FileSource<F>>,
     listener: &TcpListener,
     connections: u32,
     announcer: A,
@@ -83,16 +77,17 @@ where
     requires commits { (ledgers.commits.name ≡ L.name) × (ledgers.commits.parts ≡ L.parts)
         × (ledgers.commits.parts ≡ opened.workers + 1) }
     requires logged { (ledgers.logged.name ≡ G.name) × (ledgers.logged.parts ≡ G.parts)
-        × (G.all ≡ G.parts) × (ledgers.logged.parts ≡ 1) × (G.first ≡ opened.core.log_calls) }
+        × (G.all ≡ G.parts) × (ledgers.logged.parts ≡ 1) × (G.first ≡ opened.parts.core.log_calls) }
     requires installed { (ledgers.installed.name ≡ I.name) × (ledgers.installed.parts ≡ I.parts)
-        × (I.all ≡ I.parts) × (ledgers.installed.parts ≡ 1) × (I.first ≡ opened.core.inst_calls) }
-    requires boot { opened.core.boot ≡ G.boot }
+        × (I.all ≡ I.parts) × (ledgers.installed.parts ≡ 1) × (I.first ≡ opened.parts.core.inst_calls) }
+    requires sides { (G.side ≡ Log) × (I.side ≡ Home) }
+    requires boot { opened.parts.core.boot ≡ G.boot }
     ensures told { Announces A.tells announcer result.1 result.0 }
-    ensures boot { IfOk result.1 (λ ended. ended.core.boot ≡ opened.core.boot) }
+    ensures boot { IfOk result.1 (λ ended. ended.core.boot ≡ opened.parts.core.boot) }
 {
-    let Opened { core, workers } = opened;
-    match begin::<L, G, I>(alloc, core, workers, ledgers) {
-        Ok(pool) => serve(rt, alloc, pool, sides, listener, connections, announcer),
+    let Opened { parts, workers } = opened;
+    match begin::<L, G, I, FileDisk<F>, FilePort<F>, FileSource<F>>(alloc, parts, workers, ledgers) {
+        Ok(pool) => serve(rt, alloc, pool, listener, connections, announcer),
         Err(_) => (announcer, Err(ServeFault::Memory)),
     }
 }

@@ -4,7 +4,7 @@ use crate::hall::{Hall, is_crowded};
 use crate::sizes::{
     CALLS_IN_A_ROW, FIRST_SLEEP_MICROSECONDS, FULL_MILLISECONDS, LONGEST_SLEEP_MICROSECONDS, YIELDS,
 };
-use disk::Source;
+use disk::{Port, Source};
 use pool::{Answer, Job, Look, NoGate, Seat, Told, Turn, Whole, worker_io};
 use server_parts::{Parked, SeatKey};
 use std::sync::Wait;
@@ -44,7 +44,7 @@ pub struct Row {
 }
 
 /// Hands a free seat a job, and drives it to its answer, or parks it.
-pub fn answer_in<L: Ledger, G: Whole, I: Whole, P, S: Source, R: Wait + Clock>(
+pub fn answer_in<L: Ledger, G: Whole, I: Whole, P: Port, S: Source, R: Wait + Clock>(
     rt: &R,
     hall: &Hall<L, G, I, P, S>,
     key: SeatKey,
@@ -55,7 +55,7 @@ pub fn answer_in<L: Ledger, G: Whole, I: Whole, P, S: Source, R: Wait + Clock>(
 }
 
 // Hands a seat a job, at the moment of the call.
-fn hand<L: Ledger, G: Whole, I: Whole, P, S, R: Wait + Clock>(
+fn hand<L: Ledger, G: Whole, I: Whole, P: Port, S, R: Wait + Clock>(
     rt: &R,
     hall: &Hall<L, G, I, P, S>,
     key: &SeatKey,
@@ -70,7 +70,7 @@ fn hand<L: Ledger, G: Whole, I: Whole, P, S, R: Wait + Clock>(
 
 /// Drives the calls of a batch in a row, one after another in a free seat, up to the first that has to wait for
 /// something but to be settled. The jobs that are left come behind it, or found no seat free.
-pub fn drive_batch<L: Ledger, G: Whole, I: Whole, P, S, R: Wait + Clock>(
+pub fn drive_batch<L: Ledger, G: Whole, I: Whole, P: Port, S, R: Wait + Clock>(
     rt: &R,
     hall: &Hall<L, G, I, P, S>,
     batch: &mut Batch,
@@ -89,7 +89,7 @@ pub fn drive_batch<L: Ledger, G: Whole, I: Whole, P, S, R: Wait + Clock>(
 }
 
 // The same by who has the baton: with how far the core is where something was committed.
-fn drive_in_a_row<L: Ledger, G: Whole, I: Whole, P, S, R: Wait + Clock>(
+fn drive_in_a_row<L: Ledger, G: Whole, I: Whole, P: Port, S, R: Wait + Clock>(
     rt: &R,
     hall: &Hall<L, G, I, P, S>,
     batch: &mut Batch,
@@ -139,7 +139,7 @@ fn drive_in_a_row<L: Ledger, G: Whole, I: Whole, P, S, R: Wait + Clock>(
 }
 
 // The seat that has just answered, or another that is free.
-fn seat_for_next<L: Ledger, G: Whole, I: Whole, P, S, R: Wait>(
+fn seat_for_next<L: Ledger, G: Whole, I: Whole, P: Port, S, R: Wait>(
     rt: &R,
     hall: &Hall<L, G, I, P, S>,
     free: Option<SeatKey>,
@@ -151,7 +151,7 @@ fn seat_for_next<L: Ledger, G: Whole, I: Whole, P, S, R: Wait>(
 }
 
 /// Drives a seat to its answer, and frees it; or parks it, where its change waits to be settled.
-pub fn see_through<L: Ledger, G: Whole, I: Whole, P, S: Source, R: Wait + Clock>(
+pub fn see_through<L: Ledger, G: Whole, I: Whole, P: Port, S: Source, R: Wait + Clock>(
     rt: &R,
     hall: &Hall<L, G, I, P, S>,
     key: SeatKey,
@@ -180,7 +180,7 @@ pub fn see_through<L: Ledger, G: Whole, I: Whole, P, S: Source, R: Wait + Clock>
 }
 
 // Drives a seat until it answers or waits to be settled.
-fn go_on<L: Ledger, G: Whole, I: Whole, P, S: Source, R: Wait + Clock>(
+fn go_on<L: Ledger, G: Whole, I: Whole, P: Port, S: Source, R: Wait + Clock>(
     rt: &R,
     hall: &Hall<L, G, I, P, S>,
     key: &SeatKey,
@@ -192,7 +192,7 @@ fn go_on<L: Ledger, G: Whole, I: Whole, P, S: Source, R: Wait + Clock>(
     let mut kept_off = 0;
     for _ in rt.forever() {
         if seat.is_due() {
-            read(rt, hall, key.number(), &mut *seat);
+            worker_io(&mut *seat, key.number(), &NoGate);
         }
         let rounds = hall.signs.rounds.count();
         let (made, look) = steps(rt, hall, &mut *seat);
@@ -237,7 +237,7 @@ enum First {
 }
 
 // The steps in a row of a seat that was just handed a job, by who has the baton, and whether one was a commit.
-fn first_steps<L: Ledger, G: Whole, I: Whole, P, S, R: Wait>(
+fn first_steps<L: Ledger, G: Whole, I: Whole, P: Port, S, R: Wait>(
     rt: &R,
     hall: &Hall<L, G, I, P, S>,
     key: &SeatKey,
@@ -258,10 +258,10 @@ fn first_steps<L: Ledger, G: Whole, I: Whole, P, S, R: Wait>(
 // Steps of a seat in a row, as far as none has to wait for something, and how far the core is where one of them was
 // a commit. Of those who drive seats one at a time makes them, so that the lock round the core, which each step
 // takes, is seldom taken by another.
-fn steps<L: Ledger, G: Whole, I: Whole, P, S, R: Wait>(
+fn steps<L: Ledger, G: Whole, I: Whole, P: Port, S, R: Wait>(
     rt: &R,
     hall: &Hall<L, G, I, P, S>,
-    seat: &mut Seat<L>,
+    seat: &mut Seat<L, S>,
 ) -> (Made, Option<Look>) {
     let _baton = hall.signs.baton.lock(rt);
     let made = steps_in_a_row(rt, hall, seat);
@@ -274,10 +274,10 @@ fn steps<L: Ledger, G: Whole, I: Whole, P, S, R: Wait>(
 }
 
 // The steps, by who has the baton.
-fn steps_in_a_row<L: Ledger, G: Whole, I: Whole, P, S, R: Wait>(
+fn steps_in_a_row<L: Ledger, G: Whole, I: Whole, P: Port, S, R: Wait>(
     rt: &R,
     hall: &Hall<L, G, I, P, S>,
-    seat: &mut Seat<L>,
+    seat: &mut Seat<L, S>,
 ) -> Made {
     let mut committed = false;
     let mut looked = false;
@@ -299,7 +299,7 @@ fn steps_in_a_row<L: Ledger, G: Whole, I: Whole, P, S, R: Wait>(
 }
 
 // Waits until there may be room in the log.
-fn wait_for_room<L: Ledger, G: Whole, I: Whole, P, S, R: Wait + Clock>(
+fn wait_for_room<L: Ledger, G: Whole, I: Whole, P: Port, S, R: Wait + Clock>(
     rt: &R,
     hall: &Hall<L, G, I, P, S>,
     rounds: u64,
@@ -311,7 +311,7 @@ fn wait_for_room<L: Ledger, G: Whole, I: Whole, P, S, R: Wait + Clock>(
 }
 
 /// Waits while too many commits are kept, as bringing them home is slow.
-pub fn wait_while_crowded<L: Ledger, G: Whole, I: Whole, P, S, R: Wait + Clock>(
+pub fn wait_while_crowded<L: Ledger, G: Whole, I: Whole, P: Port, S, R: Wait + Clock>(
     rt: &R,
     hall: &Hall<L, G, I, P, S>,
 ) {
@@ -323,20 +323,6 @@ pub fn wait_while_crowded<L: Ledger, G: Whole, I: Whole, P, S, R: Wait + Clock>(
         let patience = Duration::from_millis(FULL_MILLISECONDS);
         hall.signs.rounds.wait_for_next(rt, rounds, patience);
     }
-}
-
-// Makes the read that is due.
-fn read<L: Ledger, G: Whole, I: Whole, P, S: Source, R: Wait>(
-    rt: &R,
-    hall: &Hall<L, G, I, P, S>,
-    number: usize,
-    seat: &mut Seat<L>,
-) {
-    let Some(source) = hall.devices.sources.get(number) else {
-        return;
-    };
-    let mut source = source.lock(rt);
-    worker_io(seat, number, &mut *source, &NoGate);
 }
 
 // Lets others go on: yields at first, and then sleeps longer and longer.

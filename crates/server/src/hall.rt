@@ -4,6 +4,7 @@ ghost use Rattle.model.specs.Sound.{SoundTime};
 use crate::connection::Connection;
 use crate::jobs::Jobs;
 use crate::sizes::{MOST_KEPT_COMMITS, URGENT_COMMITS};
+use disk::Port;
 use nfs_types::Moment;
 use pool::{Answer, Connections, IoSeat, Look, Pool, Put, ReplyBytes, Seat, Shared, Whole};
 use server_parts::{Bell, FreeSeats, Moments, Parking, Rounds, moment_of};
@@ -12,31 +13,14 @@ use std::sync::ledger::Ledger;
 use std::sync::{Arc, Mutex, Wait};
 use std::time::Clock;
 
-/// What a server needs of a device that was split: its two sides, and a source for each seat.
-#[derive(Drop)]
-pub struct Sides<P, S> {
-    pub log: P,
-    pub home: P,
-    pub sources: Vec<S>,
-}
-
-/// What the threads share. A seat, a port and a source is in the hands of one thread at a time.
-pub struct Hall<L: Ledger, G: Whole, I: Whole, P, S> {
+/// What the threads share. A seat is in the hands of one thread at a time.
+pub struct Hall<L: Ledger, G: Whole, I: Whole, P: Port, S> {
     pub alloc: Global,
     pub shared: Shared<L, G, I>,
-    pub seats: Vec<Mutex<Seat<L>>>,
-    pub logger: Mutex<IoSeat<G>>,
-    pub installer: Mutex<IoSeat<I>>,
-    pub devices: Devices<P, S>,
+    pub seats: Vec<Mutex<Seat<L, S>>>,
+    pub logger: Mutex<IoSeat<G, P>>,
+    pub installer: Mutex<IoSeat<I, P>>,
     pub signs: Signs,
-}
-
-/// The device, parted for the threads.
-#[derive(Drop)]
-pub struct Devices<P, S> {
-    pub log: Mutex<P>,
-    pub home: Mutex<P>,
-    pub sources: Vec<Mutex<S>>,
 }
 
 /// What threads tell one another.
@@ -52,26 +36,6 @@ pub struct Signs {
     pub moments: Mutex<Moments>,
     // Who drives seats has it for the steps that it makes in a row.
     pub baton: Mutex<()>,
-}
-
-impl<P, S> Devices<P, S> {
-    /// Each in a lock of its own.
-    pub fn new(alloc: Global, sides: Sides<P, S>) -> Result<Devices<P, S>, AllocError>
-    where
-        P: Drop,
-        S: Drop,
-    {
-        let Sides { log, home, sources } = sides;
-        let mut locked = Vec::with_capacity(alloc, sources.len())?;
-        for source in sources {
-            locked.push(Mutex::new(source))?;
-        }
-        Ok(Devices {
-            log: Mutex::new(log),
-            home: Mutex::new(home),
-            sources: locked,
-        })
-    }
 }
 
 impl Signs {
@@ -133,12 +97,11 @@ impl Signs {
     }
 }
 
-impl<L: Ledger, G: Whole, I: Whole, P, S> Hall<L, G, I, P, S> {
+impl<L: Ledger, G: Whole, I: Whole, P: Port, S> Hall<L, G, I, P, S> {
     /// What the threads share of a pool.
     pub fn new(
         alloc: Global,
-        pool: Pool<L, G, I>,
-        devices: Devices<P, S>,
+        pool: Pool<L, G, I, P, S>,
         signs: Signs,
     ) -> Hall<L, G, I, P, S> {
         let Pool {
@@ -153,24 +116,18 @@ impl<L: Ledger, G: Whole, I: Whole, P, S> Hall<L, G, I, P, S> {
             seats,
             logger: Mutex::new(logger),
             installer: Mutex::new(installer),
-            devices,
             signs,
         }
     }
 
     /// The pool again.
-    pub fn into_pool(self) -> Pool<L, G, I>
-    where
-        P: Drop,
-        S: Drop,
-    {
+    pub fn into_pool(self) -> Pool<L, G, I, P, S> {
         let Hall {
             alloc: _,
             shared,
             seats,
             logger,
             installer,
-            devices: _,
             signs: _,
         } = self;
         Pool {

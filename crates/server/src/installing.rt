@@ -54,7 +54,7 @@ pub fn install_all<L: Ledger, G: Whole, I: Whole, P: Port, S, R: Wait + Clock>(
 }
 
 // Waits for work, and a while longer for more of it, where that isn't urgent.
-fn wait<L: Ledger, G: Whole, I: Whole, P, S, R: Wait + Clock>(
+fn wait<L: Ledger, G: Whole, I: Whole, P: Port, S, R: Wait + Clock>(
     rt: &R,
     hall: &Hall<L, G, I, P, S>,
 ) -> Rung {
@@ -74,7 +74,6 @@ fn install<L: Ledger, G: Whole, I: Whole, P: Port, S, R: Wait>(
     most: u64,
 ) -> bool {
     let mut seat = hall.installer.lock(rt);
-    let mut port = hall.devices.home.lock(rt);
     let barriers = Barriers {
         count: AtomicU64::new(0),
     };
@@ -82,7 +81,7 @@ fn install<L: Ledger, G: Whole, I: Whole, P: Port, S, R: Wait>(
         match hall.shared.install(rt, &mut *seat) {
             Turn::Broken => return false,
             Turn::Moved => {
-                let made = installer_io(&mut *seat, &mut *port, &barriers);
+                let made = installer_io(&mut *seat, &barriers);
                 if !made && barriers.count() >= most {
                     // More may be settled since: it stays for the next batch.
                     hall.signs.to_install.ring(rt);
@@ -90,7 +89,7 @@ fn install<L: Ledger, G: Whole, I: Whole, P: Port, S, R: Wait>(
                 }
             }
             Turn::Idle => {
-                if !installer_io(&mut *seat, &mut *port, &barriers) {
+                if !installer_io(&mut *seat, &barriers) {
                     return true;
                 }
             }

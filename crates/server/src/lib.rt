@@ -18,6 +18,5 @@ mod working;
 
 pub use announcing::Announcer;
 pub use beginning::serve_store;
-pub use hall::Sides;
 pub use pool::Ended;
 pub use serving::{ServeFault, serve};

@@ -37,7 +37,6 @@ pub fn log_all<L: Ledger, G: Whole, I: Whole, P: Port, S, R: Wait + Clock>(
     hall: &Hall<L, G, I, P, S>,
 ) {
     let mut seat = hall.logger.lock(rt);
-    let mut port = hall.devices.log.lock(rt);
     let logged = Logged {
         blocks: AtomicU64::new(0),
     };
@@ -46,13 +45,13 @@ pub fn log_all<L: Ledger, G: Whole, I: Whole, P: Port, S, R: Wait + Clock>(
         match hall.shared.log(rt, &mut *seat) {
             Turn::Broken => break,
             Turn::Moved => {
-                logger_io(&mut *seat, &mut *port, &logged);
+                logger_io(&mut *seat, &logged);
                 if tell(rt, hall, &mut told) {
                     ring_installer(rt, hall, &logged);
                 }
             }
             Turn::Idle => {
-                if !logger_io(&mut *seat, &mut *port, &logged) && !wait(rt, hall) {
+                if !logger_io(&mut *seat, &logged) && !wait(rt, hall) {
                     break;
                 }
             }
@@ -63,7 +62,7 @@ pub fn log_all<L: Ledger, G: Whole, I: Whole, P: Port, S, R: Wait + Clock>(
 }
 
 // Tells that there is room, and what is settled. True where that is more than was told.
-fn tell<L: Ledger, G: Whole, I: Whole, P, S, R: Wait>(
+fn tell<L: Ledger, G: Whole, I: Whole, P: Port, S, R: Wait>(
     rt: &R,
     hall: &Hall<L, G, I, P, S>,
     told: &mut u64,
@@ -82,7 +81,7 @@ fn tell<L: Ledger, G: Whole, I: Whole, P, S, R: Wait>(
 }
 
 // Tells the installer of a group that is settled.
-fn ring_installer<L: Ledger, G: Whole, I: Whole, P, S, R: Wait>(
+fn ring_installer<L: Ledger, G: Whole, I: Whole, P: Port, S, R: Wait>(
     rt: &R,
     hall: &Hall<L, G, I, P, S>,
     logged: &Logged,
@@ -96,7 +95,7 @@ fn ring_installer<L: Ledger, G: Whole, I: Whole, P, S, R: Wait>(
 }
 
 // Waits for commits. False where none will come and all is settled.
-fn wait<L: Ledger, G: Whole, I: Whole, P, S, R: Wait + Clock>(
+fn wait<L: Ledger, G: Whole, I: Whole, P: Port, S, R: Wait + Clock>(
     rt: &R,
     hall: &Hall<L, G, I, P, S>,
 ) -> bool {

@@ -6,7 +6,7 @@ use crate::connection::Connection;
 use crate::driving::{Seen, drive_batch, see_through, wait_while_crowded};
 use crate::hall::Hall;
 use crate::sizes::{MOST_WAITING_BYTES, REPLY_BATCH_BYTES, STREAM_PIECE_BYTES};
-use disk::Source;
+use disk::{Port, Source};
 use pool::{Answer, Put, Received, ReplyBytes, Stream, Whole};
 use server_parts::SeatKey;
 use std::alloc::Global;
@@ -29,7 +29,7 @@ struct Gone;
 
 /// Reads the connection with this key and number until it ends, answers its records or hands them on, and then
 /// waits until each is answered.
-pub fn read_all<L: Ledger, G: Whole, I: Whole, P, S: Source, R: Wait + Clock>(
+pub fn read_all<L: Ledger, G: Whole, I: Whole, P: Port, S: Source, R: Wait + Clock>(
     rt: &R,
     hall: &Hall<L, G, I, P, S>,
     key: usize,
@@ -53,7 +53,7 @@ pub fn read_all<L: Ledger, G: Whole, I: Whole, P, S: Source, R: Wait + Clock>(
 }
 
 // Reads until the connection ends. False where no reply can reach the client.
-fn read_pieces<L: Ledger, G: Whole, I: Whole, P, S: Source, R: Wait + Clock>(
+fn read_pieces<L: Ledger, G: Whole, I: Whole, P: Port, S: Source, R: Wait + Clock>(
     rt: &R,
     hall: &Hall<L, G, I, P, S>,
     desk: &Desk<'_>,
@@ -110,7 +110,7 @@ fn read_piece(connection: &Connection, piece: &mut [u8]) -> Result<usize, Gone>
 }
 
 // Answers the records that have come whole, or hands them on. False where the connection is to end.
-fn serve_records<L: Ledger, G: Whole, I: Whole, P, S: Source, R: Wait + Clock>(
+fn serve_records<L: Ledger, G: Whole, I: Whole, P: Port, S: Source, R: Wait + Clock>(
     rt: &R,
     hall: &Hall<L, G, I, P, S>,
     desk: &Desk<'_>,
@@ -147,7 +147,7 @@ enum Gathered {
 }
 
 // Gathers calls, once there is room for their replies, and puts the replies of other records.
-fn gather<L: Ledger, G: Whole, I: Whole, P, S, R: Wait>(
+fn gather<L: Ledger, G: Whole, I: Whole, P: Port, S, R: Wait>(
     rt: &R,
     hall: &Hall<L, G, I, P, S>,
     desk: &Desk<'_>,
@@ -195,7 +195,7 @@ fn take_record(
 }
 
 // Answers the calls of a batch, row by row, or hands them on. False where the connection is to end.
-fn answer_batch<L: Ledger, G: Whole, I: Whole, P, S: Source, R: Wait + Clock>(
+fn answer_batch<L: Ledger, G: Whole, I: Whole, P: Port, S: Source, R: Wait + Clock>(
     rt: &R,
     hall: &Hall<L, G, I, P, S>,
     desk: &Desk<'_>,
@@ -216,7 +216,7 @@ fn answer_batch<L: Ledger, G: Whole, I: Whole, P, S: Source, R: Wait + Clock>(
 // that was held up to its answer; where no seat is free, hands the first on. So what a seat has taken is waited for
 // by no other of this connection, and nothing is written while a seat is in hand. False where the connection is to
 // end.
-fn answer_row<L: Ledger, G: Whole, I: Whole, P, S: Source, R: Wait + Clock>(
+fn answer_row<L: Ledger, G: Whole, I: Whole, P: Port, S: Source, R: Wait + Clock>(
     rt: &R,
     hall: &Hall<L, G, I, P, S>,
     desk: &Desk<'_>,
@@ -265,7 +265,7 @@ fn answer_row<L: Ledger, G: Whole, I: Whole, P, S: Source, R: Wait + Clock>(
 
 // Drives a seat, whose call counts as handed on, to its answer, and puts the reply. Where its change waits to be
 // settled it is parked. False where memory is refused for the reply, or no call is there to be answered.
-fn drive_on<L: Ledger, G: Whole, I: Whole, P, S: Source, R: Wait + Clock>(
+fn drive_on<L: Ledger, G: Whole, I: Whole, P: Port, S: Source, R: Wait + Clock>(
     rt: &R,
     hall: &Hall<L, G, I, P, S>,
     desk: &Desk<'_>,

@@ -5,7 +5,7 @@ ghost use Rattle.server.specs.Announcing.{Announces};
 
 use crate::accepting::accept_all;
 use crate::announcing::Announcer;
-use crate::hall::{Devices, Hall, Sides, Signs};
+use crate::hall::{Hall, Signs};
 use crate::installing::install_all;
 use crate::logging::log_all;
 use crate::sizes::MOST_JOB_THREADS;
@@ -36,8 +36,7 @@ pub enum ServeFault {
 pub fn serve<L, G, I, P, S, R, A>(
     rt: &R,
     alloc: Global,
-    pool: Pool<L, G, I>,
-    sides: Sides<P, S>,
+    pool: Pool<L, G, I, P, S>,
     listener: &TcpListener,
     connections: u32,
     announcer: A,
@@ -54,13 +53,11 @@ where
     ensures boot { IfOk result.1 (λ ended. ended.core.boot ≡ G.boot) }
 {
     let settled = pool.shared.look(rt).settled.0;
-    let signs = Signs::new(alloc, pool.seats.len(), settled);
-    let devices = Devices::new(alloc, sides);
-    let (Ok(signs), Ok(devices)) = (signs, devices) else {
+    let Ok(signs) = Signs::new(alloc, pool.seats.len(), settled) else {
         drop(end(rt, pool));
         return (announcer, Err(ServeFault::Memory));
     };
-    let hall = Hall::new(alloc, pool, devices, signs);
+    let hall = Hall::new(alloc, pool, signs);
     let (announcer, ran) = run(rt, &hall, listener, connections, announcer);
     let ended = all_settled(end(rt, hall.into_pool()));
     match ran {

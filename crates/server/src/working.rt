@@ -1,14 +1,14 @@
 //! The threads that take jobs off their queue, and the one that answers what is settled.
 use crate::driving::{Seen, answer_in, see_through};
 use crate::hall::Hall;
-use disk::Source;
+use disk::{Port, Source};
 use pool::Whole;
 use std::sync::Wait;
 use std::sync::ledger::Ledger;
 use std::time::Clock;
 
 /// Takes jobs until it is told that none will come, waits for a free seat for each, and drives it.
-pub fn work_all<L: Ledger, G: Whole, I: Whole, P, S: Source, R: Wait + Clock>(
+pub fn work_all<L: Ledger, G: Whole, I: Whole, P: Port, S: Source, R: Wait + Clock>(
     rt: &R,
     hall: &Hall<L, G, I, P, S>,
 ) {
@@ -27,7 +27,7 @@ pub fn work_all<L: Ledger, G: Whole, I: Whole, P, S: Source, R: Wait + Clock>(
 }
 
 /// Takes parked seats whose changes are settled, until none will come, and drives each to its answer.
-pub fn finish_all<L: Ledger, G: Whole, I: Whole, P, S: Source, R: Wait + Clock>(
+pub fn finish_all<L: Ledger, G: Whole, I: Whole, P: Port, S: Source, R: Wait + Clock>(
     rt: &R,
     hall: &Hall<L, G, I, P, S>,
 ) {

@@ -1,4 +1,4 @@
-//! A store taken apart: its core, its boot number and its disk.
+//! A store taken apart for its threads.
 ghost use Rattle.std.specs.Prelude.{◌≡◌, []};
 ghost use Rattle.txn.specs.CoreWindow.{KeepsHome};
 
@@ -7,24 +7,46 @@ use disk::CrashDisk;
 use procs::Done;
 use txn::Core;
 
-/// Takes a store apart: its core, its boot number and its disk. Every transaction that is out is ended without
-/// a change. It makes no device call.
-pub fn parts<D: CrashDisk>(store: Store<D>) -> (Core<Done>, u64, D)
-    ensures core { result.0 ≡ record store.core {
+/// A store's core and its disk, which belong together: only `parts` makes one, of a store.
+#[derive(Drop)]
+pub struct TakenApart<D: Drop> {
+    core: Core<Done>,
+    disk: D,
+}
+
+impl<D: Drop> TakenApart<D> {
+    /// Its core.
+    pub fn core(&self) -> &Core<Done>
+        ensures { result.now ≡ self.now.core }
+    {
+        &self.core
+    }
+
+    /// The core, and the disk.
+    pub fn into_both(self) -> (Core<Done>, D)
+        ensures { (result.0 ≡ self.core) × (result.1 ≡ self.disk) }
+    {
+        let TakenApart { core, disk } = self;
+        (core, disk)
+    }
+}
+
+/// Takes a store apart. Every transaction that is out is ended without a change. It makes no device call.
+pub fn parts<D: CrashDisk>(store: Store<D>) -> TakenApart<D>
+    ensures core { result.core ≡ record store.core {
       out = [];
-      holds = result.0.holds;
-      present = result.0.present;
+      holds = result.core.holds;
+      present = result.core.present;
     } }
-    ensures idle { store.core.out ≡ [] → result.0 ≡ store.core }
-    ensures home { KeepsHome store.core result.0 }
-    ensures boot { result.1 ≡ store.boot }
-    ensures disk { result.2 ≡ store.disk }
+    ensures idle { store.core.out ≡ [] → result.core ≡ store.core }
+    ensures home { KeepsHome store.core result.core }
+    ensures disk { result.disk ≡ store.disk }
 {
     let Store {
         disk,
         mut core,
-        boot,
+        boot: _,
     } = store;
     core.abort_all();
-    (core, boot, disk)
+    TakenApart { core, disk }
 }

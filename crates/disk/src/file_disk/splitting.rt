@@ -1,29 +1,23 @@
 //! A device over a file, cut into what its threads use.
 ghost use Rattle.std.specs.Prelude.{◌≡◌, All, IfOk, [], length};
-ghost use Rattle.disk.specs.declared.block.Side.TheVariants.{Home, Log};
 
 use super::FileDisk;
 use crate::file::ports::{FilePort, FileSource};
+use crate::ports::Splits;
 use crate::{BlockFile, Side};
 use std::alloc::{AllocError, Global};
 use std::sync::Arc;
 
-impl<F: BlockFile> FileDisk<F> {
-    /// The log side, the home side, and so many sources, all of one file: it stays open, and locked, until the last
-    /// of them is dropped. The home side has an opening of its own where the device has one. No call was made of any.
-    pub fn split(
+/// The home side has an opening of its own where the device has one. The file stays open, and locked, until the last of
+/// what it was cut into is dropped.
+impl<F: BlockFile> Splits<FilePort<F>, FileSource<F>> for FileDisk<F> {
+    ghost size = { λ d. d.blocks };
+
+    fn split(
         self,
         alloc: Global,
         workers: usize,
-    ) -> Result<(FilePort<F>, FilePort<F>, Vec<FileSource<F>>), AllocError>
-        ensures log { IfOk result (λ parts. (parts.0.side ≡ Log) × (parts.0.blocks ≡ self.blocks)
-            × (parts.0.noted.items ≡ [])) }
-        ensures home { IfOk result (λ parts. (parts.1.side ≡ Home) × (parts.1.blocks ≡ self.blocks)
-            × (parts.1.noted.items ≡ [])) }
-        ensures count { IfOk result (λ parts. length parts.2.items ≡ workers) }
-        ensures sources { IfOk result (λ parts. All
-            (λ source. (source.blocks ≡ self.blocks) × (source.noted.items ≡ [])) parts.2.items) }
-    {
+    ) -> Result<(FilePort<F>, FilePort<F>, Vec<FileSource<F>>), AllocError> {
         let FileDisk {
             file,
             home,

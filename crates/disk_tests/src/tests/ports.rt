@@ -3,7 +3,7 @@
 
 use crate::tests::block;
 use crate::tests::fake::{Fake, Step, Steps};
-use disk::{Block, BlockNo, Failed, FileDisk, FilePort, FileSource, Port, Side, Source};
+use disk::{Block, BlockNo, Failed, FileDisk, FilePort, FileSource, Port, Side, Source, Splits};
 use std::alloc::Global;
 use std::fs::OpenOptions;
 use std::io;

@@ -1,4 +1,4 @@
--- a part is left for each seat that is still to be made, and one more
+-- a part and a source is left for each seat that is still to be made, and one more part
 use Rattle.std.proofs.Common.{◌≡◌, ◌+◌, ◌<◌, ◌≤◌, length}
 use Rattle.std.specs.Vec.{vec_capacity}
 use Rattle.pool.proofs.beginning.seats.Given as goal
@@ -7,5 +7,6 @@ abbrev pub invariant-loop-made : goal.invariant-loop-made
 invariant-loop-made g l = record {
   parts : l.workers < l.rest.parts + l._made;
   count : length l.seats.items ≡ l._made;
+  sources : length l.sources.items + l._made ≡ l.workers;
   room : l.workers ≤ vec_capacity l.seats;
 }

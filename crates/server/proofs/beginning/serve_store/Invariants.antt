@@ -1,3 +1,4 @@
+use Rattle.disk.specs.declared.block.Side.TheVariants.{Home, Log}
 use Rattle.server.proofs.beginning.serve_store.Given as goal
 
 abbrev pub ghosts-serve_opened-L-Ledger : goal.ghosts-serve_opened-L-Ledger
@@ -8,9 +9,10 @@ ghosts-serve_opened-G-Ledger g a = record { name = a.ledgers.logged.name; parts 
 
 abbrev pub ghosts-serve_opened-G-Whole : goal.ghosts-serve_opened-G-Whole
 ghosts-serve_opened-G-Whole g a = record {
+  side = Log;
   all = a.ledgers.logged.parts;
-  first = a.opened.core.log_calls;
-  boot = a.opened.core.boot;
+  first = a.opened.parts.core.log_calls;
+  boot = a.opened.parts.core.boot;
 }
 
 abbrev pub ghosts-serve_opened-I-Ledger : goal.ghosts-serve_opened-I-Ledger
@@ -18,7 +20,8 @@ ghosts-serve_opened-I-Ledger g a = record { name = a.ledgers.installed.name; par
 
 abbrev pub ghosts-serve_opened-I-Whole : goal.ghosts-serve_opened-I-Whole
 ghosts-serve_opened-I-Whole g a = record {
+  side = Home;
   all = a.ledgers.installed.parts;
-  first = a.opened.core.inst_calls;
-  boot = a.opened.core.boot;
+  first = a.opened.parts.core.inst_calls;
+  boot = a.opened.parts.core.boot;
 }
