@@ -16,12 +16,23 @@ use std::snapshot::Snapshot;
 
 /// An open file of the kit, or what stands in for one, that a program can have for itself.
 pub trait BlockFile: FileExt + OpenFile + Drop {
+    ghost use Rattle.std.specs.Prelude.{◌≡◌, Bool, true, OnOk};
+
+    /// This program was given the file for itself. Who has any file knows it of one that it has locked, and of no other.
+    ghost is_locked: { Self → Bool };
+
     /// Takes the file for this program alone, until it is closed. It never waits: it fails where another
     /// program has the file, or where the file system knows no locks.
-    fn lock(&self) -> io::Result<()>;
+    fn lock(&self) -> io::Result<()>
+        ensures { OnOk result (is_locked self.now ≡ true) };
 }
 
 impl BlockFile for File {
+    ghost use Rattle.std.specs.Prelude.{true};
+
+    // (The kit's model of files has no locks.)
+    ghost is_locked = { λ f. true };
+
     fn lock(&self) -> io::Result<()> {
         self.try_lock()?;
         Ok(())
@@ -49,7 +60,8 @@ pub struct NotedFile<F: BlockFile> {
 impl<F: BlockFile> NotedFile<F> {
     /// A file of which no call is noted.
     pub fn new(file: F) -> NotedFile<F>
-        ensures { result.calls.items ≡ [] }
+        ensures calls { result.calls.items ≡ [] }
+        ensures file { result.file ≡ file }
     {
         NotedFile {
             file,
@@ -59,8 +71,9 @@ impl<F: BlockFile> NotedFile<F> {
 
     /// Reads the bytes of a block from an offset on, all of them or it fails.
     pub fn read(&mut self, offset: u64, out: &mut Block) -> Result<(), Failed>
-        ensures { (bytes : Snapshot Content) × (bytes.value ≡ out.new)
+        ensures call { (bytes : Snapshot Content) × (bytes.value ≡ out.new)
             × (self.new.calls.items ≡ self.old.calls.items ++ (FileCall.Read offset bytes, result) ∷ []) }
+        ensures file { self.new.file ≡ self.old.file }
     {
         let result = out.fill(&self.file, offset).or(Err(Failed));
         out.whole();
@@ -70,8 +83,9 @@ impl<F: BlockFile> NotedFile<F> {
 
     /// Writes the bytes of a block from an offset on. Where it fails some may have been written.
     pub fn write(&mut self, offset: u64, content: &Block) -> Result<(), Failed>
-        ensures { (bytes : Snapshot Content) × (bytes.value ≡ content.now)
+        ensures call { (bytes : Snapshot Content) × (bytes.value ≡ content.now)
             × (self.new.calls.items ≡ self.old.calls.items ++ (FileCall.Write offset bytes, result) ∷ []) }
+        ensures file { self.new.file ≡ self.old.file }
     {
         let result = self
             .file
@@ -83,7 +97,8 @@ impl<F: BlockFile> NotedFile<F> {
 
     /// Settles what was written, for a side.
     pub fn sync(&mut self, side: Side) -> Result<(), Failed>
-        ensures { self.new.calls.items ≡ self.old.calls.items ++ (FileCall.Sync side, result) ∷ [] }
+        ensures call { self.new.calls.items ≡ self.old.calls.items ++ (FileCall.Sync side, result) ∷ [] }
+        ensures file { self.new.file ≡ self.old.file }
     {
         let result = self.file.sync_data().or(Err(Failed));
         self.note(&FileCall::Sync(side), &result);
@@ -98,7 +113,8 @@ impl<F: BlockFile> NotedFile<F> {
 
     fn note(&mut self, call: &FileCall, outcome: &Result<(), Failed>)
         requires { IsBlock (bytes_of call.now) }
-        ensures { self.new.calls.items ≡ self.old.calls.items ++ (call.now, outcome.now) ∷ [] }
+        ensures calls { self.new.calls.items ≡ self.old.calls.items ++ (call.now, outcome.now) ∷ [] }
+        ensures file { self.new.file ≡ self.old.file }
     {
         self.calls = self.calls.and(call, outcome);
     }

@@ -4,8 +4,6 @@ ghost use Rattle.limits.specs.declared.TheConstants.{BLOCK_BYTES};
 ghost use Rattle.disk.specs.Crash.{IsAtRest};
 ghost use Rattle.disk.specs.File.{file_device, first_in};
 
-mod splitting;
-
 use crate::file::NotedFile;
 use crate::{Block, BlockFile, BlockNo, CrashDisk, Failed, FirstContents, Side};
 use limits::BLOCK_BYTES;
@@ -22,8 +20,6 @@ const OWNER_ALONE: u32 = 0o600;
 #[derive(Drop)]
 pub struct FileDisk<F: BlockFile> {
     file: NotedFile<F>,
-    // Another opening of the file, for the home side once the device is split.
-    home: Option<F>,
     blocks: u32,
     first: FirstContents,
 }
@@ -52,7 +48,8 @@ fn folder_of(path: &str) -> &str {
     }
 }
 
-fn offset(block: BlockNo) -> u64
+/// Where the bytes of a block begin in a file.
+pub(crate) fn offset(block: BlockNo) -> u64
     ensures { result ≡ block.0 * BLOCK_BYTES }
 {
     u64::from(block.0) * BLOCK_BYTES as u64
@@ -68,7 +65,6 @@ impl<F: BlockFile> FileDisk<F> {
     {
         FileDisk {
             file: NotedFile::new(file),
-            home: None,
             blocks,
             first: FirstContents::whatever(),
         }
@@ -86,29 +82,9 @@ impl<F: BlockFile> FileDisk<F> {
     {
         FileDisk {
             file: self.file,
-            home: self.home,
             blocks: self.blocks,
             first,
         }
-    }
-
-    /// The same device, whose home side asks another opening of the same file once it is split. The system tells each
-    /// opening once of a write that failed behind its answer: so both sides hear of it. It fails where the other
-    /// opening is of another file, or the files can't be asked.
-    pub fn beside(self, home: F) -> io::Result<FileDisk<F>>
-        ensures first { IfOk result (λ d. d.first ≡ self.first) }
-        ensures size { IfOk result (λ d. d.blocks ≡ self.blocks) }
-        ensures calls { IfOk result (λ d. d.file.calls.items ≡ self.file.calls.items) }
-    {
-        if !self.file.is_same(&home)? {
-            return Err(io::Error::from(ErrorKind::InvalidInput));
-        }
-        Ok(FileDisk {
-            file: self.file,
-            home: Some(home),
-            blocks: self.blocks,
-            first: self.first,
-        })
     }
 
     /// Opens a file of blocks, locks it, and then settles it. Its blocks are the whole ones of its length, up

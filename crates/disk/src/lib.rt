@@ -13,6 +13,7 @@ mod mem_disk;
 mod mem_ports;
 mod ports;
 mod room;
+mod threaded_disk;
 
 pub use block::{Block, BlockNo, Side};
 pub use device::{CrashDisk, Failed};
@@ -27,3 +28,4 @@ pub use laws::{
 pub use mem_disk::MemDisk;
 pub use mem_ports::{MemPort, MemSource};
 pub use ports::{Port, PortCall, Source, Splits};
+pub use threaded_disk::ThreadedDisk;

@@ -1,5 +1,5 @@
 //! The file, or the block device, that an image lies in.
-ghost use Rattle.std.specs.Prelude.{◌≡◌, [], IfOk};
+ghost use Rattle.std.specs.Prelude.{◌≡◌, [], true, IfOk};
 ghost use Rattle.disk.specs.Crash.{IsAtRest};
 ghost use Rattle.disk.specs.File.{file_device, first_in};
 ghost use Rattle.nfsd.specs.Done.{AreAsked};
@@ -36,7 +36,8 @@ where
             Some(asked) => FileDisk::create(rt, path, asked),
         };
     }
-    let (file, size) = open_device(rt, path)?;
+    let mut file = open_locked(rt, path)?;
+    let size = size_of_device(&mut file)?;
     match blocks {
         None => Ok(FileDisk::over(file, size.min(MOST_BLOCKS))),
         Some(asked) if asked <= size => Ok(FileDisk::over(file, asked)),
@@ -56,26 +57,32 @@ where
     if !is_block_device(rt, path) {
         return FileDisk::open(rt, path);
     }
-    let (mut file, size) = open_device(rt, path)?;
-    let blocks = blocks_of_image(&mut file, size)?;
+    let mut file = open_locked(rt, path)?;
+    let blocks = blocks_in(rt, path, &mut file)?;
     Ok(FileDisk::over(file, blocks))
 }
 
-/// The same, of which the file is handed on with how many blocks it has, for who watches it.
-pub fn open_locked<R: Files>(rt: &R, path: &str) -> io::Result<(R::File, u32)>
+/// Opens a file or a block device, locks it, and then settles it.
+pub fn open_locked<R, F>(rt: &R, path: &str) -> io::Result<F>
 where
-    R::File: BlockFile,
+    R: Files<File = F>,
+    F: BlockFile,
+    ensures { IfOk result (λ file. F.is_locked file ≡ true) }
 {
-    if is_block_device(rt, path) {
-        let (mut file, size) = open_device(rt, path)?;
-        let blocks = blocks_of_image(&mut file, size)?;
-        return Ok((file, blocks));
-    }
     let file = OpenOptions::new().read(true).write(true).open(rt, path)?;
     file.lock()?;
     file.sync_all()?;
+    Ok(file)
+}
+
+/// How many blocks there are in the file or block device of this name, by an opening of it.
+pub fn blocks_in<R: Files>(rt: &R, path: &str, file: &mut R::File) -> io::Result<u32> {
+    if is_block_device(rt, path) {
+        let size = size_of_device(file)?;
+        return blocks_of_image(file, size);
+    }
     let blocks = file.metadata()?.len() / BLOCK_BYTES as u64;
-    Ok((file, blocks.min(u64::from(u32::MAX)) as u32))
+    Ok(blocks.min(u64::from(u32::MAX)) as u32)
 }
 
 // Whether a block device has this name.
@@ -86,16 +93,10 @@ fn is_block_device<R: Files>(rt: &R, path: &str) -> bool {
     }
 }
 
-// Opens a block device, locks it, and settles it. Its length is 0: how many blocks it has, seeking tells.
-fn open_device<R: Files>(rt: &R, path: &str) -> io::Result<(R::File, u32)>
-where
-    R::File: BlockFile,
-{
-    let mut file = OpenOptions::new().read(true).write(true).open(rt, path)?;
-    file.lock()?;
-    file.sync_all()?;
+// How many blocks a block device has. Its length is 0: seeking tells.
+fn size_of_device<F: Seek>(file: &mut F) -> io::Result<u32> {
     let blocks = file.seek(SeekFrom::End(0))? / BLOCK_BYTES as u64;
-    Ok((file, blocks.min(u64::from(u32::MAX)) as u32))
+    Ok(blocks.min(u64::from(u32::MAX)) as u32)
 }
 
 /// How many blocks an image has that lies on a device of this size: all of it, where its first block can't be read or

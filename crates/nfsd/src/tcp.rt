@@ -10,7 +10,7 @@ use crate::fault::Fault;
 use crate::image_disk::ImageDisk;
 use crate::trouble::Trouble;
 use crate::watched_image::open_for_threads;
-use disk::{BlockFile, FileDisk, FirstContents};
+use disk::{BlockFile, FirstContents, ThreadedDisk};
 use server::{Ended, ServeFault, serve_store};
 use session::SessionFault;
 use std::alloc::Global;
@@ -100,7 +100,7 @@ where
 pub fn serve_clients<P, F, R, O>(
     rt: &R,
     alloc: Global,
-    disk: FileDisk<F>,
+    disk: ThreadedDisk<F>,
     listening: &Listening,
     workers: u32,
     connections: u32,
@@ -137,7 +137,7 @@ where
 fn serve_announced<'w, F, R, O>(
     rt: &R,
     alloc: Global,
-    store: Store<FileDisk<F>>,
+    store: Store<ThreadedDisk<F>>,
     listening: &Listening,
     workers: u32,
     connections: u32,

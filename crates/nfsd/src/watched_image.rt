@@ -3,8 +3,8 @@ ghost use Rattle.std.specs.Prelude.{◌≡◌, [], IfOk};
 ghost use Rattle.disk.specs.Crash.{IsAtRest};
 ghost use Rattle.disk.specs.File.{file_device, first_in};
 
-use crate::locked_files::open_locked;
-use disk::{BlockFile, FileDisk};
+use crate::locked_files::{blocks_in, open_locked};
+use disk::{BlockFile, ThreadedDisk};
 use std::fs::{Files, OpenOptions};
 use std::io;
 use std::io::Eprint;
@@ -17,15 +17,15 @@ pub fn open_for_threads<'a, R: Files, T: Clock + Eprint>(
     rt: &R,
     path: &str,
     alarm: &'a Alarm<'a, T>,
-) -> io::Result<FileDisk<WatchedFile<'a, R::File, T>>>
+) -> io::Result<ThreadedDisk<WatchedFile<'a, R::File, T>>>
 where
     R::File: BlockFile,
     ensures rest { IfOk result (λ d. IsAtRest (file_device (first_in d.first.blocks.items) d.blocks
         d.file.calls.items)) }
     ensures fresh { IfOk result (λ d. d.file.calls.items ≡ []) }
 {
-    let (file, blocks) = open_locked(rt, path)?;
-    let disk = FileDisk::over(WatchedFile::new(file, alarm), blocks);
-    let home = OpenOptions::new().read(true).write(true).open(rt, path)?;
-    disk.beside(WatchedFile::new(home, alarm))
+    let file = WatchedFile::new(open_locked(rt, path)?, alarm);
+    let mut home = OpenOptions::new().read(true).write(true).open(rt, path)?;
+    let blocks = blocks_in(rt, path, &mut home)?;
+    ThreadedDisk::over(file, WatchedFile::new(home, alarm), blocks)
 }

@@ -5,7 +5,7 @@ ghost use Rattle.server.specs.Announcing.{Announces};
 
 use crate::announcing::Announcer;
 use crate::serving::{ServeFault, serve};
-use disk::{BlockFile, FileDisk, FilePort, FileSource};
+use disk::{BlockFile, FilePort, FileSource, ThreadedDisk};
 use pool::{Ended, Ledgers, Whole, begin};
 use std::alloc::Global;
 use std::marker::Brand;
@@ -21,7 +21,7 @@ use store_images::{Store, TakenApart, parts};
 pub fn serve_store<F, R, A>(
     rt: &R,
     alloc: Global,
-    store: Store<FileDisk<F>>,
+    store: Store<ThreadedDisk<F>>,
     listener: &TcpListener,
     workers: u32,
     connections: u32,
@@ -53,7 +53,7 @@ where
 // What was opened, and how many workers are to use it.
 #[derive(Drop)]
 struct Opened<F: BlockFile> {
-    parts: TakenApart<FileDisk<F>>,
+    parts: TakenApart<ThreadedDisk<F>>,
     workers: u32,
 }
 
@@ -86,7 +86,7 @@ where
     ensures boot { IfOk result.1 (λ ended. ended.core.boot ≡ opened.parts.core.boot) }
 {
     let Opened { parts, workers } = opened;
-    match begin::<L, G, I, FileDisk<F>, FilePort<F>, FileSource<F>>(alloc, parts, workers, ledgers) {
+    match begin::<L, G, I, ThreadedDisk<F>, FilePort<F>, FileSource<F>>(alloc, parts, workers, ledgers) {
         Ok(pool) => serve(rt, alloc, pool, listener, connections, announcer),
         Err(_) => (announcer, Err(ServeFault::Memory)),
     }

@@ -15,8 +15,12 @@ pub struct WatchedFile<'a, F, R> {
 }
 
 impl<'a, F: BlockFile, R: Clock + Eprint> WatchedFile<'a, F, R> {
+    ghost use Rattle.std.specs.Prelude.{◌≡◌};
+
     /// This file, whose failures this alarm tells of.
-    pub fn new(file: F, alarm: &'a Alarm<'a, R>) -> WatchedFile<'a, F, R> {
+    pub fn new(file: F, alarm: &'a Alarm<'a, R>) -> WatchedFile<'a, F, R>
+        ensures { result.file ≡ file }
+    {
         WatchedFile { file, alarm }
     }
 
@@ -30,6 +34,8 @@ impl<'a, F: BlockFile, R: Clock + Eprint> WatchedFile<'a, F, R> {
 }
 
 impl<F: BlockFile, R: Clock + Eprint> BlockFile for WatchedFile<'_, F, R> {
+    ghost is_locked = { λ w. F.is_locked w.file };
+
     fn lock(&self) -> io::Result<()> {
         self.file.lock()
     }

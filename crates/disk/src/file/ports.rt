@@ -1,5 +1,6 @@
 //! A file that several threads share: a port for each side, and sources for those that read.
-ghost use Rattle.std.specs.Prelude.{◌≡◌, [], ◌∷◌, ◌++◌, OnOk};
+ghost use Rattle.std.specs.Prelude.{◌≡◌, [], ◌∷◌, ◌++◌, IfOk, OnOk};
+ghost use Rattle.std.specs.Arc.{arc_value};
 ghost use Rattle.disk.specs.Ports.{LiesOn, answered};
 ghost use Rattle.disk.specs.declared.block.Side.TheVariants.{Home};
 
@@ -33,7 +34,9 @@ pub struct FileSource<F: BlockFile> {
 
 impl<F: BlockFile> NotedFile<F> {
     // The file, to be shared. What was noted of it is told no more.
-    pub(crate) fn shared(self, alloc: Global) -> Result<Arc<F, Global>, AllocError> {
+    pub(crate) fn shared(self, alloc: Global) -> Result<Arc<F, Global>, AllocError>
+        ensures { IfOk result (λ file. arc_value file ≡ self.file) }
+    {
         let NotedFile { file, calls: _ } = self;
         Ok(Arc::new(alloc, file)?)
     }
@@ -42,6 +45,7 @@ impl<F: BlockFile> NotedFile<F> {
 impl<F: BlockFile> FilePort<F> {
     // A side of a file of so many blocks.
     pub(crate) fn new(file: Arc<F, Global>, blocks: u32, side: Side) -> FilePort<F>
+        ensures file { result.file ≡ file }
         ensures blocks { result.blocks ≡ blocks }
         ensures side { result.side ≡ side }
         ensures noted { result.noted.items ≡ [] }

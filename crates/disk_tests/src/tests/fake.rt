@@ -72,6 +72,10 @@ pub struct Fake<'a> {
 }
 
 impl BlockFile for Fake<'_> {
+    ghost use Rattle.std.specs.Prelude.{true};
+
+    ghost is_locked = { λ f. true };
+
     fn lock(&self) -> io::Result<()> {
         self.steps.make(Step::Lock)
     }

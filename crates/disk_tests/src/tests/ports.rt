@@ -3,7 +3,9 @@
 
 use crate::tests::block;
 use crate::tests::fake::{Fake, Step, Steps};
-use disk::{Block, BlockNo, Failed, FileDisk, FilePort, FileSource, Port, Side, Source, Splits};
+use disk::{
+    Block, BlockNo, Failed, FileDisk, FilePort, FileSource, Port, Side, Source, Splits, ThreadedDisk,
+};
 use std::alloc::Global;
 use std::fs::OpenOptions;
 use std::io;
@@ -151,7 +153,7 @@ fn make<'a>(
 fn is_met(alloc: Global, row: &Row) -> Result<bool, Fail> {
     let of_log = Steps::new(alloc, usize::MAX, usize::MAX);
     let of_home = Steps::new(alloc, usize::MAX, usize::MAX);
-    let disk = FileDisk::over(opening(&of_log), BLOCKS).beside(opening(&of_home))?;
+    let disk = ThreadedDisk::over(opening(&of_log), opening(&of_home), BLOCKS)?;
     let (mut log, mut home, mut sources) = disk.split(alloc, 1)?;
     let mut content = block(alloc, 7)?;
     let answer = make(
@@ -181,14 +183,17 @@ fn what_the_parts_ask(rt: HostRuntime) -> Result<(), Fail> {
 
 // Whether a second opening of this file is taken for one of the first.
 fn is_taken_beside(rt: &HostRuntime, one: &str, other: &str) -> io::Result<bool> {
-    let disk = FileDisk::create(rt, one, 3)?;
-    let second = OpenOptions::new().read(true).write(true).open(rt, other)?;
-    Ok(disk.beside(second).is_ok())
+    let mut options = OpenOptions::new();
+    options.read(true).write(true);
+    let first = options.open(rt, one)?;
+    let second = options.open(rt, other)?;
+    Ok(ThreadedDisk::over(first, second, 3).is_ok())
 }
 
 #[test]
 fn another_file_is_no_second_opening(rt: HostRuntime) -> Result<(), Fail> {
     let (one, other) = ("beside.tmp", "other.tmp");
+    drop(FileDisk::create(&rt, one, 3)?);
     drop(FileDisk::create(&rt, other, 3)?);
     assert!(rt; is_taken_beside(&rt, one, one)? && !is_taken_beside(&rt, one, other)?);
     std::fs::remove_file(&rt, one)?;

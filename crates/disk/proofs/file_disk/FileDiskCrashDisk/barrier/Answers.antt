@@ -9,5 +9,5 @@ returns-clause-call g c =
     let old = c.args.self.now in
     let first = first_in old.first.blocks.items in
     subst (λ (calls : Calls). HasSettled (file_device first old.blocks old.file.calls.items) c.args.side
-    c.sync.result (file_device first old.blocks calls)) (sym c.sync.ensures)
+    c.sync.result (file_device first old.blocks calls)) (sym c.sync.ensures.call)
     (has_settled first old.blocks old.file.calls.items c.args.side c.sync.result)

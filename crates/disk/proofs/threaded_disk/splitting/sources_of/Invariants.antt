@@ -1,5 +1,5 @@
 use Rattle.std.proofs.Common.{◌≡◌, All, [], length}
-use Rattle.disk.proofs.file_disk.splitting.sources_of.Given as goal
+use Rattle.disk.proofs.threaded_disk.splitting.sources_of.Given as goal
 
 abbrev pub invariant-loop-made : goal.invariant-loop-made
 invariant-loop-made g l = record {
