@@ -1,5 +1,5 @@
 //! The file below a device: what is asked of it, and what is noted of that.
-ghost use Rattle.std.specs.Prelude.{◌≡◌, [], ◌∷◌, ◌++◌};
+ghost use Rattle.std.specs.Prelude.{◌≡◌, [], ◌∷◌, ◌++◌, true, IfOk};
 ghost use Rattle.std.specs.declared.snapshot.Snapshot.{Snapshot};
 ghost use Rattle.disk.specs.Blocks.{IsBlock};
 ghost use Rattle.disk.specs.Device.{Content};
@@ -9,7 +9,7 @@ pub(crate) mod ports;
 
 use crate::{Block, BlockNo, Failed, Side};
 use http_server::Log;
-use std::fs::{File, OpenFile};
+use std::fs::{File, Files, OpenFile, OpenOptions};
 use std::io;
 use std::os::unix::fs::{FileExt, MetadataExt};
 use std::snapshot::Snapshot;
@@ -37,6 +37,19 @@ impl BlockFile for File {
         self.try_lock()?;
         Ok(())
     }
+}
+
+/// Opens a file or a block device, takes it for this program alone, and then settles it.
+pub fn open_locked<R, F>(rt: &R, path: &str) -> io::Result<F>
+where
+    R: Files<File = F>,
+    F: BlockFile,
+    ensures { IfOk result (λ file. F.is_locked file ≡ true) }
+{
+    let file = OpenOptions::new().read(true).write(true).open(rt, path)?;
+    file.lock()?;
+    file.sync_all()?;
+    Ok(file)
 }
 
 /// A call of a file: a read or a write of a block's bytes from an offset on, or a sync that is to settle the

@@ -5,7 +5,7 @@ ghost use Rattle.disk.specs.Crash.{IsAtRest};
 ghost use Rattle.disk.specs.File.{file_device, first_in};
 
 use crate::file::NotedFile;
-use crate::{Block, BlockFile, BlockNo, CrashDisk, Failed, FirstContents, Side};
+use crate::{Block, BlockFile, BlockNo, CrashDisk, Failed, FirstContents, Side, open_locked};
 use limits::BLOCK_BYTES;
 use std::fs::{File, Files, OpenFile, OpenOptions};
 use std::io;
@@ -94,9 +94,7 @@ impl<F: BlockFile> FileDisk<F> {
             d.file.calls.items)) }
         ensures fresh { IfOk result (λ d. d.file.calls.items ≡ []) }
     {
-        let file = OpenOptions::new().read(true).write(true).open(rt, path)?;
-        file.lock()?;
-        file.sync_all()?;
+        let file = open_locked::<R, F>(rt, path)?;
         let blocks = file.metadata()?.len() / BLOCK_BYTES as u64;
         Ok(FileDisk::over(file, blocks.min(u64::from(u32::MAX)) as u32))
     }

@@ -18,7 +18,7 @@ mod threaded_disk;
 pub use block::{Block, BlockNo, Side};
 pub use device::{CrashDisk, Failed};
 pub use file::ports::{FilePort, FileSource};
-pub use file::{BlockFile, FileCall, FirstContents};
+pub use file::{BlockFile, FileCall, FirstContents, open_locked};
 pub use file_disk::FileDisk;
 pub use laws::{
     a_crash_leaves_blocks, a_device_tells_of_blocks, a_file_honest_to_each_side_keeps_the_model,

@@ -1,13 +1,13 @@
 //! The file, or the block device, that an image lies in.
-ghost use Rattle.std.specs.Prelude.{◌≡◌, [], true, IfOk};
+ghost use Rattle.std.specs.Prelude.{◌≡◌, [], IfOk};
 ghost use Rattle.disk.specs.Crash.{IsAtRest};
 ghost use Rattle.disk.specs.File.{file_device, first_in};
 ghost use Rattle.nfsd.specs.Done.{AreAsked};
 
-use disk::{BlockFile, FileDisk};
+use disk::{BlockFile, FileDisk, open_locked};
 use layout::Super;
 use limits::{BLOCK_BYTES, MOST_BLOCKS};
-use std::fs::{Files, OpenFile, OpenOptions};
+use std::fs::{Files, OpenFile};
 use std::io;
 use std::io::{ErrorKind, Read, Seek, SeekFrom};
 use std::os::unix::fs::FileTypeExt;
@@ -60,19 +60,6 @@ where
     let mut file = open_locked(rt, path)?;
     let blocks = blocks_in(rt, path, &mut file)?;
     Ok(FileDisk::over(file, blocks))
-}
-
-/// Opens a file or a block device, locks it, and then settles it.
-pub fn open_locked<R, F>(rt: &R, path: &str) -> io::Result<F>
-where
-    R: Files<File = F>,
-    F: BlockFile,
-    ensures { IfOk result (λ file. F.is_locked file ≡ true) }
-{
-    let file = OpenOptions::new().read(true).write(true).open(rt, path)?;
-    file.lock()?;
-    file.sync_all()?;
-    Ok(file)
 }
 
 /// How many blocks there are in the file or block device of this name, by an opening of it.

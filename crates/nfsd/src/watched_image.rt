@@ -3,8 +3,8 @@ ghost use Rattle.std.specs.Prelude.{◌≡◌, [], IfOk};
 ghost use Rattle.disk.specs.Crash.{IsAtRest};
 ghost use Rattle.disk.specs.File.{file_device, first_in};
 
-use crate::locked_files::{blocks_in, open_locked};
-use disk::{BlockFile, ThreadedDisk};
+use crate::locked_files::blocks_in;
+use disk::{BlockFile, ThreadedDisk, open_locked};
 use std::fs::{Files, OpenOptions};
 use std::io;
 use std::io::Eprint;
