@@ -1,9 +1,10 @@
 //! The lock.
 ghost use Rattle.std.specs.Prelude.{◌≡◌, ◌+◌, ◌≤◌, length, None, IsSome};
-ghost use Rattle.log_seats.specs.Steps.{InstComesBack, InstGoesOut, LogComesBack, LogGoesOut};
-ghost use Rattle.pool.specs.Locking.{IsLawful};
+ghost use Rattle.log_seats.specs.Steps.{HasEnded, InstComesBack, InstGoesOut, LogComesBack, LogGoesOut, comes_back};
+ghost use Rattle.pool.specs.Locking.{IsLawful, LooksAt};
 ghost use Rattle.pool.specs.Stepping.{HasStepped, grown};
 ghost use Rattle.pool_calls.specs.Sides.{HandsOutNone, HasTurned};
+ghost use Rattle.store_workers.specs.Ended.{GivesAllBack};
 ghost use Rattle.txn.specs.Core.{CoreState};
 ghost use Rattle.wal_law.specs.Installer.{may_install};
 ghost use Rattle.wal_law.specs.Logger.{may_log};
@@ -86,33 +87,37 @@ impl<L: Ledger, G: Whole, I: Whole> Shared<L, G, I> {
         installer_step(&mut *guard, seat)
     }
 
-    /// How far the core is.
-    pub fn look<R: Wait>(&self, rt: &R) -> Look {
+    /// How far the core is, which it leaves as it is.
+    pub fn look<R: Wait>(&self, rt: &R) -> Look
+        ensures { (at : CoreState) × IsLawful at × LooksAt at result }
+    {
         let guard = self.lock.lock(rt);
-        let core = &guard.core;
-        Look {
-            settled: core.settled(),
-            is_settled: core.is_settled(),
-            kept: core.kept(),
-            tail: core.tail(),
-            broken: core.broken(),
-        }
+        guard.core.lawful();
+        look_at(&guard.core)
     }
 
     /// Ends a seat: what its worker has begun is given back, and what it was to answer is lost.
-    pub fn leave<R: Wait, S: Drop>(&self, rt: &R, seat: Seat<L, S>) {
+    pub fn leave<R: Wait, S: Drop>(&self, rt: &R, seat: Seat<L, S>)
+        ensures { (before : CoreState) × (after : CoreState) × GivesAllBack seat.work.worker.begun before after }
+    {
         let mut guard = self.lock.lock(rt);
         end_seat(&mut *guard, seat);
     }
 
     /// Ends the logger's seat: a call that is out is given back with its port's answer, or as failed.
-    pub fn leave_log<R: Wait, P: Port + Drop>(&self, rt: &R, seat: IoSeat<G, P>) {
+    pub fn leave_log<R: Wait, P: Port + Drop>(&self, rt: &R, seat: IoSeat<G, P>)
+        ensures { (before : CoreState) × (after : CoreState)
+            × HasEnded LogComesBack before seat.caller.io seat.caller.made after }
+    {
         let mut guard = self.lock.lock(rt);
         end_calls(Side::Log, &mut *guard, seat);
     }
 
     /// Ends the installer's seat: a call that is out is given back with its port's answer, or as failed.
-    pub fn leave_install<R: Wait, P: Port + Drop>(&self, rt: &R, seat: IoSeat<I, P>) {
+    pub fn leave_install<R: Wait, P: Port + Drop>(&self, rt: &R, seat: IoSeat<I, P>)
+        ensures { (before : CoreState) × (after : CoreState)
+            × HasEnded InstComesBack before seat.caller.io seat.caller.made after }
+    {
         let mut guard = self.lock.lock(rt);
         end_calls(Side::Home, &mut *guard, seat);
     }
@@ -131,11 +136,25 @@ impl<L: Ledger, G: Whole, I: Whole> Shared<L, G, I> {
     }
 }
 
+// How far a core is.
+fn look_at(core: &Core<Done>) -> Look
+    ensures { LooksAt core.now result }
+{
+    Look {
+        settled: core.settled(),
+        is_settled: core.is_settled(),
+        kept: core.kept(),
+        tail: core.tail(),
+        broken: core.broken(),
+    }
+}
+
 // Ends a seat.
 fn end_seat<L: Ledger, G: Whole, I: Whole, S: Drop>(
     locked: &mut Locked<L, G, I>,
     seat: Seat<L, S>,
 )
+    ensures back { GivesAllBack seat.work.worker.begun locked.old.core locked.new.core }
     ensures log { locked.new.core.log ≡ locked.old.core.log }
     ensures calls { HandsOutNone locked.old.core locked.new.core }
 {
@@ -153,6 +172,7 @@ fn end_calls<L: Ledger, G: Whole, I: Whole, N: Whole, P: Port + Drop>(
     locked: &mut Locked<L, G, I>,
     seat: IoSeat<N, P>,
 )
+    ensures back { HasEnded (comes_back side) locked.old.core seat.caller.io seat.caller.made locked.new.core }
     ensures places { locked.new.core.log.places ≡ locked.old.core.log.places }
     ensures calls { HandsOutNone locked.old.core locked.new.core }
 {
