@@ -17,6 +17,7 @@ use std::alloc::Global;
 use std::fs::Files;
 use std::io::{Eprint, Write};
 use std::net::{Net, TcpListener, TcpStream};
+use std::snapshot::Snapshot;
 use std::sync::Wait;
 use std::thread::Threads;
 use std::time::Clock;
@@ -116,7 +117,10 @@ where
 {
     let store = match store::open(alloc, disk) {
         Ok(store) => store,
-        Err((disk, fault)) => return (Some(ImageDisk::Watched(disk)), Err(Fault::Open(fault))),
+        Err((disk, fault)) => {
+            let left = ImageDisk::Watched(Snapshot::of(&disk));
+            return (Some(left), Err(Fault::Open(fault)));
+        }
     };
     let mut ended = Err(ServeFault::Memory);
     serve_announced(
