@@ -97,7 +97,7 @@ where
 }
 
 /// Opens a device as a store, prints where it listens once it can serve, and serves so many connections, or without end
-/// where that is 0. A device that is refused is handed back.
+/// where that is 0. It tells how a device that is refused was left.
 pub fn serve_clients<P, F, R, O>(
     rt: &R,
     alloc: Global,
