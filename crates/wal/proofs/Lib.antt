@@ -1,3 +1,2 @@
-mod Absorbing
 mod Sides
 mod Stages

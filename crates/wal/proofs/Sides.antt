@@ -1,6 +1,5 @@
 -- What holds of either side's calls: the laws of logger and of installer, by the side.
-use Rattle.std.proofs.Common.{◌≡◌, ◌+◌, ◌<◌, ℕ, Bool, true, false, if◌then◌else◌, IfSome, IsSome, Option, Result, ap, subst}
-use Rattle.std.proofs.Common.{◌∙◌, arith, sym}
+use Rattle.std.proofs.Common.{◌≡◌, Bool, if◌then◌else◌, IfSome, IsSome, Option, Result}
 use Rattle.disk.specs.Device.{Device}
 use Rattle.disk.specs.declared.block.Side.{Side}
 use Rattle.disk.specs.declared.block.Side.TheVariants.{Log as LogSide, Home}

@@ -4,7 +4,6 @@ pub mod Sides
 pub mod Batch
 pub mod BySide
 pub mod Lent
-pub mod Tail
 -- What the contracts here cite, for the crates above.
 pub use Rattle.wal_law.specs.Io
 pub use Rattle.wal_law.specs.Log

@@ -2,15 +2,14 @@
 use Rattle.std.specs.Prelude.{is_none}
 use Rattle.wal.specs.Batch.{IsStageOf, step_at}
 use Rattle.wal.specs.declared.memory.Wal.TheInside.{Inside}
-use Rattle.wal.specs.declared.memory.batch.Batch.{Batch}
 use Rattle.wal_law.specs.Log.{Log, IsLawful}
 
 abbrev pub log_of : Inside → Log
 log_of w =
     record {
-      blocks = w.blocks;
-      start = w.start;
-      changes = w.changes.items;
+      blocks = w.changes.blocks;
+      start = w.changes.start;
+      changes = w.changes.changes;
       logged = w.logged;
       taken = w.batches.log.taken;
       log_step = step_at w.batches.log.taken w.batches.log.stage;

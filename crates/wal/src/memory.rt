@@ -13,21 +13,19 @@ mod calls;
 mod header;
 mod search;
 
-use crate::{LogChange, Room, Seq};
+use crate::{Room, Seq};
 use batch::{Batch, Batches};
 use circ::Recovered;
 use disk::{Block, BlockNo};
 use limits::LOG_SLOTS;
+use log_changes::Changes;
 use std::alloc::{AllocError, Global};
-use std::collections::VecDeque;
 use std::marker::Model;
 
 /// The changes that aren't home yet, and how far the logger and the installer have come with them.
 #[derive(Drop)]
 pub struct Wal {
-    blocks: u32,
-    start: u64,
-    changes: VecDeque<LogChange>,
+    changes: Changes,
     logged: usize,
     batches: Batches,
     places: u64,
@@ -57,15 +55,11 @@ impl Wal {
     {
         let log_buffer = Block::zeros(alloc)?;
         let home_buffer = Block::zeros(alloc)?;
-        let Recovered { start, logged } = found;
-        let count = logged.len();
-        let mut changes = VecDeque::with_capacity(alloc, count)?;
-        append::push_group(&mut changes, 0, logged);
+        let changes = Changes::new(alloc, blocks, found)?;
+        let logged = changes.len();
         Ok(Wal {
-            blocks,
-            start,
             changes,
-            logged: count,
+            logged,
             batches: Batches {
                 log: Batch::new(log_buffer),
                 home: Batch::new(home_buffer),
@@ -79,14 +73,14 @@ impl Wal {
     pub fn lawful(&self)
         ensures { IsLawful self.now }
     {
-        let _ = &self.blocks;
+        let _ = &self.logged;
     }
 
     /// Each of its changes is of a whole block.
     pub fn whole(&self)
         ensures { All IsWholeChange self.now.changes }
     {
-        search::are_whole(&self.changes);
+        search::are_whole(self.changes.list());
     }
 
     /// The newest content of a block. One that the log doesn't have is home.
@@ -94,21 +88,21 @@ impl Wal {
         ensures { MatchOption result (newest self.now block.0 ≡ None) (λ content. newest self.now block.0
             ≡ Some content.now) }
     {
-        search::last_change(&self.changes, 0, self.changes.len(), block)
+        self.changes.latest(block)
     }
 
     /// The greatest place such that each change at or before it is settled in the log.
     pub fn settled(&self) -> Seq
         ensures { result.0 ≡ settled_place self.now }
     {
-        search::seq_before(&self.changes, self.logged, self.places)
+        search::seq_before(self.changes.list(), self.logged, self.places)
     }
 
     /// The greatest place such that each change at or before it is home.
     pub fn installed(&self) -> Seq
         ensures { result.0 ≡ installed_place self.now }
     {
-        search::seq_before(&self.changes, 0, self.places)
+        search::seq_before(self.changes.list(), 0, self.places)
     }
 
     /// The place of the last commit.
@@ -137,7 +131,7 @@ impl Wal {
     pub fn blocks(&self) -> u32
         ensures { result ≡ self.now.blocks }
     {
-        self.blocks
+        self.changes.blocks()
     }
 
     /// Whether a device call has failed: then the log hands out no more of them.
@@ -156,7 +150,7 @@ impl Wal {
         }
         let tail = self.tail();
         let count = self.added_blocks(blocks);
-        let left = u64::MAX - (self.start + self.changes.len() as u64);
+        let left = u64::MAX - (self.changes.start() + self.changes.len() as u64);
         if left < count as u64 {
             Room::Spent
         } else if (LOG_SLOTS as usize) - tail < count {

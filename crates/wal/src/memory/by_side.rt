@@ -1,6 +1,6 @@
 //! In what the two sides of the log differ: the logger takes the tail, to the slots of the log, and tells of it by
 //! the header; the installer takes what is logged, home, and tells of it by the start.
-ghost use Rattle.std.specs.Prelude.{◌≡◌, ◌≤◌, ◌<◌, ◌+◌, ◌%◌, false, length, drop};
+ghost use Rattle.std.specs.Prelude.{◌≡◌, ◌≤◌, ◌<◌, ◌+◌, ◌%◌, false, length};
 ghost use Rattle.limits.specs.declared.TheConstants.{FIRST_SLOT_BLOCK, LOG_SLOTS};
 ghost use Rattle.wal.specs.Batch.{IsStageOf, step_at};
 ghost use Rattle.wal.specs.BySide.{IsBody, IsTelling, ahead_of, next_body, out_of, taken_by, to_take, with_ended};
@@ -8,12 +8,9 @@ ghost use Rattle.wal.specs.BySide.{IsBody, IsTelling, ahead_of, next_body, out_o
 use super::Wal;
 use super::batch::Stage;
 use super::header::put_header;
-use super::search::next_newest;
-use crate::LogChange;
 use circ::put_start;
 use disk::{Block, BlockNo, Side};
 use limits::{FIRST_SLOT_BLOCK, LOG_HEADER_BLOCK, LOG_SLOTS, START_BLOCK};
-use std::collections::VecDeque;
 
 impl Wal {
     // How many changes a side may take at once: the logger the tail, where its positions fit behind the settled
@@ -53,7 +50,7 @@ impl Wal {
     {
         let next = match side {
             Side::Log => number,
-            Side::Home => next_newest(&self.changes, number, taken),
+            Side::Home => self.changes.next_newest(number, taken),
         };
         if next < taken {
             Stage::Body(next)
@@ -71,11 +68,11 @@ impl Wal {
         match side {
             Side::Log => {
                 let index = self.logged + number;
-                content.copy_from(&self.changes[index].content);
-                slot_block(self.start + index as u64)
+                content.copy_from(&self.changes.list()[index].content);
+                slot_block(self.changes.start() + index as u64)
             }
             Side::Home => {
-                let change = &self.changes[number];
+                let change = &self.changes.list()[number];
                 content.copy_from(&change.content);
                 change.block
             }
@@ -90,11 +87,14 @@ impl Wal {
         match side {
             Side::Log => {
                 let end = self.logged + self.batches.log.taken;
-                put_header(content, self.start, &self.changes, end);
+                put_header(content, self.changes.start(), self.changes.list(), end);
                 BlockNo(LOG_HEADER_BLOCK)
             }
             Side::Home => {
-                put_start(content, self.start + self.batches.home.taken as u64);
+                put_start(
+                    content,
+                    self.changes.start() + self.batches.home.taken as u64,
+                );
                 BlockNo(START_BLOCK)
             }
         }
@@ -112,8 +112,7 @@ impl Wal {
             }
             Side::Home => {
                 let taken = self.batches.home.taken;
-                drop_front(&mut self.changes, taken);
-                self.start += taken as u64;
+                self.changes.take_out(taken);
                 self.logged -= taken;
                 self.batches.home.end();
             }
@@ -126,14 +125,4 @@ fn slot_block(position: u64) -> BlockNo
     ensures { result.0 ≡ FIRST_SLOT_BLOCK + position % LOG_SLOTS }
 {
     BlockNo(FIRST_SLOT_BLOCK + (position % LOG_SLOTS) as u32)
-}
-
-// Lets the first of the changes go.
-fn drop_front(changes: &mut VecDeque<LogChange>, count: usize)
-    requires { count ≤ length changes.old.items }
-    ensures { changes.new.items ≡ drop count changes.old.items }
-{
-    for _ in 0..count {
-        let _ = changes.pop_front();
-    }
 }

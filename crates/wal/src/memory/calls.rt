@@ -157,7 +157,7 @@ impl Wal {
     {
         let batch = self.batches.of(side);
         batch.buffer.is_none()
-            && io.beginning == self.start + self.ahead(side) as u64
+            && io.beginning == self.changes.start() + self.ahead(side) as u64
             && io.step == batch.step()
     }
 
@@ -192,7 +192,7 @@ impl Wal {
             Stage::BodyBarrier | Stage::HeaderBarrier => IoCall::Barrier(side),
         };
         SideIo {
-            beginning: self.start + self.ahead(side) as u64,
+            beginning: self.changes.start() + self.ahead(side) as u64,
             step: batch.step(),
             call,
             content,

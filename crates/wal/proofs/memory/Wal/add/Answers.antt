@@ -8,15 +8,15 @@ use Rattle.wal.specs.View.{log_of}
 use Rattle.wal_law.proofs.Lawful.{lawful_with_group}
 use Rattle.wal.proofs.memory.Wal.add.Goals as goal
 
-pub invariant_of-self-2 : goal.invariant_of-self-2
-invariant_of-self-2 c =
+pub invariant_of-self : goal.invariant_of-self
+invariant_of-self c =
     let log : Log = log_of c.self.inside in
     let added : c.count_new-added.result ≡ added_blocks log (blocks_of c.args.group.items) =
     c.count_new-added.ensures
     ∙ ap (λ (g : List (BlockNo × Content)). added_blocks log (blocks_of g)) c.deref.ensures.value in
     let fits : tail_after log (blocks_of c.args.group.items) ≤ LOG_SLOTS =
     omega (arith, added, c.if-len-ahead.false) in (
-      rw (c.absorb.ensures, c.reserve.ensures.items)
+      rw c.in-Ok.ensures.appended
           (lawful_with_group log c.args.group.items c.self.invariant.0
           (subst (λ (l : Log). HasPlaces l (blocks_of c.args.group.items)) (sym c.self.view_is) c.requires.places)
           fits

@@ -17,5 +17,5 @@ pub invariant_of-self-in-Home : goal.invariant_of-self-in-Home
 invariant_of-self-in-Home c =
     let none : (log_of c.self.inside).inst_out ≡ false = ap (λ (l : Log). l.inst_out) c.self.view_is
     ∙ subst (λ (side : Side). out_of side c.args.self.now ≡ false) c.in-Home.is c.requires in
-    rw (c.end-in-Home.ensures, c.drop_front.ensures)
+    rw (c.end-in-Home.ensures, c.take_out.ensures)
     (lawful_installed (log_of c.self.inside) c.self.invariant.0 none, c.self.invariant.1, tt)

@@ -1,5 +1,5 @@
 -- By the stage of the side's batch: the write of a block, the write that tells of them, or a barrier.
-use Rattle.std.proofs.Common.{◌≡◌, ◌≤◌, ◌<◌, ◌+◌, ◌∙◌, ℕ, ap, arith, inl, inr, subst, sym}
+use Rattle.std.proofs.Common.{◌≡◌, ◌<◌, ◌+◌, ◌∙◌, ℕ, ap, arith, inl, inr, subst, sym}
 use Rattle.disk.specs.Device.{Content}
 use Rattle.wal_law.specs.Io.{Io}
 use Rattle.wal_law.specs.Log.{Log}
@@ -19,12 +19,12 @@ returns-clause-call c =
     let log : Log = c.args.self.now in
     let batch : Batch = c.of-batch.result.now in
     let io : Io = record {
-      beginning = c.self.inside.start + c.ahead.result;
+      beginning = c.start.result + c.ahead.result;
       step = c.step.result;
       call = c.match-batch.call;
       content = c.match-batch.content;
     } in
-    let start : c.self.inside.start ≡ log.start = ap (λ (l : Log). l.start) c.self.view_is in
+    let start : c.start.result ≡ log.start = c.start.ensures ∙ ap (λ (l : Log). l.start) c.self.view_is in
     let beginning : io.beginning ≡ log.start + ahead_of side log = omega (arith, start, c.ahead.ensures) in
     let taken : taken_by side log ≡ batch.taken =
     taken_is side c.self.inside log batch c.self.view_is c.of-batch.ensures in

@@ -1,11 +1,14 @@
-use Rattle.std.proofs.Common.{◌≡◌, length, arith}
-use Rattle.wal_law.proofs.Lawful.{lawful_opened}
+use Rattle.std.proofs.Common.{◌≡◌, ap, length, arith}
+use Rattle.log_changes.specs.Listed.{Listed}
+use Rattle.wal_law.proofs.Lawful.{lawful_opened, length-changes_of}
 use Rattle.wal.proofs.memory.Wal.new.Goals as goal
 
 pub invariant_of-result : goal.invariant_of-result
 invariant_of-result c =
-    let count : c.len-count.result ≡ length c.args.found.logged.items = omega arith in
-    rw (c.new.ensures, c.new-2.ensures, c.push_group.ensures, c.in_ok-changes.ensures.items, count) (
+    let is = c.in_ok-changes.ensures in
+    let count : c.len-logged.result ≡ length c.args.found.logged.items =
+    omega (arith, ap (λ (l : Listed). length l.changes) is, length-changes_of 0 c.args.found.logged.items) in
+    rw (c.new-2.ensures, c.new-3.ensures, count, is) (
       lawful_opened c.args.blocks c.args.found.start c.args.found.logged.items c.requires.disk c.requires.slots
           c.requires.positions c.requires.homes,
       tt,

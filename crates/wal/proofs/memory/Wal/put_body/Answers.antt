@@ -1,6 +1,5 @@
-use Rattle.std.proofs.Common.{◌≡◌, ◌∙◌, ◌+◌, ℕ, ap, arith, subst}
+use Rattle.std.proofs.Common.{◌≡◌, ◌∙◌, ◌+◌, ℕ, List, ap, arith, get_or, subst}
 use Rattle.std.proofs.lemmas.Option.{get_or_from_slice_get}
-use Rattle.disk.specs.declared.block.BlockNo.{BlockNo}
 use Rattle.disk.specs.declared.block.Side.TheVariants.{Log as LogSide, Home}
 use Rattle.wal_law.specs.declared.change.LogChange.{LogChange}
 use Rattle.wal_law.specs.Log.{Log, log_end}
@@ -15,6 +14,7 @@ returns-in-Log-clause-value c =
     let at : c.slot_block.result.0 ≡ slot_block (log_end log + c.args.number) = omega arith in
     let body : IsBody LogSide log c.args.number c.slot_block.result c.copy_from.new.self = λ change is.
     let one : c.index.result.now ≡ change = c.index.ensures
+    ∙ ap (λ (xs : List LogChange). get_or xs (log.logged + c.args.number) c.index.result.now) c.list.ensures
     ∙ get_or_from_slice_get log.changes (log.logged + c.args.number) change c.index.result.now is in
     (ap (λ (n : ℕ). record { 0 = n }) at, c.copy_from.ensures ∙ ap (λ (x : LogChange). x.content) one) in
     rw c.in-Log.is (subst (λ (l : Log). IsBody LogSide l c.args.number c.slot_block.result c.copy_from.new.self)
@@ -25,6 +25,7 @@ returns-in-Home-clause-value c =
     let log : Log = log_of c.self.inside in
     let body : IsBody Home log c.args.number c.index-change.result.now.block c.copy_from-in-Home.new.self = λ change is.
     let one : c.index-change.result.now ≡ change = c.index-change.ensures
+    ∙ ap (λ (xs : List LogChange). get_or xs c.args.number c.index-change.result.now) c.list-in-Home.ensures
     ∙ get_or_from_slice_get log.changes c.args.number change c.index-change.result.now is in
     (ap (λ (x : LogChange). x.block) one, c.copy_from-in-Home.ensures ∙ ap (λ (x : LogChange). x.content) one) in
     rw c.in-Home.is (subst (λ (l : Log). IsBody Home l c.args.number c.index-change.result.now.block

@@ -6,5 +6,5 @@ use Rattle.wal.proofs.memory.search.count_new.Given as goal
 abbrev pub invariant-loop-block : goal.invariant-loop-block
 invariant-loop-block l =
     (l.count ≤ l.block-index)
-    × (l.count + length (new_blocks (changed_blocks (drop l.from l.changes.items)) (drop l.block-index l.blocks))
-    ≡ length (new_blocks (changed_blocks (drop l.from l.changes.items)) l.blocks))
+    × (l.count + length (new_blocks (changed_blocks (drop l.from l.changes.changes)) (drop l.block-index l.blocks))
+    ≡ length (new_blocks (changed_blocks (drop l.from l.changes.changes)) l.blocks))
