@@ -1,5 +1,6 @@
 //! A session over a fresh tree in memory: bytes in, in any pieces, and the bytes of the replies out. It judges
-//! messages and spells replies as the server's wire does, and shares nothing else with the server.
+//! messages and spells replies as the server's wire does, and runs the bodies of the procedures that the server
+//! runs, over that tree. It shares nothing else with the server.
 #![tactic(auto)]
 
 mod answers;
