@@ -8,5 +8,5 @@ use Rattle.server.proofs.accepting.fn.accept_all.scope.Goals as goal
 pub spawn-reader-requires-send-F : goal.spawn-reader-requires-send-F
 spawn-reader-requires-send-F g c κs within =
     let hall = hall_sync (param 0 g.row.L) (param 1 g.row.G) (param 2 g.row.I) g.G.Whole g.I.Whole g.L.Ledger g.G.Ledger
-    g.I.Ledger (param 3 g.row.P) (param 4 g.row.S) c.requires.6 c.requires.7 in
+    g.I.Ledger (param 3 g.row.P) (param 4 g.row.S) g.P.Port c.requires.6 c.requires.7 in
     search (hall, c.requires.8, crosses, sendable) depth 60 fits 20000
