@@ -28,6 +28,8 @@ use Rattle.nfs_types.proofs.reply.Reply.TheSendSync as reply
 use Rattle.session_wire.proofs.message.ReplyBody.TheSendSync as body
 use Rattle.pool_answers.specs.contracts.answer.Answer
 use Rattle.pool_answers.specs.contracts.answer.Answer.TheInside as answer
+use Rattle.pool_answers.specs.contracts.backlog.Backlog
+use Rattle.pool_answers.specs.contracts.backlog.Backlog.TheInside as backlog
 use Rattle.store_promise.proofs.aims.Aim.TheSendSync as aim
 use Rattle.store_promise.proofs.answers.CallAnswer.TheSendSync as given
 use Rattle.store_promise.proofs.answers.Entry.TheSendSync as entry
@@ -109,11 +111,21 @@ seat_send L S l source =
       (share.the_send L l, (search (source, crosses, sendable) depth 20, tt)),
     ))
 
+backlog_send : IsSend Backlog.the_row
+backlog_send = view_send _ _ _ _ _ (recorded_send backlog.the_field.row _ _ backlog.the_type.to_one
+    (struct_send (Declared.shape backlog.the_type) (
+      search (crosses, sendable) depth 20,
+      (
+        search (crosses, sendable) depth 20,
+        (search (crosses, sendable) depth 20, (search (logs.the_send, crosses, sendable) depth 20, tt)),
+      ),
+    )))
+
 connection_send : IsSend Connection.the_row
-connection_send = search (crosses, sendable) depth 60 fits 20000
+connection_send = search (backlog_send, crosses, sendable) depth 60 fits 20000
 
 connection_sync : IsSync Connection.the_row
-connection_sync = search (crosses, sendable) depth 60 fits 20000
+connection_sync = search (backlog_send, crosses, sendable) depth 60 fits 20000
 
 listed_send : IsSend (Arc.the_row Connection.the_row Global.the_row TheImpl.ghosts)
 listed_send = search (connection_send, connection_sync, crosses, sendable) depth 60 fits 20000
