@@ -127,7 +127,7 @@ connection_send = search (backlog_send, crosses, sendable) depth 60 fits 20000
 connection_sync : IsSync Connection.the_row
 connection_sync = search (backlog_send, crosses, sendable) depth 60 fits 20000
 
-listed_send : IsSend (Arc.the_row Connection.the_row Global.the_row TheImpl.ghosts)
+pub listed_send : IsSend (Arc.the_row Connection.the_row Global.the_row TheImpl.ghosts)
 listed_send = search (connection_send, connection_sync, crosses, sendable) depth 60 fits 20000
 
 open_send : IsSend (Connections.the_row (Arc.the_row Connection.the_row Global.the_row TheImpl.ghosts))
