@@ -5,6 +5,7 @@ use Rattle.std.specs.Io.KnownBytes.{Appends}
 use Rattle.std.specs.declared.io.Error.{Error}
 use Rattle.clap.specs.Words.{Text}
 use Rattle.limits.specs.declared.TheConstants.{MOST_BLOCKS}
+use Rattle.disk.specs.declared.file.BlockFile
 use Rattle.disk.specs.declared.file.FirstContents.{FirstContents}
 use Rattle.disk.specs.Device.{Device}
 use Rattle.disk.specs.File.{file_device, first_in}
@@ -106,7 +107,8 @@ abbrev pub device_of : FirstContents → ℕ → Device
 device_of first size = file_device (first_in first.blocks.items) size []
 
 -- the device that a command left
-abbrev pub device_in : {F W : Type 0} → Option (ImageDisk F W) → Option Device
+abbrev pub device_in : {F W : Type 0} {f : BlockFile.Ghosts F} {w : BlockFile.Ghosts W} → Option (ImageDisk F W f w)
+    → Option Device
 device_in None = None
 device_in (Some (Plain left)) =
     Some (file_device (first_in left.value.first.blocks.items) left.value.blocks left.value.file.calls.items)
