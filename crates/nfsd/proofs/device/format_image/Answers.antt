@@ -9,6 +9,6 @@ returns g c =
     let fresh = c.beginning_with-disk.ensures.fresh in
     let asked : AreAsked c.args.blocks c.beginning_with-disk.result.blocks = search rules in
     let formats = rw (first, fresh) at c.format_device-outcome.ensures in
-    formatted c.args.first c.args.image.now (g.O.Write.contents c.args.writer.now)
+    rw c.of.ensures (formatted c.args.first c.args.image.now (g.O.Write.contents c.args.writer.now)
     (g.O.Write.contents c.format_device-outcome.new.writer) c.args.blocks c.args.inodes c.args.time
-    c.beginning_with-disk.result.blocks _ c.format_device-outcome.result asked formats
+    c.beginning_with-disk.result.blocks _ c.format_device-outcome.result asked formats)

@@ -6,4 +6,5 @@ returns g c =
     let first = c.beginning_with-disk.ensures.first in
     let fresh = c.beginning_with-disk.ensures.fresh in
     let serves = rw (first, fresh) at c.serve_device-disk.ensures in
-    served_once c.args.first c.args.image.now c.args.time c.beginning_with-disk.result.blocks _ _ _ _ serves
+    rw c.of.ensures (served_once c.args.first c.args.image.now c.args.time c.beginning_with-disk.result.blocks _ _ _ _
+    serves)

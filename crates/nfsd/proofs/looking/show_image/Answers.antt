@@ -8,6 +8,6 @@ returns g c =
     let fresh = c.beginning_with-disk.ensures.fresh in
     let does = rw (first, fresh) at c.show_device-outcome.ensures in
     let disk = c.show_device-outcome.new.disk in
-    shown c.args.first c.args.image.now (g.O.Write.contents c.args.writer.now)
+    rw c.of.ensures (shown c.args.first c.args.image.now (g.O.Write.contents c.args.writer.now)
     (g.O.Write.contents c.show_device-outcome.new.writer) c.show_device-outcome.result _
-    (c.beginning_with-disk.result.blocks, disk.first, disk.blocks, disk.file.calls.items, refl, does)
+    (c.beginning_with-disk.result.blocks, disk.first, disk.blocks, disk.file.calls.items, refl, does))
