@@ -150,10 +150,7 @@ fn look_at(core: &Core<Done>) -> Look
 }
 
 // Ends a seat.
-fn end_seat<L: Ledger, G: Whole, I: Whole, S: Drop>(
-    locked: &mut Locked<L, G, I>,
-    seat: Seat<L, S>,
-)
+fn end_seat<L: Ledger, G: Whole, I: Whole, S: Drop>(locked: &mut Locked<L, G, I>, seat: Seat<L, S>)
     ensures back { GivesAllBack seat.work.worker.begun locked.old.core locked.new.core }
     ensures log { locked.new.core.log ≡ locked.old.core.log }
     ensures calls { HandsOutNone locked.old.core locked.new.core }

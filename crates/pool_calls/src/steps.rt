@@ -78,11 +78,7 @@ pub fn give_up<C: Change, G: Whole, P: Port + Drop>(
 
 /// Makes the device call that is out, where it wasn't made, on the seat's own port, and leaves the port's answer in the
 /// seat. It answers whether there was one.
-pub fn make_call<G: Whole, P: Port, T: Gate>(
-    side: Side,
-    seat: &mut IoSeat<G, P>,
-    gate: &T,
-) -> bool
+pub fn make_call<G: Whole, P: Port, T: Gate>(side: Side, seat: &mut IoSeat<G, P>, gate: &T) -> bool
     ensures made { MakesCall seat.old.caller.io seat.old.caller.made seat.new.caller.made
         (P.calls seat.old.port) (P.calls seat.new.port) }
     ensures was_due { IsTrue result ↔ (due seat.old.caller.io seat.old.caller.made ≡ 1) }

@@ -86,7 +86,9 @@ where
     ensures boot { IfOk result.1 (λ ended. ended.core.boot ≡ opened.parts.core.boot) }
 {
     let Opened { parts, workers } = opened;
-    match begin::<L, G, I, ThreadedDisk<F>, FilePort<F>, FileSource<F>>(alloc, parts, workers, ledgers) {
+    match begin::<L, G, I, ThreadedDisk<F>, FilePort<F>, FileSource<F>>(
+        alloc, parts, workers, ledgers,
+    ) {
         Ok(pool) => serve(rt, alloc, pool, listener, connections, announcer),
         Err(_) => (announcer, Err(ServeFault::Memory)),
     }

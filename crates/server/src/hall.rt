@@ -3,7 +3,7 @@ ghost use Rattle.model.specs.Sound.{SoundTime};
 
 use crate::connection::Connection;
 use crate::jobs::Jobs;
-use crate::sizes::{MOST_KEPT_COMMITS, URGENT_COMMITS};
+use crate::sizes::{CROWDING_COMMITS, URGENT_COMMITS};
 use disk::Port;
 use nfs_types::Moment;
 use pool::{Answer, Connections, IoSeat, Look, Pool, Put, ReplyBytes, Seat, Shared, Whole};
@@ -99,11 +99,7 @@ impl<L: Ledger> Signs<L> {
 
 impl<L: Ledger, G: Whole, I: Whole, P: Port, S> Hall<L, G, I, P, S> {
     /// What the threads share of a pool.
-    pub fn new(
-        alloc: Global,
-        pool: Pool<L, G, I, P, S>,
-        signs: Signs<L>,
-    ) -> Hall<L, G, I, P, S> {
+    pub fn new(alloc: Global, pool: Pool<L, G, I, P, S>, signs: Signs<L>) -> Hall<L, G, I, P, S> {
         let Pool {
             shared,
             seats,
@@ -153,5 +149,5 @@ impl<L: Ledger, G: Whole, I: Whole, P: Port, S> Hall<L, G, I, P, S> {
 
 /// Whether so many commits are kept that who has committed waits until some of them are home.
 pub fn is_crowded(look: Look) -> bool {
-    look.kept > MOST_KEPT_COMMITS && !look.broken
+    look.kept > CROWDING_COMMITS && !look.broken
 }

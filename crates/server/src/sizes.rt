@@ -25,7 +25,7 @@ pub const INSTALL_MILLISECONDS: u64 = 50;
 /// Of how many kept commits on the installer doesn't wait.
 pub const URGENT_COMMITS: usize = 256;
 /// Of how many kept commits on who has committed waits until some are home: each keeps what it has read, up to 32 KB.
-pub const MOST_KEPT_COMMITS: usize = 2048;
+pub const CROWDING_COMMITS: usize = 2048;
 /// How often a thread that is kept off yields before it sleeps.
 pub const YIELDS: u32 = 8;
 /// How long it sleeps first, and at most.

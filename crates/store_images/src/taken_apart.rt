@@ -32,7 +32,7 @@ impl<D: Drop> TakenApart<D> {
 }
 
 /// Takes a store apart. Every transaction that is out is ended without a change. It makes no device call.
-pub fn parts<D: CrashDisk>(store: Store<D>) -> TakenApart<D>
+pub fn parts<D: CrashDisk + Drop>(store: Store<D>) -> TakenApart<D>
     ensures core { result.core ≡ record store.core {
       out = [];
       holds = result.core.holds;

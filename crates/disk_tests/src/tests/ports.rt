@@ -4,7 +4,8 @@
 use crate::tests::block;
 use crate::tests::fake::{Fake, Step, Steps};
 use disk::{
-    Block, BlockNo, Failed, FileDisk, FilePort, FileSource, Port, Side, Source, Splits, ThreadedDisk,
+    Block, BlockNo, Failed, FileDisk, FilePort, FileSource, Port, Side, Source, Splits,
+    ThreadedDisk,
 };
 use std::alloc::Global;
 use std::fs::OpenOptions;
