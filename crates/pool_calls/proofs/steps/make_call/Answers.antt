@@ -5,4 +5,4 @@ use Rattle.pool_calls.proofs.steps.make_call.Goals as goal
 pub returns-clause-made : goal.returns-clause-made
 returns-clause-made g c =
     makes_call c.args.seat.now.caller.io c.args.seat.now.caller.made c.make_on.new.self.made c.make_on.result
-    (g.P.Port.calls c.args.port.now) (g.P.Port.calls c.make_on.new.port) c.make_on.ensures.made
+    (g.P.Port.calls c.args.seat.now.port) (g.P.Port.calls c.make_on.new.port) c.make_on.ensures.made
