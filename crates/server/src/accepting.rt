@@ -105,7 +105,10 @@ fn let_in<L: Ledger, G: Whole, I: Whole, P: Port, S, R: Wait + Clock>(
 }
 
 // Ends the connection that has been silent longest, where that is long enough. Whether there was one.
-fn make_place<L: Ledger, R: Wait + Clock>(rt: &R, open: &mut Connections<Arc<Connection<L>, Global>>) -> bool {
+fn make_place<L: Ledger, R: Wait + Clock>(
+    rt: &R,
+    open: &mut Connections<Arc<Connection<L>, Global>>,
+) -> bool {
     let second = steady_second(rt);
     for _ in 0..MOST_CONNECTIONS {
         let Some(silent) = longest_silent(rt, open, second) else {

@@ -99,7 +99,12 @@ impl<L: Ledger> Outgoing<L> {
     }
 
     // What is to be written next, or None where nothing waits: then no thread writes.
-    fn next_batch<R: Wait + Clock>(&self, rt: &R, is_done: bool, used: Backlog<L>) -> Option<Backlog<L>> {
+    fn next_batch<R: Wait + Clock>(
+        &self,
+        rt: &R,
+        is_done: bool,
+        used: Backlog<L>,
+    ) -> Option<Backlog<L>> {
         let mut outbox = self.outbox.lock(rt);
         let next = outbox.go_on(is_done, used);
         outbox.tell(steady_second(rt));
