@@ -34,6 +34,7 @@ pub struct Outbox<L: Ledger> {
 }
 
 impl<L: Ledger> Model for Outbox<L> {
+    ghost use Rattle.std.specs.Prelude.{◌≡◌, [], true};
     ghost use Rattle.server_replies.specs.Outbox.{Outbox};
 
     ghost Value = { Outbox };
