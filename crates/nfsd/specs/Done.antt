@@ -105,13 +105,13 @@ outcome_of_server (Err server.Device) = Err (fault.Session session.Device)
 abbrev pub device_of : FirstContents → ℕ → Device
 device_of first size = file_device (first_in first.blocks.items) size []
 
--- the device that is handed back
+-- the device that a command left
 abbrev pub device_in : {F W : Type 0} → Option (ImageDisk F W) → Option Device
 device_in None = None
-device_in (Some (Plain disk)) =
-    Some (file_device (first_in disk.first.blocks.items) disk.blocks disk.file.calls.items)
-device_in (Some (Watched disk)) =
-    Some (file_device (first_in disk.first.blocks.items) disk.blocks disk.file.calls.items)
+device_in (Some (Plain left)) =
+    Some (file_device (first_in left.value.first.blocks.items) left.value.blocks left.value.file.calls.items)
+device_in (Some (Watched left)) =
+    Some (file_device (first_in left.value.first.blocks.items) left.value.blocks left.value.file.calls.items)
 
 -- so many blocks are as many as are asked for, or no more than the most of an image, where no number is
 abbrev pub AreAsked : Option ℕ → ℕ → Type 0

@@ -42,8 +42,8 @@ pub fn conclude<E: Write>(faults: &mut FaultStream<E>, outcome: &Result<(), Faul
 
 /// Does what the arguments ask for, of which the first is the program's name, tells a fault on `faults`, and
 /// gives the exit status: 0 where it is done, 2 where the arguments have no meaning, and else 1. `first` is
-/// what the image's file holds when it is opened: no code reads it, and the clauses hold of each. The device of
-/// the image is handed back as the command left it. Of a write or a sync of a server's image that fails `alarm` tells.
+/// what the image's file holds when it is opened: no code reads it, and the clauses hold of each. How the command left
+/// the device of the image is told, for proofs alone. Of a write or a sync of a server's image that fails `alarm` tells.
 pub fn answer<'a, R, I, O, E>(
     rt: &R,
     alarm: &'a Alarm<'a, R>,
@@ -125,7 +125,7 @@ where
     command(rt, alarm, args, first, reader, writer)
 }
 
-// Does a command to the device of the image's file, and hands it back; or runs a script.
+// Does a command to the device of the image's file, and tells how it left it; or runs a script.
 fn command<'a, R, I, O>(
     rt: &R,
     alarm: &'a Alarm<'a, R>,

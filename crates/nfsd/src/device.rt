@@ -17,8 +17,9 @@ use session::Input;
 use std::alloc::Global;
 use std::fs::Files;
 use std::io::{Read, Write};
+use std::snapshot::Snapshot;
 
-/// Makes an image of a file or of a block device, prints its counts, and hands its device back. A refusal leaves a file
+/// Makes an image of a file or of a block device, prints its counts, and tells how it left its device. A refusal leaves a file
 /// with its new length.
 pub fn format_image<R, O, W>(
     rt: &R,
@@ -46,10 +47,10 @@ where
     };
     let mut disk = made.beginning_with(first);
     let outcome = format_device(rt.alloc(), &mut disk, inodes, time, writer);
-    (Some(ImageDisk::Plain(disk)), outcome)
+    (Some(ImageDisk::Plain(Snapshot::of(&disk))), outcome)
 }
 
-/// Serves one client, of the reader and the writer, from the image of a file, and hands its device back.
+/// Serves one client, of the reader and the writer, from the image of a file, and tells how it left its device.
 pub fn serve_image_once<R, I, O, W>(
     rt: &R,
     image: &str,
@@ -77,7 +78,7 @@ where
     };
     let disk = opened.beginning_with(first);
     let (disk, outcome) = serve_device(rt.alloc(), disk, time, reader, writer);
-    (Some(ImageDisk::Plain(disk)), outcome)
+    (Some(ImageDisk::Plain(Snapshot::of(&disk))), outcome)
 }
 
 /// Makes a device an image, and prints its counts. The root is made at this second.

@@ -1,9 +1,11 @@
-//! The device of an image, as a command hands it back.
+//! The device of an image as a command left it, for proofs alone.
 use disk::{BlockFile, FileDisk, ThreadedDisk};
+use std::snapshot::Snapshot;
 
-/// The device of an image over its file, or over one that is watched, as `serve` opens it.
+/// The device of an image over its file, or over one that is watched, as `serve` opens it: as a command left it. It is for
+/// proofs alone, and takes no memory. The device itself is closed, so who has this can do nothing to the image.
 #[derive(Drop)]
 pub enum ImageDisk<F: BlockFile, W: BlockFile> {
-    Plain(FileDisk<F>),
-    Watched(ThreadedDisk<W>),
+    Plain(Snapshot<FileDisk<F>>),
+    Watched(Snapshot<ThreadedDisk<W>>),
 }

@@ -16,10 +16,11 @@ use image_lines::print_lines;
 use std::alloc::Global;
 use std::fs::Files;
 use std::io::{Eprint, Write};
+use std::snapshot::Snapshot;
 use std::time::Clock;
 use store::{Counts, Line, Progress};
 
-/// Tells whether the image of a file is good, and hands its device back.
+/// Tells whether the image of a file is good, and tells how it left its device.
 pub fn check_image<R, O, W>(
     rt: &R,
     image: &str,
@@ -44,10 +45,10 @@ where
     let mut disk = opened.beginning_with(first);
     let mut progress = ProgressLines::new(rt, "inodes checked");
     let outcome = check_device(rt.alloc(), &mut disk, writer, &mut progress);
-    (Some(ImageDisk::Plain(disk)), outcome)
+    (Some(ImageDisk::Plain(Snapshot::of(&disk))), outcome)
 }
 
-/// Prints the files of the image of a file, and hands its device back.
+/// Prints the files of the image of a file, and tells how it left its device.
 pub fn show_image<R, O, W>(
     rt: &R,
     image: &str,
@@ -71,7 +72,7 @@ where
     };
     let mut disk = opened.beginning_with(first);
     let outcome = show_device(rt.alloc(), &mut disk, writer);
-    (Some(ImageDisk::Plain(disk)), outcome)
+    (Some(ImageDisk::Plain(Snapshot::of(&disk))), outcome)
 }
 
 /// Checks the image of a device, and prints its counts where it is good. Meanwhile `progress` is told how far it is.

@@ -17,6 +17,7 @@ use std::alloc::Global;
 use std::fs::Files;
 use std::io::{Eprint, Write};
 use std::net::{Net, TcpListener, TcpStream};
+use std::snapshot::Snapshot;
 use std::sync::Wait;
 use std::thread::Threads;
 use std::time::Clock;
@@ -96,7 +97,7 @@ where
 }
 
 /// Opens a device as a store, prints where it listens once it can serve, and serves so many connections, or without end
-/// where that is 0. A device that is refused is handed back.
+/// where that is 0. It tells how a device that is refused was left.
 pub fn serve_clients<P, F, R, O>(
     rt: &R,
     alloc: Global,
@@ -116,7 +117,10 @@ where
 {
     let store = match store::open(alloc, disk) {
         Ok(store) => store,
-        Err((disk, fault)) => return (Some(ImageDisk::Watched(disk)), Err(Fault::Open(fault))),
+        Err((disk, fault)) => {
+            let left = ImageDisk::Watched(Snapshot::of(&disk));
+            return (Some(left), Err(Fault::Open(fault)));
+        }
     };
     let mut ended = Err(ServeFault::Memory);
     serve_announced(
