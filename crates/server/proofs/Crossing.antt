@@ -1,6 +1,6 @@
 -- What the threads share may be shared among them.
 use denote.RattleType.{RattleType}
-use denote.Param.Send.{IsSend, IsSync, recorded_send, recorded_sync, sendable, struct_send, struct_sync}
+use denote.Param.Send.{IsSend, IsSync, recorded_send, recorded_sync, sendable, struct_send, struct_sync, view_send}
 use denote.Struct.Declared
 use Rattle.std.proofs.Crossing.{crosses}
 use Rattle.std.proofs.sync.ledger.Book.TheSendSync as book
@@ -16,6 +16,7 @@ use Rattle.procs.proofs.planner.Planner.TheSendSync as planner
 use Rattle.locks.proofs.table.Table.TheSendSync as table
 use Rattle.objects.proofs.residency.Residency.TheSendSync as residency
 use Rattle.wal.proofs.memory.Wal.TheSendSync as wal
+use Rattle.disk.specs.declared.Port
 use Rattle.nfs_types.specs.contracts.reply.Reply
 use Rattle.procs.specs.contracts.done.Done
 use Rattle.procs.specs.contracts.done.DoneChange.TheImpl as change
@@ -29,7 +30,6 @@ use Rattle.store_promise.proofs.answers.CallAnswer.TheSendSync as given
 use Rattle.store_promise.proofs.answers.Entry.TheSendSync as entry
 use Rattle.txn.proofs.tx.FetchIo.TheSendSync as fetch
 use Rattle.txn.proofs.tx.Tx.TheSendSync as tx
-use Rattle.pool.proofs.Answer.TheSendSync as answer
 use Rattle.pool.proofs.told.Told.TheSendSync as told
 use Rattle.pool.proofs.Caller.TheSendSync as callers
 use Rattle.pool.specs.contracts.Connections
@@ -38,13 +38,15 @@ use Rattle.pool.specs.contracts.Job
 use Rattle.pool.specs.contracts.locked.Locked
 use Rattle.pool.specs.contracts.seat.Seat
 use Rattle.pool.specs.contracts.shared.Shared
+use Rattle.pool.specs.contracts.work.Work
+use Rattle.pool.specs.contracts.work.Work.TheInside as work
 use Rattle.pool.specs.declared.Whole
 use Rattle.store_workers.specs.contracts.workers.Worker
 use Rattle.server.specs.contracts.connection.Connection
-use Rattle.server.specs.contracts.hall.Devices
 use Rattle.server.specs.contracts.hall.Hall
 use Rattle.server.specs.contracts.hall.Signs
 use Rattle.server.specs.contracts.jobs.Jobs
+use Rattle.server.proofs.Outgoing.{answer_send, outgoing_send, outgoing_sync}
 
 job_send : IsSend Job.the_row
 job_send = recorded_send Job.the_field.row _ _ Job.the_type.to_one (struct_send (Declared.shape Job.the_type) (
@@ -86,33 +88,56 @@ core_send : IsSend (Core.the_row Done.the_row Reply.the_row change.ghosts)
 core_send =
     search (wal.the_send, table.the_send, residency.the_send, logs.the_send, crosses, sendable) depth 100 fits 100000
 
-seat_send : (L : RattleType) (l : Ledger.Ghosts L.Denot) → IsSend (Seat.the_row L l)
-seat_send L l =
-    recorded_send (Seat.the_field L l).row _ _ (Seat.the_type L l).to_one
-    (struct_send (Declared.shape (Seat.the_type L l)) (
-      search (worker_send, answer.the_send, told.the_field_send, crosses, sendable) depth 60 fits 20000,
-      (share.the_send L l, tt),
+work_send : (L : RattleType) (l : Ledger.Ghosts L.Denot) → IsSend (Work.the_row L l)
+work_send L l = view_send _ _ _ _ _ (recorded_send (work.the_field L l).row _ _ (work.the_type L l).to_one
+    (struct_send (Declared.shape (work.the_type L l)) (
+      search (worker_send, crosses, sendable) depth 60 fits 20000,
+      (
+        view_send _ _ _ _ _ (recorded_send _ _ _ _ (struct_send _ (
+          search (crosses, sendable) depth 60 fits 20000,
+          (
+            search (crosses, sendable) depth 60 fits 20000,
+            (search (answer_send L l, crosses, sendable) depth 60 fits 20000, tt),
+          ),
+        ))),
+        (told.the_field_send, tt),
+      ),
+    )))
+
+seat_send : (L S : RattleType) (l : Ledger.Ghosts L.Denot) → IsSend S → IsSend (Seat.the_row L S l)
+seat_send L S l s =
+    recorded_send (Seat.the_field L S l).row _ _ (Seat.the_type L S l).to_one
+    (struct_send (Declared.shape (Seat.the_type L S l)) (
+      search (work_send L l, crosses, sendable) depth 60 fits 20000,
+      (share.the_send L l, (search (s, crosses, sendable) depth 20, tt)),
     ))
 
-connection_send : IsSend Connection.the_row
-connection_send = search (crosses, sendable) depth 60 fits 20000
+module _ (L : RattleType) (l : Ledger.Ghosts L.Denot) where
+  connection_send : IsSend (Connection.the_row L l)
+  connection_send = recorded_send (Connection.the_field L l).row _ _ (Connection.the_type L l).to_one
+      (struct_send (Declared.shape (Connection.the_type L l)) (
+        search (crosses, sendable) depth 60 fits 20000,
+        (search (outgoing_send L l, crosses, sendable) depth 20, tt),
+      ))
 
-connection_sync : IsSync Connection.the_row
-connection_sync = search (crosses, sendable) depth 60 fits 20000
+  connection_sync : IsSync (Connection.the_row L l)
+  connection_sync = recorded_sync (Connection.the_field L l).row _ _ (Connection.the_type L l).to_one
+      (struct_sync (Declared.shape (Connection.the_type L l)) (
+        search (crosses, sendable) depth 60 fits 20000,
+        (search (outgoing_sync L l, crosses, sendable) depth 20, tt),
+      ))
 
-listed_send : IsSend (Arc.the_row Connection.the_row Global.the_row TheImpl.ghosts)
-listed_send = search (connection_send, connection_sync, crosses, sendable) depth 60 fits 20000
+  pub listed_send : IsSend (Arc.the_row (Connection.the_row L l) Global.the_row TheImpl.ghosts)
+  listed_send = search (connection_send, connection_sync, crosses, sendable) depth 60 fits 20000
 
-open_send : IsSend (Connections.the_row (Arc.the_row Connection.the_row Global.the_row TheImpl.ghosts))
-open_send = search (listed_send, crosses, sendable) depth 60 fits 20000
+  open_send : IsSend (Connections.the_row (Arc.the_row (Connection.the_row L l) Global.the_row TheImpl.ghosts))
+  open_send = search (listed_send, crosses, sendable) depth 60 fits 20000
 
-signs_sync : IsSync (Signs.the_field).row
-signs_sync = struct_sync (Declared.shape Signs.the_type) (
-  search (crosses, sendable) depth 40 fits 20000,
-  (
-    jobs_sync,
+  signs_sync : IsSync (Signs.the_field L l).row
+  signs_sync = struct_sync (Declared.shape (Signs.the_type L l)) (
+    search (crosses, sendable) depth 40 fits 20000,
     (
-      search (crosses, sendable) depth 40 fits 20000,
+      jobs_sync,
       (
         search (crosses, sendable) depth 40 fits 20000,
         (
@@ -120,34 +145,33 @@ signs_sync = struct_sync (Declared.shape Signs.the_type) (
           (
             search (crosses, sendable) depth 40 fits 20000,
             (
-              search (open_send, crosses, sendable) depth 40 fits 20000,
+              search (crosses, sendable) depth 40 fits 20000,
               (
-                search (crosses, sendable) depth 40 fits 20000,
-                (search (crosses, sendable) depth 40 fits 20000, tt),
+                search (open_send, crosses, sendable) depth 40 fits 20000,
+                (
+                  search (crosses, sendable) depth 40 fits 20000,
+                  (search (crosses, sendable) depth 40 fits 20000, tt),
+                ),
               ),
             ),
           ),
         ),
       ),
     ),
-  ),
-)
+  )
 
-devices_sync : (P S : RattleType) → IsSend P → IsSend S → IsSync (Devices.the_field P S).row
-devices_sync P S p s = struct_sync (Declared.shape (Devices.the_type P S)) (
-  search (crosses, sendable) depth 20,
-  (search (crosses, sendable) depth 20, (search (crosses, sendable) depth 20, tt)),
-)
-
-io_seat_send : (G : RattleType) (w : Whole.Ghosts G.Denot) (l : Ledger.Ghosts G.Denot)
-    → IsSend (IoSeat.the_row G w l)
-io_seat_send G w l =
-    recorded_send (IoSeat.the_field G w l).row _ _ (IoSeat.the_type G w l).to_one
-    (struct_send (Declared.shape (IoSeat.the_type G w l)) (
+io_seat_send : (G P : RattleType) (w : Whole.Ghosts G.Denot) (p : Port.Ghosts P.Denot) (l : Ledger.Ghosts G.Denot)
+    → IsSend P → IsSend (IoSeat.the_row G P w p l)
+io_seat_send G P w p l port =
+    recorded_send (IoSeat.the_field G P w p l).row _ _ (IoSeat.the_type G P w p l).to_one
+    (struct_send (Declared.shape (IoSeat.the_type G P w p l)) (
       callers.the_field_send,
       (
         share.the_send G l,
-        (search (crosses, sendable) depth 60 fits 20000, (search (crosses, sendable) depth 60 fits 20000, tt)),
+        (
+          search (crosses, sendable) depth 60 fits 20000,
+          (search (crosses, sendable) depth 60 fits 20000, (search (port, crosses, sendable) depth 20, tt)),
+        ),
       ),
     ))
 
@@ -170,14 +194,14 @@ module _ (L G I : RattleType) (w : Whole.Ghosts G.Denot) (w' : Whole.Ghosts I.De
     tt,
   )
 
-  pub hall_sync : (P S : RattleType) → IsSend P → IsSend S → IsSync (Hall.the_row L G I P S w w' l l' l'')
-  hall_sync P S p s =
-      let seat = seat_send L l in
-      let logger = io_seat_send G w l' in
-      let installer = io_seat_send I w' l'' in
-      let devices = devices_sync P S p s in
-      recorded_sync (Hall.the_field L G I P S w w' l l' l'').row _ _ (Hall.the_type L G I P S w w' l l' l'').to_one
-      (struct_sync (Declared.shape (Hall.the_type L G I P S w w' l l' l'')) (
+  pub hall_sync : (P S : RattleType) (p : Port.Ghosts P.Denot) → IsSend P → IsSend S
+      → IsSync (Hall.the_row L G I P S w w' p l l' l'')
+  hall_sync P S p port source =
+      let seat = seat_send L S l source in
+      let logger = io_seat_send G P w p l' port in
+      let installer = io_seat_send I P w' p l'' port in
+      recorded_sync (Hall.the_field L G I P S w w' p l l' l'').row _ _ (Hall.the_type L G I P S w w' p l l' l'').to_one
+      (struct_sync (Declared.shape (Hall.the_type L G I P S w w' p l l' l'')) (
         search (crosses, sendable) depth 20,
         (
           search (shared_sync, crosses, sendable) depth 20,
@@ -185,13 +209,7 @@ module _ (L G I : RattleType) (w : Whole.Ghosts G.Denot) (w' : Whole.Ghosts I.De
             search (seat, crosses, sendable) depth 20,
             (
               search (logger, crosses, sendable) depth 20,
-              (
-                search (installer, crosses, sendable) depth 20,
-                (
-                  devices,
-                  (signs_sync, tt),
-                ),
-              ),
+              (search (installer, crosses, sendable) depth 20, (signs_sync L l, tt)),
             ),
           ),
         ),

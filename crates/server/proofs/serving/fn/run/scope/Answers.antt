@@ -8,23 +8,23 @@ use Rattle.server.proofs.serving.fn.run.scope.Goals as goal
 pub spawn-requires-send-F : goal.spawn-requires-send-F
 spawn-requires-send-F g c κs within =
     let hall = hall_sync (param 0 g.row.L) (param 1 g.row.G) (param 2 g.row.I) g.G.Whole g.I.Whole g.L.Ledger g.G.Ledger
-    g.I.Ledger (param 3 g.row.P) (param 4 g.row.S) c.requires.6 c.requires.7 in
+    g.I.Ledger (param 3 g.row.P) (param 4 g.row.S) g.P.Port c.requires.6 c.requires.7 in
     search (hall, c.requires.8, crosses, sendable) depth 60 fits 20000
 
 pub spawn-requires-2-send-F : goal.spawn-requires-2-send-F
 spawn-requires-2-send-F g c κs within =
     let hall = hall_sync (param 0 g.row.L) (param 1 g.row.G) (param 2 g.row.I) g.G.Whole g.I.Whole g.L.Ledger g.G.Ledger
-    g.I.Ledger (param 3 g.row.P) (param 4 g.row.S) c.requires.6 c.requires.7 in
+    g.I.Ledger (param 3 g.row.P) (param 4 g.row.S) g.P.Port c.requires.6 c.requires.7 in
     search (hall, c.requires.8, crosses, sendable) depth 60 fits 20000
 
 pub spawn-requires-3-send-F : goal.spawn-requires-3-send-F
 spawn-requires-3-send-F g c κs within =
     let hall = hall_sync (param 0 g.row.L) (param 1 g.row.G) (param 2 g.row.I) g.G.Whole g.I.Whole g.L.Ledger g.G.Ledger
-    g.I.Ledger (param 3 g.row.P) (param 4 g.row.S) c.requires.6 c.requires.7 in
+    g.I.Ledger (param 3 g.row.P) (param 4 g.row.S) g.P.Port c.requires.6 c.requires.7 in
     search (hall, c.requires.8, crosses, sendable) depth 60 fits 20000
 
 pub spawn-requires-in-loop-send-F : goal.spawn-requires-in-loop-send-F
 spawn-requires-in-loop-send-F g c κs within =
     let hall = hall_sync (param 0 g.row.L) (param 1 g.row.G) (param 2 g.row.I) g.G.Whole g.I.Whole g.L.Ledger g.G.Ledger
-    g.I.Ledger (param 3 g.row.P) (param 4 g.row.S) c.requires.6 c.requires.7 in
+    g.I.Ledger (param 3 g.row.P) (param 4 g.row.S) g.P.Port c.requires.6 c.requires.7 in
     search (hall, c.requires.8, crosses, sendable) depth 60 fits 20000
