@@ -1,6 +1,6 @@
 //! What a seat has of its job.
 ghost use Rattle.std.specs.Prelude.{◌≡◌, ◌≤◌, IsSomeAnd, IsTrue};
-ghost use Rattle.pool.specs.Answers.{GivesBy, GivesFor, answer_of, body_of, kept, way_by, errand_after};
+ghost use Rattle.pool.specs.Answers.{GivesBy, answer_of, body_of, errand_with, given_to, kept, way_by};
 
 use nfs_types::ProgramReply;
 use pool_answers::Answer;
@@ -77,26 +77,41 @@ impl<L: Ledger> Errand<L> {
             voucher,
             answer,
         } = self;
-        let voucher = kept(voucher, shown);
-        let Some(given) = given else {
-            return Errand {
-                ticket,
-                voucher,
-                answer,
-            };
+        left_of(core, made, ticket, kept(voucher, shown), answer, given, share)
+    }
+}
+
+// The same of its parts, with what shows the last commit.
+fn left_of<L: Ledger>(
+    core: &Core<Done>,
+    made: &Option<Step>,
+    ticket: Option<Ticket>,
+    voucher: Option<Voucher>,
+    answer: Option<Answer<L>>,
+    given: Option<CallAnswer>,
+    share: &Share<L>,
+) -> Errand<L>
+    requires { given_to core.now made.now ticket voucher given }
+    ensures { result ≡ errand_with made.now ticket voucher answer given }
+{
+    let Some(given) = given else {
+        return Errand {
+            ticket,
+            voucher,
+            answer,
         };
-        let Some(ticket) = ticket else {
-            return Errand {
-                ticket: None,
-                voucher,
-                answer,
-            };
-        };
-        Errand {
+    };
+    let Some(ticket) = ticket else {
+        return Errand {
             ticket: None,
-            voucher: None,
-            answer: Some(answer_of(core, way_by(made), ticket, voucher, given, share)),
-        }
+            voucher,
+            answer,
+        };
+    };
+    Errand {
+        ticket: None,
+        voucher: None,
+        answer: Some(answer_of(core, way_by(made), ticket, voucher, given, share)),
     }
 }
 
