@@ -1,6 +1,6 @@
 -- Lemmas: what is under a key once a place was noted, and which object stands there.
-use Rattle.std.proofs.Common.{◌≡◌, ◌≢◌, ◌∙◌, ◌+◌, ◌*◌, ◌/◌, ◌%◌, ◌<◌, ◌⊎◌, inl, inr, refl, sym, ap, subst, ℕ, Bool, true, false}
-use Rattle.std.proofs.Common.{◌||◌, ◌&&◌, List, [], ◌∷◌, ◌++◌, length, get_or, set, take, nat_eq, arith, Option, None, Some, map, Result, Ok, Err, OnOk}
+use Rattle.std.proofs.Common.{◌≡◌, ◌∙◌, ◌+◌, ◌*◌, ◌/◌, ◌%◌, ◌<◌, ◌⊎◌, inl, inr, refl, sym, ap, subst, ℕ, Bool, true, false}
+use Rattle.std.proofs.Common.{◌||◌, List, [], ◌∷◌, ◌++◌, length, get_or, set, take, nat_eq, arith, None, map, Result, Ok, Err, OnOk}
 use Rattle.std.specs.List.{list_any}
 use Rattle.std.proofs.lemmas.Bool.{cases_eq, eq-eqb, eqb-true}
 use Rattle.std.proofs.lemmas.List.{get_or-map, map-set, get_or_push, get_or-set_other, get_or-set_same, get_or-take, length-take-le, length_push, get_or_default}

@@ -1,4 +1,4 @@
-use Rattle.std.proofs.Common.{◌≡◌, ◌∙◌, ◌%◌, ◌<◌, ◌++◌, ◌∷◌, ℕ, List, [], ap, subst, length, arith}
+use Rattle.std.proofs.Common.{◌∙◌, ◌%◌, ◌<◌, ℕ, List, ap, subst, length, arith}
 use Rattle.std.proofs.lemmas.List.{length-map}
 use Rattle.inode.specs.Indexed.{is_held}
 use Rattle.inode.proofs.KnownPlaces.{now_noted, ok_then, stays, there}
