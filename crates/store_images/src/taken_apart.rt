@@ -24,6 +24,7 @@ pub fn parts<D: CrashDisk>(store: Store<D>) -> (Core<Done>, u64, D)
         disk,
         mut core,
         boot,
+        room: _,
     } = store;
     core.abort_all();
     (core, boot, disk)
