@@ -57,7 +57,7 @@ use Rattle.pool.specs.Answers.{GivesBy, GivesFor, body_of, errand_after, errand_
 use Rattle.pool.specs.Seated.{HasCall, IsOf, IsSeated, StandsWith, WaitsWith}
 use Rattle.pool.specs.Stepping.{ReadsFrom}
 use Rattle.pool.specs.Working.{Working}
-use Rattle.pool.specs.declared.errand.Errand.{Errand}
+use Rattle.pool.specs.Errand.{Errand}
 
 -- what holds of what there is
 at_some : {X : Type 0} (P : X → Type 0) (found : Option X) (x : X) → found ≡ Some x → IsSomeAnd found P → P x

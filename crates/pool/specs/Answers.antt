@@ -20,7 +20,7 @@ use Rattle.pool_answers.specs.Evident.{Answered, IsInItsPlace, IsOwn, answer_to 
 use Rattle.pool_answers.specs.declared.evidence.Evidence.{Evidence}
 use Rattle.pool_answers.specs.declared.evidence.Evidence.TheVariants as evidence
 use Rattle.pool_jobs.specs.Sent.{Sent}
-use Rattle.pool.specs.declared.errand.Errand.{Errand}
+use Rattle.pool.specs.Errand.{Errand}
 use Rattle.pool.specs.declared.errand.Way.{Way}
 use Rattle.pool.specs.declared.errand.Way.TheVariants as way
 

@@ -1,3 +1,4 @@
+pub mod Errand
 pub mod Working
 pub mod Answers
 pub mod Seated

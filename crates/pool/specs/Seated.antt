@@ -13,7 +13,7 @@ use Rattle.txn.specs.Receipts.{Given}
 use Rattle.wal_law.specs.declared.outcomes.Seq.{Seq}
 use Rattle.pool_answers.specs.Evident.{IsOwn}
 use Rattle.pool_jobs.specs.Sent.{Sent}
-use Rattle.pool.specs.declared.errand.Errand.{Errand}
+use Rattle.pool.specs.Errand.{Errand}
 
 -- it is the call of the job, for its credential, and at the moment at which it was taken up
 pub record IsOf (sent : Sent) (mine : own.Job) : Type 0 where

@@ -1,6 +1,6 @@
 -- What a clause sees of a worker at its seat.
 use Rattle.store_workers.specs.declared.workers.parts.State.{State}
-use Rattle.pool.specs.declared.errand.Errand.{Errand}
+use Rattle.pool.specs.Errand.{Errand}
 use Rattle.pool.specs.declared.told.Told.{Told}
 
 -- the worker, what the seat has of its job, and what the worker's last step was told

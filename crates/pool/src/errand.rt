@@ -1,6 +1,6 @@
 //! What a seat has of its job.
 ghost use Rattle.std.specs.Prelude.{◌≡◌, ◌≤◌, IsSomeAnd, IsTrue};
-ghost use Rattle.pool.specs.Answers.{GivesBy, GivesFor, answer_of, body_of, kept, way_by, errand_after};
+ghost use Rattle.pool.specs.Answers.{GivesBy, answer_of, body_of, errand_with, given_to, kept, way_by};
 
 use nfs_types::ProgramReply;
 use pool_answers::Answer;
@@ -8,6 +8,8 @@ use pool_jobs::Ticket;
 use procs::Done;
 use rpc::Refusal;
 use session_wire::ReplyBody;
+use std::marker::Model;
+use std::sync::ledger::{Ledger, Share};
 use store_promise::{CallAnswer, Committing, Step, Verdict};
 use txn::{Core, Seq};
 use vouchers::Voucher;
@@ -15,10 +17,18 @@ use vouchers::Voucher;
 /// What a seat has of the job that it was handed last: where its answer goes, until it is answered; what shows that its
 /// procedure was committed; and the answer that lies ready.
 #[derive(Drop)]
-pub(crate) struct Errand {
+pub(crate) struct Errand<L: Ledger> {
     pub(crate) ticket: Option<Ticket>,
     pub(crate) voucher: Option<Voucher>,
-    pub(crate) answer: Option<Answer>,
+    pub(crate) answer: Option<Answer<L>>,
+}
+
+impl<L: Ledger> Model for Errand<L> {
+    ghost use Rattle.pool.specs.Errand.{Errand};
+
+    ghost Value = { Errand };
+
+    ghost view = { λ e. record { ticket = e.ticket; voucher = e.voucher; answer = e.answer } };
 }
 
 /// What an answer rests on, by the step that gives it.
@@ -34,12 +44,12 @@ pub(crate) enum Way {
     InItsPlace,
 }
 
-impl Errand {
+impl<L: Ledger> Errand<L> {
     ghost use Rattle.std.specs.Prelude.{◌≡◌, None};
     ghost use Rattle.pool.specs.Answers.{GivesFor, errand_after, no_errand};
 
     /// None.
-    pub(crate) fn none() -> Errand
+    pub(crate) fn none() -> Errand<L>
         ensures { result ≡ no_errand }
     {
         Errand {
@@ -50,14 +60,15 @@ impl Errand {
     }
 
     /// What a step of the worker leaves of it: with what shows that the step committed, and with the answer that it
-    /// gives.
+    /// gives, by the seat's share of the ledger of commits.
     pub(crate) fn after(
         self,
         core: &Core<Done>,
         made: &Option<Step>,
         shown: Option<Voucher>,
         given: Option<CallAnswer>,
-    ) -> Errand
+        share: &Share<L>,
+    ) -> Errand<L>
         requires { GivesFor core.now made.now self shown given }
         ensures { result ≡ errand_after made.now self shown given }
     {
@@ -66,26 +77,41 @@ impl Errand {
             voucher,
             answer,
         } = self;
-        let voucher = kept(voucher, shown);
-        let Some(given) = given else {
-            return Errand {
-                ticket,
-                voucher,
-                answer,
-            };
+        left_of(core, made, ticket, kept(voucher, shown), answer, given, share)
+    }
+}
+
+// The same of its parts, with what shows the last commit.
+fn left_of<L: Ledger>(
+    core: &Core<Done>,
+    made: &Option<Step>,
+    ticket: Option<Ticket>,
+    voucher: Option<Voucher>,
+    answer: Option<Answer<L>>,
+    given: Option<CallAnswer>,
+    share: &Share<L>,
+) -> Errand<L>
+    requires { given_to core.now made.now ticket voucher given }
+    ensures { result ≡ errand_with made.now ticket voucher answer given }
+{
+    let Some(given) = given else {
+        return Errand {
+            ticket,
+            voucher,
+            answer,
         };
-        let Some(ticket) = ticket else {
-            return Errand {
-                ticket: None,
-                voucher,
-                answer,
-            };
-        };
-        Errand {
+    };
+    let Some(ticket) = ticket else {
+        return Errand {
             ticket: None,
-            voucher: None,
-            answer: Some(answer_of(core, way_by(made), ticket, voucher, given)),
-        }
+            voucher,
+            answer,
+        };
+    };
+    Errand {
+        ticket: None,
+        voucher: None,
+        answer: Some(answer_of(core, way_by(made), ticket, voucher, given, share)),
     }
 }
 
@@ -112,23 +138,24 @@ fn way_by(made: &Option<Step>) -> Way
 }
 
 // The answer that a step gives.
-fn answer_of(
+fn answer_of<L: Ledger>(
     core: &Core<Done>,
     way: Way,
     ticket: Ticket,
     voucher: Option<Voucher>,
     given: CallAnswer,
-) -> Answer
+    share: &Share<L>,
+) -> Answer<L>
     requires { GivesBy core.now way ticket voucher given.verdict }
     ensures { result ≡ answer_of way ticket voucher given.verdict }
 {
     match (way, voucher, given.verdict) {
         (Way::Commit, Some(voucher), Verdict::Reply(reply)) => {
-            return Answer::of_change(ticket, voucher, None, reply);
+            return Answer::of_change(ticket, voucher, None, reply, share);
         }
         (Way::Settled(place), Some(voucher), Verdict::Reply(reply)) => {
             let stable = core.stable(place);
-            return Answer::of_change(ticket, voucher, stable, reply);
+            return Answer::of_change(ticket, voucher, stable, reply, share);
         }
         (Way::Nothing, _, _) => {
             return Answer::of_nothing(ticket);

@@ -14,7 +14,7 @@ use txn::Seq;
 /// that it reads by, and no other. A seat has to be ended: one that is lost doesn't compile, as its worker may have a
 /// transaction.
 pub struct Seat<L: Ledger, S> {
-    pub(crate) work: Work,
+    pub(crate) work: Work<L>,
     pub(crate) share: Share<L>,
     pub(crate) source: S,
     pub ghost backed: { 0 < share.parts },
@@ -85,7 +85,7 @@ impl<L: Ledger, S> Seat<L, S> {
     /// Takes the answer that lies ready, which shows that it may be given: the reply of the job's own change, which
     /// was committed, and is settled where it has to be; or one of the three in its place, or the reply to a call that
     /// begins no transaction.
-    pub fn take_answer(&mut self) -> Option<Answer>
+    pub fn take_answer(&mut self) -> Option<Answer<L>>
         ensures answer { result ≡ self.old.work.errand.answer }
         ensures taken { self.new.work ≡ record self.old.work {
           errand = record self.old.work.errand { answer = None };

@@ -41,7 +41,7 @@ pub fn worker_step<L: Ledger, G: Whole, I: Whole, S>(
     } = locked;
     core.lawful();
     commits.audit(share);
-    let turn = work.step(alloc, core);
+    let turn = work.step(alloc, core, share);
     if work.told() == Told::Committed {
         commits.add(share, 1);
     }

@@ -17,6 +17,7 @@ use procs::Done;
 use std::alloc::Global;
 use std::marker::Model;
 use std::mem;
+use std::sync::ledger::{Ledger, Share};
 use store_promise::{CallAnswer, Committing, Step, Wish};
 use store_workers::Worker;
 use txn::{Core, Seq};
@@ -24,13 +25,13 @@ use vouchers::Voucher;
 
 /// A worker with what its seat has of the job that it was handed last. Its type keeps that what the worker has is the
 /// job's, and that it waits only for the place of the job's own change.
-pub struct Work {
+pub struct Work<L: Ledger> {
     worker: Worker,
-    errand: Errand,
+    errand: Errand<L>,
     told: Told,
 }
 
-impl Model for Work {
+impl<L: Ledger> Model for Work<L> {
     ghost use Rattle.pool.specs.Working.{Working};
 
     ghost Value = { Working };
@@ -42,7 +43,7 @@ impl Model for Work {
     ghost invariant = { λ w. IsSeated w.worker.state w.errand };
 }
 
-impl Work {
+impl<L: Ledger> Work<L> {
     ghost use Rattle.std.specs.Prelude.{◌≡◌, ◌+◌, ◌↔◌, IsTrue, IsErr, IfErr, IfSome, OnOk, None};
     ghost use Rattle.model.specs.Sound.{SoundTime};
     ghost use Rattle.pool_answers.specs.Evident.{IsEvident};
@@ -53,7 +54,7 @@ impl Work {
     ghost use Rattle.store_workers.specs.declared.workers.parts.Phase.TheVariants.{Reading};
 
     /// An idle worker.
-    pub(crate) fn new(alloc: Global) -> Work
+    pub(crate) fn new(alloc: Global) -> Work<L>
         ensures { result ≡ seated }
     {
         Work {
@@ -114,7 +115,7 @@ impl Work {
     }
 
     /// Takes the answer that lies ready.
-    pub(crate) fn take_answer(&mut self) -> Option<Answer>
+    pub(crate) fn take_answer(&mut self) -> Option<Answer<L>>
         ensures answer { result ≡ self.old.errand.answer }
         ensures rest { self.new ≡ record self.old { errand = record self.old.errand { answer = None } } }
         ensures evident { IfSome result IsEvident }
@@ -133,15 +134,15 @@ impl Work {
         self.worker.read_from(source).is_some()
     }
 
-    /// Makes the worker's next step.
-    pub(crate) fn step(&mut self, alloc: Global, core: &mut Core<Done>) -> Turn
+    /// Makes the worker's next step, by the seat's share of the ledger of commits.
+    pub(crate) fn step(&mut self, alloc: Global, core: &mut Core<Done>, share: &Share<L>) -> Turn
         ensures step { HasStepped self.old core.old result self.new core.new }
         ensures places { core.new.log.places ≡ core.old.log.places + grown self.new.told }
         ensures calls { HandsOutNone core.old core.new }
     {
         let (made, given, shown) = advance(alloc, core, &mut self.worker);
         let errand = mem::replace(&mut self.errand, Errand::none());
-        let errand = errand.after(core, &made, shown, given);
+        let errand = errand.after(core, &made, shown, given, share);
         drop(mem::replace(&mut self.errand, errand));
         self.told = told_by(&made);
         turn_by(&made)

@@ -7,8 +7,9 @@ use nfs_types::{ProgramReply, Reply};
 use pool_jobs::{Immediate, Ticket};
 use session_wire::{ReplyBody, RpcReply, reply_bytes};
 use std::alloc::Global;
-use std::marker::Model;
+use std::marker::{Model, PhantomData};
 use std::snapshot::Snapshot;
+use std::sync::ledger::{Ledger, Share};
 use txn::Stable;
 use vouchers::Voucher;
 use xdr::XdrFault;
@@ -16,17 +17,19 @@ use xdr::XdrFault;
 /// An answer to a record of a connection. Its type keeps that it bears the key and the numbers of what it answers, and
 /// that this may be answered so: with the reply to a record that begins no transaction; with the reply of the job's own
 /// procedure, which was committed, and whose place was settled where the reply has to be stable; or with one of the
-/// three in its place. It is made of evidence alone, each piece of which is used up for it.
+/// three in its place. It is made of evidence alone, each piece of which is used up for it. Its type names the ledger of
+/// the commits that it may rest on: that of one core.
 #[derive(Drop)]
-pub struct Answer {
+pub struct Answer<L: Ledger> {
     key: usize,
     number: u64,
     xid: u32,
     body: ReplyBody,
     evidence: Evidence,
+    of: PhantomData<L>,
 }
 
-impl Model for Answer {
+impl<L: Ledger> Model for Answer<L> {
     ghost use Rattle.pool_answers.specs.Evident.{Answered, IsEvident};
 
     ghost Value = { Answered };
@@ -48,7 +51,7 @@ impl Model for Answer {
     }) };
 }
 
-impl Answer {
+impl<L: Ledger> Answer<L> {
     ghost use Rattle.std.specs.Prelude.{◌≡◌, ◌⊎◌, false, true, Option, IfErr, IfOk};
     ghost use Rattle.model.specs.Calls.{begins_transaction};
     ghost use Rattle.nfs_types.specs.declared.reply.Reply.TheVariants.{Null};
@@ -60,7 +63,7 @@ impl Answer {
     ghost use Rattle.xdr.specs.declared.fault.XdrFault.TheVariants.{Length, NoMemory};
 
     /// The reply to a record that begins no transaction.
-    pub fn immediate(replied: Immediate) -> Answer
+    pub fn immediate(replied: Immediate) -> Answer<L>
         ensures bears { (result.key ≡ replied.key) × (result.number ≡ replied.number) × (result.xid ≡ replied.xid) }
         ensures body { result.body ≡ replied.body }
     {
@@ -74,21 +77,25 @@ impl Answer {
             xid,
             body: replied.into_body(),
             evidence,
+            of: PhantomData,
         }
     }
 
-    /// The reply of a job's own procedure, which was committed.
+    /// The reply of a job's own procedure, which was committed. Who makes it has a share of the ledger of commits, which is
+    /// at hand only where a seat of its core steps.
     pub fn of_change(
         ticket: Ticket,
         voucher: Voucher,
         stable: Option<Stable>,
         reply: Reply,
-    ) -> Answer
+        share: &Share<L>,
+    ) -> Answer<L>
         requires own { IsOwn ticket voucher.change }
         requires reply { reply ≡ voucher.change.reply }
         requires stable { IsShownStable ticket voucher stable }
         ensures { result ≡ answer_to ticket.job (with_reply reply) (evidence.Committed ticket voucher stable) }
     {
+        let _ = share;
         voucher.finished();
         let (key, number) = ticket.goes_to();
         Answer {
@@ -97,11 +104,12 @@ impl Answer {
             xid: ticket.xid(),
             body: ReplyBody::Done(ProgramReply::Nfs(reply)),
             evidence: Evidence::Committed(ticket, voucher, stable),
+            of: PhantomData,
         }
     }
 
     /// One of the three in the place of a reply.
-    pub fn in_its_place(ticket: Ticket, body: ReplyBody) -> Answer
+    pub fn in_its_place(ticket: Ticket, body: ReplyBody) -> Answer<L>
         requires { IsInItsPlace ticket.job.call body }
         ensures { result ≡ answer_to ticket.job body (evidence.InItsPlace ticket) }
     {
@@ -112,11 +120,12 @@ impl Answer {
             xid: ticket.xid(),
             body,
             evidence: Evidence::InItsPlace(ticket),
+            of: PhantomData,
         }
     }
 
     /// To a job whose call begins no transaction.
-    pub fn of_nothing(ticket: Ticket) -> Answer
+    pub fn of_nothing(ticket: Ticket) -> Answer<L>
         requires { begins_transaction ticket.job.call ≡ false }
         ensures { result ≡ answer_to ticket.job (with_reply Null) (evidence.Nothing ticket) }
     {
@@ -127,6 +136,7 @@ impl Answer {
             xid: ticket.xid(),
             body: ReplyBody::Done(ProgramReply::Nfs(Reply::Null)),
             evidence: Evidence::Nothing(ticket),
+            of: PhantomData,
         }
     }
 

@@ -4,18 +4,19 @@ use crate::{Put, ReplyBytes};
 use http_server::Log;
 use std::alloc::Global;
 use std::marker::Model;
+use std::sync::ledger::Ledger;
 
 /// The bytes of answers to the connection of this key and number, as they were left one behind another. Its type keeps
-/// that it has the bytes of answers alone, each of them an `Answer` to this connection.
+/// that it has the bytes of answers alone, each of them an `Answer` to this connection, by what was committed to one core.
 #[derive(Drop)]
-pub struct Backlog {
+pub struct Backlog<L: Ledger> {
     key: usize,
     number: u64,
     bytes: Vec<u8>,
-    pieces: Log<ReplyBytes, ()>,
+    pieces: Log<ReplyBytes<L>, ()>,
 }
 
-impl Model for Backlog {
+impl<L: Ledger> Model for Backlog<L> {
     ghost use Rattle.std.specs.Prelude.{flat_map};
     ghost use Rattle.std.specs.Vec.{vec_capacity};
     ghost use Rattle.pool_answers.specs.Written.{IsWritten, Queued};
@@ -33,13 +34,13 @@ impl Model for Backlog {
     ghost invariant = { λ b. IsWritten b.key b.number b.bytes.items (flat_map (λ one. one.0.answers) b.pieces.items) };
 }
 
-impl Backlog {
+impl<L: Ledger> Backlog<L> {
     ghost use Rattle.std.specs.Prelude.{◌≡◌, ◌+◌, ◌<◌, ◌↔◌, IsTrue, length};
     ghost use Rattle.pool_answers.specs.Written.{AreForOne, IsWritten, nothing_for, with_more};
     ghost use Rattle.pool_answers.specs.declared.reply_bytes.Put.TheVariants as puts;
 
     /// Nothing, for the connection of this key and number.
-    pub fn new(alloc: Global, key: usize, number: u64) -> Backlog
+    pub fn new(alloc: Global, key: usize, number: u64) -> Backlog<L>
         ensures { result ≡ nothing_for key number result.room }
     {
         Backlog {
@@ -51,7 +52,7 @@ impl Backlog {
     }
 
     /// Nothing, in a buffer that is used again, for the connection of this key and number.
-    pub fn emptied(self, key: usize, number: u64) -> Backlog
+    pub fn emptied(self, key: usize, number: u64) -> Backlog<L>
         ensures { result ≡ nothing_for key number result.room }
     {
         let mut bytes = self.bytes;
@@ -86,7 +87,7 @@ impl Backlog {
     }
 
     /// Whether these are for its connection.
-    pub fn is_for(&self, replies: &ReplyBytes) -> bool
+    pub fn is_for(&self, replies: &ReplyBytes<L>) -> bool
         ensures { IsTrue result ↔ AreForOne replies.now self.now }
     {
         let (key, number) = replies.goes_to();
@@ -96,7 +97,7 @@ impl Backlog {
     /// Puts the bytes of further answers to the same connection behind these: all of them, or none, where they are for
     /// another, or memory is refused, which is never so while the buffer has room for them.
     #[tactic(auto, using(crate::proofs::Puts::one_piece))]
-    pub fn put(&mut self, replies: &ReplyBytes) -> Put
+    pub fn put(&mut self, replies: &ReplyBytes<L>) -> Put
         ensures done { result ≡ puts.Done → AreForOne replies.now self.old
             × (self.new ≡ with_more replies.now self.new.room self.old) }
         ensures another { result ≡ puts.Another → (AreForOne replies.now self.old → ⊥) × (self.new ≡ self.old) }

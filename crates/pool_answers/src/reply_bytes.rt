@@ -5,18 +5,19 @@ use crate::Answer;
 use http_server::Log;
 use std::alloc::Global;
 use std::marker::Model;
+use std::sync::ledger::Ledger;
 
 /// What answers to the connection of this key and number spell, in their order. Its type keeps that it has the bytes of
-/// answers alone, each of them an `Answer` to this connection.
+/// answers alone, each of them an `Answer` to this connection, by what was committed to one core.
 #[derive(Drop)]
-pub struct ReplyBytes {
+pub struct ReplyBytes<L: Ledger> {
     key: usize,
     number: u64,
     bytes: Vec<u8>,
-    answers: Log<Answer, ()>,
+    answers: Log<Answer<L>, ()>,
 }
 
-impl Model for ReplyBytes {
+impl<L: Ledger> Model for ReplyBytes<L> {
     ghost use Rattle.std.specs.Prelude.{map};
     ghost use Rattle.pool_answers.specs.Written.{IsWritten, Written};
 
@@ -42,13 +43,13 @@ pub enum Put {
     Refused,
 }
 
-impl ReplyBytes {
+impl<L: Ledger> ReplyBytes<L> {
     ghost use Rattle.std.specs.Prelude.{◌≡◌, ◌++◌, ◌∷◌, ◌⊎◌, [], length};
     ghost use Rattle.pool_answers.specs.Written.{IsFor, IsWritten, spelled};
     ghost use Rattle.pool_answers.specs.declared.reply_bytes.Put.TheVariants as puts;
 
     /// Nothing yet.
-    pub fn new(alloc: Global, key: usize, number: u64) -> ReplyBytes
+    pub fn new(alloc: Global, key: usize, number: u64) -> ReplyBytes<L>
         ensures { result ≡ record { key = key; number = number; bytes = []; answers = [] } }
     {
         ReplyBytes {
@@ -81,7 +82,7 @@ impl ReplyBytes {
     }
 
     /// Puts an answer behind the others, where it is for this connection. Else nothing changes.
-    pub fn put(&mut self, alloc: Global, answer: Answer) -> Put
+    pub fn put(&mut self, alloc: Global, answer: Answer<L>) -> Put
         ensures done { result ≡ puts.Done → IsFor self.old.key self.old.number answer × (self.new ≡ record self.old {
           bytes = self.old.bytes ++ spelled answer;
           answers = self.old.answers ++ answer ∷ [];
@@ -96,7 +97,7 @@ impl ReplyBytes {
 
     // The same of an answer that the caller lets go of.
     #[tactic(auto, using(crate::proofs::Puts::one_more))]
-    fn put_one(&mut self, alloc: Global, answer: &Answer) -> Put
+    fn put_one(&mut self, alloc: Global, answer: &Answer<L>) -> Put
         ensures done { result ≡ puts.Done → IsFor self.old.key self.old.number answer.now × (self.new ≡ record self.old {
           bytes = self.old.bytes ++ spelled answer.now;
           answers = self.old.answers ++ answer.now ∷ [];

@@ -9,7 +9,7 @@ mod receiving;
 mod stream;
 mod ticket;
 
-pub use connections::{Bearer, Connections};
+pub use connections::{Bearer, ConnectionKey, Connections};
 pub use immediate::Immediate;
 pub use job::Job;
 pub use receiving::Received;

@@ -1,5 +1,6 @@
 //! A connection's stream, of which each record is received once.
 
+use crate::ConnectionKey;
 use crate::receiving::{Received, receive};
 use bytes::Bytes;
 use http_server::Log;
@@ -47,14 +48,16 @@ impl Model for Stream {
 }
 
 impl Stream {
-    ghost use Rattle.std.specs.Prelude.{◌≡◌, ◌≤◌, ◌++◌, [], take, length, IfOk, IfSome, IfNone, OnOk, OnErr};
-    ghost use Rattle.rpc.specs.Records.{CutsOff};
+    ghost use Rattle.std.specs.Prelude.{◌≡◌, ◌≤◌, ◌++◌, ◌⊎◌, [], take, length, IfOk, IfSome, IfNone, IsErrOf, OnOk, OnErr};
+    ghost use Rattle.rpc.specs.Records.{CutsOff, HasBegun, IsTooLong};
+    ghost use Rattle.rpc.specs.declared.fault.RpcFault.TheVariants as fault;
     ghost use Rattle.pool_jobs.specs.Stream.{ReceivesNext};
 
-    /// A stream of which nothing came.
-    pub fn new(alloc: Global, key: usize, number: u64) -> Stream
-        ensures { result ≡ record { key = key; number = number; came = []; received = []; left = [] } }
+    /// The stream of the connection of this key, which is used up for it, and of which nothing came.
+    pub fn new(alloc: Global, of: ConnectionKey) -> Stream
+        ensures { result ≡ record { key = of.key; number = of.number; came = []; received = []; left = [] } }
     {
+        let ConnectionKey { key, number } = of;
         Stream {
             key,
             number,
@@ -82,11 +85,14 @@ impl Stream {
         Ok(())
     }
 
-    /// Receives the next record, if it has come whole. Where the next record can't be cut out nothing changes.
+    /// Receives the next record, if it has come whole. Where the next record can't be cut out, as it is too long or
+    /// memory is refused, nothing changes.
     pub fn next(&mut self, alloc: Global) -> Result<Option<Received>, RpcFault>
         ensures found { IfOk result (λ o. IfSome o (λ received. ReceivesNext self.old received self.new)) }
         ensures nothing { IfOk result (λ o. IfNone o (self.new ≡ self.old)) }
+        ensures begun { IfOk result (λ o. IfNone o ((self.old.left ≡ []) ⊎ HasBegun self.old.left)) }
         ensures err { OnErr result (self.new ≡ self.old) }
+        ensures too_long { IsErrOf result fault.TooLong → IsTooLong self.old.left }
     {
         match self.records.next()? {
             None => Ok(None),

@@ -25,11 +25,6 @@ use Rattle.nfs_types.proofs.call.Call.TheSendSync as call
 use Rattle.nfs_types.proofs.ctx.Credential.TheSendSync as credential
 use Rattle.nfs_types.proofs.ctx.Ctx.TheSendSync as ctx
 use Rattle.nfs_types.proofs.reply.Reply.TheSendSync as reply
-use Rattle.session_wire.proofs.message.ReplyBody.TheSendSync as body
-use Rattle.pool_answers.specs.contracts.answer.Answer
-use Rattle.pool_answers.specs.contracts.answer.Answer.TheInside as answer
-use Rattle.pool_answers.specs.contracts.backlog.Backlog
-use Rattle.pool_answers.specs.contracts.backlog.Backlog.TheInside as backlog
 use Rattle.store_promise.proofs.aims.Aim.TheSendSync as aim
 use Rattle.store_promise.proofs.answers.CallAnswer.TheSendSync as given
 use Rattle.store_promise.proofs.answers.Entry.TheSendSync as entry
@@ -43,12 +38,15 @@ use Rattle.pool.specs.contracts.Job
 use Rattle.pool.specs.contracts.locked.Locked
 use Rattle.pool.specs.contracts.seat.Seat
 use Rattle.pool.specs.contracts.shared.Shared
+use Rattle.pool.specs.contracts.work.Work
+use Rattle.pool.specs.contracts.work.Work.TheInside as work
 use Rattle.pool.specs.declared.Whole
 use Rattle.store_workers.specs.contracts.workers.Worker
 use Rattle.server.specs.contracts.connection.Connection
 use Rattle.server.specs.contracts.hall.Hall
 use Rattle.server.specs.contracts.hall.Signs
 use Rattle.server.specs.contracts.jobs.Jobs
+use Rattle.server.proofs.Outgoing.{answer_send, outgoing_send, outgoing_sync}
 
 job_send : IsSend Job.the_row
 job_send = recorded_send Job.the_field.row _ _ Job.the_type.to_one (struct_send (Declared.shape Job.the_type) (
@@ -90,56 +88,56 @@ core_send : IsSend (Core.the_row Done.the_row Reply.the_row change.ghosts)
 core_send =
     search (wal.the_send, table.the_send, residency.the_send, logs.the_send, crosses, sendable) depth 100 fits 100000
 
-answer_send : IsSend Answer.the_row
-answer_send = view_send _ _ _ _ _ (recorded_send answer.the_field.row _ _ answer.the_type.to_one
-    (struct_send (Declared.shape answer.the_type) (
-      search (crosses, sendable) depth 20,
+work_send : (L : RattleType) (l : Ledger.Ghosts L.Denot) → IsSend (Work.the_row L l)
+work_send L l = view_send _ _ _ _ _ (recorded_send (work.the_field L l).row _ _ (work.the_type L l).to_one
+    (struct_send (Declared.shape (work.the_type L l)) (
+      search (worker_send, crosses, sendable) depth 60 fits 20000,
       (
-        search (crosses, sendable) depth 20,
-        (
-          search (crosses, sendable) depth 20,
-          (body.the_field_send, (search (crosses, sendable) depth 60 fits 20000, tt)),
-        ),
+        view_send _ _ _ _ _ (recorded_send _ _ _ _ (struct_send _ (
+          search (crosses, sendable) depth 60 fits 20000,
+          (
+            search (crosses, sendable) depth 60 fits 20000,
+            (search (answer_send L l, crosses, sendable) depth 60 fits 20000, tt),
+          ),
+        ))),
+        (told.the_field_send, tt),
       ),
     )))
 
 seat_send : (L S : RattleType) (l : Ledger.Ghosts L.Denot) → IsSend S → IsSend (Seat.the_row L S l)
-seat_send L S l source =
+seat_send L S l s =
     recorded_send (Seat.the_field L S l).row _ _ (Seat.the_type L S l).to_one
     (struct_send (Declared.shape (Seat.the_type L S l)) (
-      search (worker_send, answer_send, told.the_field_send, crosses, sendable) depth 60 fits 20000,
-      (share.the_send L l, (search (source, crosses, sendable) depth 20, tt)),
+      search (work_send L l, crosses, sendable) depth 60 fits 20000,
+      (share.the_send L l, (search (s, crosses, sendable) depth 20, tt)),
     ))
 
-backlog_send : IsSend Backlog.the_row
-backlog_send = view_send _ _ _ _ _ (recorded_send backlog.the_field.row _ _ backlog.the_type.to_one
-    (struct_send (Declared.shape backlog.the_type) (
-      search (crosses, sendable) depth 20,
-      (
-        search (crosses, sendable) depth 20,
-        (search (crosses, sendable) depth 20, (search (logs.the_send, crosses, sendable) depth 20, tt)),
-      ),
-    )))
+module _ (L : RattleType) (l : Ledger.Ghosts L.Denot) where
+  connection_send : IsSend (Connection.the_row L l)
+  connection_send = recorded_send (Connection.the_field L l).row _ _ (Connection.the_type L l).to_one
+      (struct_send (Declared.shape (Connection.the_type L l)) (
+        search (crosses, sendable) depth 60 fits 20000,
+        (search (outgoing_send L l, crosses, sendable) depth 20, tt),
+      ))
 
-connection_send : IsSend Connection.the_row
-connection_send = search (backlog_send, crosses, sendable) depth 60 fits 20000
+  connection_sync : IsSync (Connection.the_row L l)
+  connection_sync = recorded_sync (Connection.the_field L l).row _ _ (Connection.the_type L l).to_one
+      (struct_sync (Declared.shape (Connection.the_type L l)) (
+        search (crosses, sendable) depth 60 fits 20000,
+        (search (outgoing_sync L l, crosses, sendable) depth 20, tt),
+      ))
 
-connection_sync : IsSync Connection.the_row
-connection_sync = search (backlog_send, crosses, sendable) depth 60 fits 20000
+  pub listed_send : IsSend (Arc.the_row (Connection.the_row L l) Global.the_row TheImpl.ghosts)
+  listed_send = search (connection_send, connection_sync, crosses, sendable) depth 60 fits 20000
 
-pub listed_send : IsSend (Arc.the_row Connection.the_row Global.the_row TheImpl.ghosts)
-listed_send = search (connection_send, connection_sync, crosses, sendable) depth 60 fits 20000
+  open_send : IsSend (Connections.the_row (Arc.the_row (Connection.the_row L l) Global.the_row TheImpl.ghosts))
+  open_send = search (listed_send, crosses, sendable) depth 60 fits 20000
 
-open_send : IsSend (Connections.the_row (Arc.the_row Connection.the_row Global.the_row TheImpl.ghosts))
-open_send = search (listed_send, crosses, sendable) depth 60 fits 20000
-
-signs_sync : IsSync (Signs.the_field).row
-signs_sync = struct_sync (Declared.shape Signs.the_type) (
-  search (crosses, sendable) depth 40 fits 20000,
-  (
-    jobs_sync,
+  signs_sync : IsSync (Signs.the_field L l).row
+  signs_sync = struct_sync (Declared.shape (Signs.the_type L l)) (
+    search (crosses, sendable) depth 40 fits 20000,
     (
-      search (crosses, sendable) depth 40 fits 20000,
+      jobs_sync,
       (
         search (crosses, sendable) depth 40 fits 20000,
         (
@@ -147,18 +145,20 @@ signs_sync = struct_sync (Declared.shape Signs.the_type) (
           (
             search (crosses, sendable) depth 40 fits 20000,
             (
-              search (open_send, crosses, sendable) depth 40 fits 20000,
+              search (crosses, sendable) depth 40 fits 20000,
               (
-                search (crosses, sendable) depth 40 fits 20000,
-                (search (crosses, sendable) depth 40 fits 20000, tt),
+                search (open_send, crosses, sendable) depth 40 fits 20000,
+                (
+                  search (crosses, sendable) depth 40 fits 20000,
+                  (search (crosses, sendable) depth 40 fits 20000, tt),
+                ),
               ),
             ),
           ),
         ),
       ),
     ),
-  ),
-)
+  )
 
 io_seat_send : (G P : RattleType) (w : Whole.Ghosts G.Denot) (p : Port.Ghosts P.Denot) (l : Ledger.Ghosts G.Denot)
     → IsSend P → IsSend (IoSeat.the_row G P w p l)
@@ -209,7 +209,7 @@ module _ (L G I : RattleType) (w : Whole.Ghosts G.Denot) (w' : Whole.Ghosts I.De
             search (seat, crosses, sendable) depth 20,
             (
               search (logger, crosses, sendable) depth 20,
-              (search (installer, crosses, sendable) depth 20, (signs_sync, tt)),
+              (search (installer, crosses, sendable) depth 20, (signs_sync L l, tt)),
             ),
           ),
         ),

@@ -1,1 +1,2 @@
+mod Outgoing
 mod Crossing

@@ -17,9 +17,9 @@ use std::thread::Threads;
 use std::time::{Clock, Duration};
 
 // A connection that was let in: what its threads have.
-struct Guest {
-    connection: Arc<Connection, Global>,
-    writer: Arc<Connection, Global>,
+struct Guest<L: Ledger> {
+    connection: Arc<Connection<L>, Global>,
+    writer: Arc<Connection<L>, Global>,
     key: usize,
     number: u64,
 }
@@ -85,7 +85,7 @@ fn let_in<L: Ledger, G: Whole, I: Whole, P: Port, S, R: Wait + Clock>(
     rt: &R,
     hall: &Hall<L, G, I, P, S>,
     stream: TcpStream,
-) -> Option<Guest> {
+) -> Option<Guest<L>> {
     let mut open = hall.signs.open.lock(rt);
     if open.count() >= MOST_CONNECTIONS && !make_place(rt, &mut *open) {
         return None;
@@ -105,7 +105,10 @@ fn let_in<L: Ledger, G: Whole, I: Whole, P: Port, S, R: Wait + Clock>(
 }
 
 // Ends the connection that has been silent longest, where that is long enough. Whether there was one.
-fn make_place<R: Wait + Clock>(rt: &R, open: &mut Connections<Arc<Connection, Global>>) -> bool {
+fn make_place<L: Ledger, R: Wait + Clock>(
+    rt: &R,
+    open: &mut Connections<Arc<Connection<L>, Global>>,
+) -> bool {
     let second = steady_second(rt);
     for _ in 0..MOST_CONNECTIONS {
         let Some(silent) = longest_silent(rt, open, second) else {
@@ -128,9 +131,9 @@ fn make_place<R: Wait + Clock>(rt: &R, open: &mut Connections<Arc<Connection, Gl
 }
 
 // The connection that has been silent longest at this second, if one is silent.
-fn longest_silent<R: Wait>(
+fn longest_silent<L: Ledger, R: Wait>(
     rt: &R,
-    open: &Connections<Arc<Connection, Global>>,
+    open: &Connections<Arc<Connection<L>, Global>>,
     second: u64,
 ) -> Option<Silent> {
     let mut longest = None;
@@ -154,7 +157,7 @@ fn longest_silent<R: Wait>(
 fn turn_away<L: Ledger, G: Whole, I: Whole, P: Port, S, R: Wait>(
     rt: &R,
     hall: &Hall<L, G, I, P, S>,
-    connection: &Connection,
+    connection: &Connection<L>,
     key: usize,
     number: u64,
 ) {

@@ -4,21 +4,22 @@ use pool::{Answer, Job};
 use server_parts::{Parked, SeatKey};
 use std::alloc::{AllocError, Global};
 use std::collections::VecDeque;
+use std::sync::ledger::Ledger;
 
 /// Calls of one connection, in their order; and of those that were driven the answers, the seats whose changes wait to
 /// be settled, and the seat that has to wait for something else. It is the last that was driven, since it may have
 /// taken what a later one would wait for.
 #[derive(Drop)]
-pub struct Batch {
+pub struct Batch<L: Ledger> {
     pub jobs: VecDeque<Job>,
-    pub answers: VecDeque<Answer>,
+    pub answers: VecDeque<Answer<L>>,
     pub waiting: VecDeque<Parked>,
     pub held_up: Option<SeatKey>,
 }
 
-impl Batch {
+impl<L: Ledger> Batch<L> {
     /// No call, with room for as many as are driven in a row.
-    pub fn new(alloc: Global) -> Result<Batch, AllocError> {
+    pub fn new(alloc: Global) -> Result<Batch<L>, AllocError> {
         Ok(Batch {
             jobs: VecDeque::with_capacity(alloc, CALLS_IN_A_ROW)?,
             answers: VecDeque::with_capacity(alloc, CALLS_IN_A_ROW)?,

@@ -5,16 +5,17 @@ use server_replies::Outgoing;
 use std::alloc::Global;
 use std::net::{Shutdown, TcpStream};
 use std::sync::Wait;
+use std::sync::ledger::Ledger;
 use std::time::{Clock, Duration};
 
 /// A connection: its stream, and the replies that wait to be written to it.
 #[derive(Drop)]
-pub struct Connection {
+pub struct Connection<L: Ledger> {
     pub stream: TcpStream,
-    pub outgoing: Outgoing,
+    pub outgoing: Outgoing<L>,
 }
 
-impl Connection {
+impl<L: Ledger> Connection<L> {
     /// A connection over a stream, which sends each write at once, and on which a write and a read that wait too
     /// long fail. It takes answers of this key and number alone.
     pub fn new<R: Clock>(
@@ -23,7 +24,7 @@ impl Connection {
         stream: TcpStream,
         key: usize,
         number: u64,
-    ) -> Connection {
+    ) -> Connection<L> {
         let _ = stream.set_nodelay(true);
         let _ = stream.set_write_timeout(Some(Duration::from_secs(WRITE_SECONDS)));
         let _ = stream.set_read_timeout(Some(Duration::from_secs(IDLE_SECONDS)));
@@ -34,7 +35,7 @@ impl Connection {
     }
 
     /// Writes replies, or leaves them to the thread that writes. False where no more can be written.
-    pub fn write<R: Wait + Clock>(&self, rt: &R, alloc: Global, replies: &ReplyBytes) -> bool {
+    pub fn write<R: Wait + Clock>(&self, rt: &R, alloc: Global, replies: &ReplyBytes<L>) -> bool {
         self.outgoing.write(rt, &mut &self.stream, replies, alloc)
     }
 

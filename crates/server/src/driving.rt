@@ -14,8 +14,8 @@ use std::time::{Clock, Duration};
 
 // How driving a seat ends.
 #[derive(Drop)]
-enum Driven {
-    Answered(Answer),
+enum Driven<L: Ledger> {
+    Answered(Answer<L>),
     // Its change waits for this place to be settled.
     Waits(u64),
     // It has no call.
@@ -24,8 +24,8 @@ enum Driven {
 
 /// What came of driving a seat to its answer.
 #[derive(Drop)]
-pub enum Seen {
-    Answered(Answer),
+pub enum Seen<L: Ledger> {
+    Answered(Answer<L>),
     /// Its change waits to be settled: it is parked, and the finisher answers it.
     Parked,
     /// It had no call, so none is answered.
@@ -49,7 +49,7 @@ pub fn answer_in<L: Ledger, G: Whole, I: Whole, P: Port, S: Source, R: Wait + Cl
     hall: &Hall<L, G, I, P, S>,
     key: SeatKey,
     job: Job,
-) -> Seen {
+) -> Seen<L> {
     hand(rt, hall, &key, job);
     see_through(rt, hall, key)
 }
@@ -73,7 +73,7 @@ fn hand<L: Ledger, G: Whole, I: Whole, P: Port, S, R: Wait + Clock>(
 pub fn drive_batch<L: Ledger, G: Whole, I: Whole, P: Port, S, R: Wait + Clock>(
     rt: &R,
     hall: &Hall<L, G, I, P, S>,
-    batch: &mut Batch,
+    batch: &mut Batch<L>,
 ) -> Row {
     let jobs = batch.jobs.len();
     let (is_well, look) = drive_in_a_row(rt, hall, batch);
@@ -92,7 +92,7 @@ pub fn drive_batch<L: Ledger, G: Whole, I: Whole, P: Port, S, R: Wait + Clock>(
 fn drive_in_a_row<L: Ledger, G: Whole, I: Whole, P: Port, S, R: Wait + Clock>(
     rt: &R,
     hall: &Hall<L, G, I, P, S>,
-    batch: &mut Batch,
+    batch: &mut Batch<L>,
 ) -> (bool, Option<Look>) {
     let _baton = hall.signs.baton.lock(rt);
     let mut is_well = true;
@@ -155,7 +155,7 @@ pub fn see_through<L: Ledger, G: Whole, I: Whole, P: Port, S: Source, R: Wait + 
     rt: &R,
     hall: &Hall<L, G, I, P, S>,
     key: SeatKey,
-) -> Seen {
+) -> Seen<L> {
     let mut key = key;
     for _ in rt.forever() {
         match go_on(rt, hall, &key) {
@@ -184,7 +184,7 @@ fn go_on<L: Ledger, G: Whole, I: Whole, P: Port, S: Source, R: Wait + Clock>(
     rt: &R,
     hall: &Hall<L, G, I, P, S>,
     key: &SeatKey,
-) -> Driven {
+) -> Driven<L> {
     let Some(seat) = hall.seats.get(key.number()) else {
         return Driven::Empty;
     };
@@ -228,8 +228,8 @@ struct Made {
 
 // What the first steps of a call came to.
 #[derive(Drop)]
-enum First {
-    Answered(Answer),
+enum First<L: Ledger> {
+    Answered(Answer<L>),
     // Its change waits for this place to be settled.
     Waits(u64),
     // It has to wait for something else.
@@ -241,7 +241,7 @@ fn first_steps<L: Ledger, G: Whole, I: Whole, P: Port, S, R: Wait>(
     rt: &R,
     hall: &Hall<L, G, I, P, S>,
     key: &SeatKey,
-) -> (First, bool) {
+) -> (First<L>, bool) {
     let Some(seat) = hall.seats.get(key.number()) else {
         return (First::HeldUp, false);
     };

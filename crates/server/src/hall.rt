@@ -20,27 +20,27 @@ pub struct Hall<L: Ledger, G: Whole, I: Whole, P: Port, S> {
     pub seats: Vec<Mutex<Seat<L, S>>>,
     pub logger: Mutex<IoSeat<G, P>>,
     pub installer: Mutex<IoSeat<I, P>>,
-    pub signs: Signs,
+    pub signs: Signs<L>,
 }
 
 /// What threads tell one another.
 #[derive(Drop)]
-pub struct Signs {
+pub struct Signs<L: Ledger> {
     pub free: FreeSeats,
     pub jobs: Jobs,
     pub parking: Parking,
     pub to_log: Bell,
     pub to_install: Bell,
     pub rounds: Rounds,
-    pub open: Mutex<Connections<Arc<Connection, Global>>>,
+    pub open: Mutex<Connections<Arc<Connection<L>, Global>>>,
     pub moments: Mutex<Moments>,
     // Who drives seats has it for the steps that it makes in a row.
     pub baton: Mutex<()>,
 }
 
-impl Signs {
+impl<L: Ledger> Signs<L> {
     /// So many seats are free, and no connection is open.
-    pub fn new(alloc: Global, seats: usize, settled: u64) -> Result<Signs, AllocError> {
+    pub fn new(alloc: Global, seats: usize, settled: u64) -> Result<Signs<L>, AllocError> {
         Ok(Signs {
             free: FreeSeats::new(alloc, seats)?,
             jobs: Jobs::new(alloc)?,
@@ -66,7 +66,7 @@ impl Signs {
     }
 
     /// Hands an answer to its connection, which writes it. One to a connection that has ended is let go.
-    pub fn deliver<R: Wait>(&self, rt: &R, alloc: Global, answer: Answer) {
+    pub fn deliver<R: Wait>(&self, rt: &R, alloc: Global, answer: Answer<L>) {
         let (key, number) = answer.goes_to();
         let Some(connection) = self.connection(rt, key, number) else {
             return;
@@ -91,7 +91,7 @@ impl Signs {
         rt: &R,
         key: usize,
         number: u64,
-    ) -> Option<Arc<Connection, Global>> {
+    ) -> Option<Arc<Connection<L>, Global>> {
         let open = self.open.lock(rt);
         Arc::try_clone(open.find(key, number)?).ok()
     }
@@ -99,7 +99,7 @@ impl Signs {
 
 impl<L: Ledger, G: Whole, I: Whole, P: Port, S> Hall<L, G, I, P, S> {
     /// What the threads share of a pool.
-    pub fn new(alloc: Global, pool: Pool<L, G, I, P, S>, signs: Signs) -> Hall<L, G, I, P, S> {
+    pub fn new(alloc: Global, pool: Pool<L, G, I, P, S>, signs: Signs<L>) -> Hall<L, G, I, P, S> {
         let Pool {
             shared,
             seats,

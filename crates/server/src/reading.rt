@@ -16,11 +16,11 @@ use std::sync::ledger::Ledger;
 use std::time::Clock;
 
 // The connection that is read, and where it is listed.
-#[derive(Clone, Copy)]
-struct Desk<'a> {
+#[derive(Drop)]
+struct Desk<'a, L: Ledger> {
     key: usize,
     number: u64,
-    connection: &'a Connection,
+    connection: &'a Connection<L>,
 }
 
 // The connection is gone.
@@ -56,7 +56,7 @@ pub fn read_all<L: Ledger, G: Whole, I: Whole, P: Port, S: Source, R: Wait + Clo
 fn read_pieces<L: Ledger, G: Whole, I: Whole, P: Port, S: Source, R: Wait + Clock>(
     rt: &R,
     hall: &Hall<L, G, I, P, S>,
-    desk: &Desk<'_>,
+    desk: &Desk<'_, L>,
 ) -> bool {
     let Ok(mut piece) = vec![in hall.alloc; 0u8; STREAM_PIECE_BYTES] else {
         return true;
@@ -93,7 +93,7 @@ fn read_pieces<L: Ledger, G: Whole, I: Whole, P: Port, S: Source, R: Wait + Cloc
 }
 
 // Reads what there is. Nothing came where the client sends no more, or sent nothing for too long.
-fn read_piece(connection: &Connection, piece: &mut [u8]) -> Result<usize, Gone>
+fn read_piece<L: Ledger>(connection: &Connection<L>, piece: &mut [u8]) -> Result<usize, Gone>
     ensures { IfOk result (λ count. count ≤ length piece.new) }
 {
     for _ in 0..u64::MAX {
@@ -113,9 +113,9 @@ fn read_piece(connection: &Connection, piece: &mut [u8]) -> Result<usize, Gone>
 fn serve_records<L: Ledger, G: Whole, I: Whole, P: Port, S: Source, R: Wait + Clock>(
     rt: &R,
     hall: &Hall<L, G, I, P, S>,
-    desk: &Desk<'_>,
+    desk: &Desk<'_, L>,
     stream: &mut Stream,
-    batch: &mut Batch,
+    batch: &mut Batch<L>,
 ) -> bool {
     let mut replies = ReplyBytes::new(hall.alloc, desk.key, desk.number);
     for _ in rt.forever() {
@@ -150,10 +150,10 @@ enum Gathered {
 fn gather<L: Ledger, G: Whole, I: Whole, P: Port, S, R: Wait>(
     rt: &R,
     hall: &Hall<L, G, I, P, S>,
-    desk: &Desk<'_>,
+    desk: &Desk<'_, L>,
     stream: &mut Stream,
-    batch: &mut Batch,
-    replies: &mut ReplyBytes,
+    batch: &mut Batch<L>,
+    replies: &mut ReplyBytes<L>,
 ) -> Gathered {
     if !desk
         .connection
@@ -181,11 +181,11 @@ fn gather<L: Ledger, G: Whole, I: Whole, P: Port, S, R: Wait>(
 
 // Puts a call behind the batch, and the reply of another record behind the replies. False where the connection is
 // to end.
-fn take_record(
+fn take_record<L: Ledger>(
     alloc: Global,
     received: Received,
-    batch: &mut Batch,
-    replies: &mut ReplyBytes,
+    batch: &mut Batch<L>,
+    replies: &mut ReplyBytes<L>,
 ) -> bool {
     match received {
         Received::Closed => false,
@@ -198,9 +198,9 @@ fn take_record(
 fn answer_batch<L: Ledger, G: Whole, I: Whole, P: Port, S: Source, R: Wait + Clock>(
     rt: &R,
     hall: &Hall<L, G, I, P, S>,
-    desk: &Desk<'_>,
-    batch: &mut Batch,
-    replies: &mut ReplyBytes,
+    desk: &Desk<'_, L>,
+    batch: &mut Batch<L>,
+    replies: &mut ReplyBytes<L>,
 ) -> bool {
     let mut is_well = true;
     for _ in 0..batch.jobs.len() {
@@ -219,9 +219,9 @@ fn answer_batch<L: Ledger, G: Whole, I: Whole, P: Port, S: Source, R: Wait + Clo
 fn answer_row<L: Ledger, G: Whole, I: Whole, P: Port, S: Source, R: Wait + Clock>(
     rt: &R,
     hall: &Hall<L, G, I, P, S>,
-    desk: &Desk<'_>,
-    batch: &mut Batch,
-    replies: &mut ReplyBytes,
+    desk: &Desk<'_, L>,
+    batch: &mut Batch<L>,
+    replies: &mut ReplyBytes<L>,
 ) -> bool {
     let row = drive_batch(rt, hall, batch);
     let mut is_well = row.is_well;
@@ -268,9 +268,9 @@ fn answer_row<L: Ledger, G: Whole, I: Whole, P: Port, S: Source, R: Wait + Clock
 fn drive_on<L: Ledger, G: Whole, I: Whole, P: Port, S: Source, R: Wait + Clock>(
     rt: &R,
     hall: &Hall<L, G, I, P, S>,
-    desk: &Desk<'_>,
+    desk: &Desk<'_, L>,
     key: SeatKey,
-    replies: &mut ReplyBytes,
+    replies: &mut ReplyBytes<L>,
 ) -> bool {
     match see_through(rt, hall, key) {
         Seen::Parked => true,
@@ -286,11 +286,11 @@ fn drive_on<L: Ledger, G: Whole, I: Whole, P: Port, S: Source, R: Wait + Clock>(
 }
 
 // Writes the replies, if there are any. False where no more can be written.
-fn write<R: Wait + Clock>(
+fn write<L: Ledger, R: Wait + Clock>(
     rt: &R,
     alloc: Global,
-    desk: &Desk<'_>,
-    replies: &mut ReplyBytes,
+    desk: &Desk<'_, L>,
+    replies: &mut ReplyBytes<L>,
 ) -> bool {
     if replies.len() == 0 {
         return true;
@@ -301,6 +301,6 @@ fn write<R: Wait + Clock>(
 }
 
 // Puts the bytes of an answer behind others. False where memory is refused, or it isn't for their connection.
-fn put(alloc: Global, answer: Answer, replies: &mut ReplyBytes) -> bool {
+fn put<L: Ledger>(alloc: Global, answer: Answer<L>, replies: &mut ReplyBytes<L>) -> bool {
     replies.put(alloc, answer) == Put::Done
 }

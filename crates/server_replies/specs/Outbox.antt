@@ -1,7 +1,21 @@
 -- What a connection still has to be sent.
-use Rattle.std.specs.Prelude.{◌≡◌, ◌≢◌, ◌⊎◌, ◌+◌, ◌<◌, [], true, false, length}
-use Rattle.pool_answers.specs.Written.{AreForOne, Written, with_more}
-use Rattle.server_replies.specs.declared.outbox.Outbox.{Outbox}
+use Rattle.std.specs.Prelude.{◌≡◌, ◌≢◌, ◌⊎◌, ◌+◌, ◌<◌, ℕ, Bool, [], true, false, length}
+use Rattle.pool_answers.specs.Written.{AreForOne, Queued, Written, with_more}
+use Rattle.server_parts.specs.declared.silence.Silence.{Silence}
+
+-- the replies that wait, and whether a thread writes
+pub record Replies : Type 0 where
+  pub pending : Queued
+  pub writing : Bool
+
+-- these; how many calls are to be answered; whether no more is written, and whether no call comes any more; and since
+-- when the connection has been silent
+pub record Outbox : Type 0 where
+  pub replies : Replies
+  pub due : ℕ
+  pub shut : Bool
+  pub ended : Bool
+  pub silence : Silence
 
 -- the replies were put behind all that waits, or no more is written: they are let go only where they are for another
 -- connection, or memory is refused, and that only where the room that there is doesn't suffice

@@ -5,6 +5,8 @@ use crate::Replies;
 use pool_answers::{Backlog, Put, ReplyBytes};
 use server_parts::Silence;
 use std::alloc::Global;
+use std::marker::Model;
+use std::sync::ledger::Ledger;
 
 /// What becomes of replies that a thread would write.
 #[derive(Clone, Copy, Debug, PartialEq, Eq)]
@@ -18,9 +20,10 @@ pub enum Offer {
 }
 
 /// The replies of a connection that wait to be written, what its end waits for besides, and how long it has been silent.
+/// Its type keeps that none waits once no more is written.
 #[derive(Drop)]
-pub struct Outbox {
-    replies: Replies,
+pub struct Outbox<L: Ledger> {
+    replies: Replies<L>,
     // How many calls were handed on and are neither answered nor let go.
     due: u64,
     // Whether no more is written, since a write failed or memory was refused.
@@ -28,15 +31,31 @@ pub struct Outbox {
     // Whether no call comes any more.
     ended: bool,
     silence: Silence,
-    pub ghost let_go: { shut ≡ true → replies.pending.bytes ≡ [] },
 }
 
-impl Outbox {
+impl<L: Ledger> Model for Outbox<L> {
+    ghost use Rattle.std.specs.Prelude.{◌≡◌, [], true};
+    ghost use Rattle.server_replies.specs.Outbox.{Outbox};
+
+    ghost Value = { Outbox };
+
+    ghost view = { λ o. record {
+      replies = o.replies;
+      due = o.due;
+      shut = o.shut;
+      ended = o.ended;
+      silence = o.silence;
+    } };
+
+    ghost invariant = { λ o. o.shut ≡ true → o.replies.pending.bytes ≡ [] };
+}
+
+impl<L: Ledger> Outbox<L> {
     ghost use Rattle.pool_answers.specs.Written.{AreForOne, nothing_for};
     ghost use Rattle.server_replies.specs.Outbox.{IsLeft, IsDone, IsForWriter, IsSilent};
 
     /// Nothing waits, of the connection of this key and number, which came at this second.
-    pub fn new(alloc: Global, key: usize, number: u64, second: u64) -> Outbox
+    pub fn new(alloc: Global, key: usize, number: u64, second: u64) -> Outbox<L>
         ensures pending { result.replies.pending ≡ nothing_for key number result.replies.pending.room }
         ensures writing { result.replies.writing ≡ false }
         ensures due { result.due ≡ 0 }
@@ -67,7 +86,7 @@ impl Outbox {
     }
 
     /// Puts the reply of a call that was handed on, or shuts where there is none.
-    pub fn answer(&mut self, reply: Option<&ReplyBytes>)
+    pub fn answer(&mut self, reply: Option<&ReplyBytes<L>>)
         ensures due { self.new.due ≡ self.old.due - 1 }
         ensures left { IfSome reply.entry (λ replies. IsLeft self.old replies.now self.new) }
         ensures none { IfNone reply.entry (self.new.shut ≡ true) }
@@ -83,7 +102,7 @@ impl Outbox {
 
     /// Leaves replies behind all that waits, and shuts where they are for another connection, or memory is refused for
     /// them. Once no more is written they are let go.
-    pub fn leave(&mut self, replies: &ReplyBytes)
+    pub fn leave(&mut self, replies: &ReplyBytes<L>)
         ensures left { IsLeft self.old replies.now self.new }
         ensures due { self.new.due ≡ self.old.due }
         ensures ended { self.new.ended ≡ self.old.ended }
@@ -94,7 +113,7 @@ impl Outbox {
     }
 
     /// What becomes of replies that a thread would write: where it writes them it is from then on the one that writes.
-    pub fn offer(&mut self, replies: &ReplyBytes) -> Offer
+    pub fn offer(&mut self, replies: &ReplyBytes<L>) -> Offer
         ensures shut { (result ≡ Offer.Shut)
             ↔ ((self.old.shut ≡ true) ⊎ (AreForOne replies.now self.old.replies.pending → ⊥)) }
         ensures let_go { result ≡ Offer.Shut → self.new ≡ self.old }
@@ -119,7 +138,7 @@ impl Outbox {
 
     /// What the thread that writes writes next, when its last write was done or failed: all that waits, in a buffer
     /// that is used again. None where nothing waits: then no thread writes any more.
-    pub fn go_on(&mut self, is_done: bool, used: Backlog) -> Option<Backlog>
+    pub fn go_on(&mut self, is_done: bool, used: Backlog<L>) -> Option<Backlog<L>>
         ensures taken { IfSome result (λ taken. IsTrue is_done × (taken ≡ self.old.replies.pending)
             × (taken.bytes ≢ []) × (self.new.replies.pending.bytes ≡ []) × (self.new.replies.writing ≡ true)) }
         ensures nothing { IfNone result ((IsTrue is_done → self.old.replies.pending.bytes ≡ [])
@@ -152,7 +171,7 @@ impl Outbox {
 
     /// Makes the connection's own writer the thread that writes, and hands it all that waits. None where it has
     /// nothing more to wait for.
-    pub fn begin(&mut self, used: Backlog) -> Option<Backlog>
+    pub fn begin(&mut self, used: Backlog<L>) -> Option<Backlog<L>>
         requires { IsForWriter self.old }
         ensures taken { IfSome result (λ taken. (taken ≡ self.old.replies.pending) × (taken.bytes ≢ [])
             × (self.old.replies.writing ≡ false)

@@ -4,23 +4,24 @@ use pool_answers::{Backlog, ReplyBytes};
 use server_parts::steady_second;
 use std::alloc::Global;
 use std::io::Write;
+use std::sync::ledger::Ledger;
 use std::sync::{Condvar, Mutex, Wait};
 use std::time::Clock;
 
 /// The replies of a connection. Who answers a call puts its reply here. One thread writes at a time, outside
 /// the lock: so a client that doesn't read holds up no more than that.
 #[derive(Drop)]
-pub struct Outgoing {
-    outbox: Mutex<Outbox>,
+pub struct Outgoing<L: Ledger> {
+    outbox: Mutex<Outbox<L>>,
     // The connection's thread that writes what others put waits for this.
     to_write: Condvar,
     // The one that reads waits for this.
     written: Condvar,
 }
 
-impl Outgoing {
+impl<L: Ledger> Outgoing<L> {
     /// Nothing waits, of the connection of this key and number, which has just come.
-    pub fn new<R: Clock>(rt: &R, alloc: Global, key: usize, number: u64) -> Outgoing {
+    pub fn new<R: Clock>(rt: &R, alloc: Global, key: usize, number: u64) -> Outgoing<L> {
         Outgoing {
             outbox: Mutex::new(Outbox::new(alloc, key, number, steady_second(rt))),
             to_write: Condvar::new(),
@@ -35,7 +36,7 @@ impl Outgoing {
 
     /// Puts the reply of a call that was handed on, or lets the call go where there is none, for the
     /// connection's own thread to write.
-    pub fn answer<R: Wait>(&self, rt: &R, reply: Option<&ReplyBytes>) {
+    pub fn answer<R: Wait>(&self, rt: &R, reply: Option<&ReplyBytes<L>>) {
         let mut outbox = self.outbox.lock(rt);
         outbox.answer(reply);
         if outbox.is_shut() {
@@ -57,7 +58,7 @@ impl Outgoing {
         &self,
         rt: &R,
         out: &mut W,
-        replies: &ReplyBytes,
+        replies: &ReplyBytes<L>,
         alloc: Global,
     ) -> bool {
         let mut outbox = self.outbox.lock(rt);
@@ -98,7 +99,12 @@ impl Outgoing {
     }
 
     // What is to be written next, or None where nothing waits: then no thread writes.
-    fn next_batch<R: Wait + Clock>(&self, rt: &R, is_done: bool, used: Backlog) -> Option<Backlog> {
+    fn next_batch<R: Wait + Clock>(
+        &self,
+        rt: &R,
+        is_done: bool,
+        used: Backlog<L>,
+    ) -> Option<Backlog<L>> {
         let mut outbox = self.outbox.lock(rt);
         let next = outbox.go_on(is_done, used);
         outbox.tell(steady_second(rt));
@@ -118,7 +124,7 @@ impl Outgoing {
     }
 
     // Waits until the connection's own writer has something to write, and takes it. None where nothing more will come.
-    fn take_for_writer<R: Wait>(&self, rt: &R, alloc: Global) -> Option<Backlog> {
+    fn take_for_writer<R: Wait>(&self, rt: &R, alloc: Global) -> Option<Backlog<L>> {
         let mut outbox = self
             .to_write
             .wait_while(rt, self.outbox.lock(rt), |o| o.keeps_writer_waiting());

@@ -5,19 +5,29 @@ ghost use Rattle.pool_answers.specs.declared.reply_bytes.Put.TheVariants as puts
 
 use pool_answers::{Backlog, Put, ReplyBytes};
 use std::alloc::Global;
+use std::marker::Model;
 use std::mem;
+use std::sync::ledger::Ledger;
 
 /// The replies of a connection that wait to be written, in the order in which they were put, and whether a thread
 /// writes. The thread that writes goes on until nothing waits.
 #[derive(Drop)]
-pub struct Replies {
-    pending: Backlog,
+pub struct Replies<L: Ledger> {
+    pending: Backlog<L>,
     writing: bool,
 }
 
-impl Replies {
+impl<L: Ledger> Model for Replies<L> {
+    ghost use Rattle.server_replies.specs.Outbox.{Replies};
+
+    ghost Value = { Replies };
+
+    ghost view = { λ r. record { pending = r.pending; writing = r.writing } };
+}
+
+impl<L: Ledger> Replies<L> {
     /// Nothing waits for the connection of this key and number, and no thread writes.
-    pub fn new(alloc: Global, key: usize, number: u64) -> Replies
+    pub fn new(alloc: Global, key: usize, number: u64) -> Replies<L>
         ensures pending { result.pending ≡ nothing_for key number result.pending.room }
         ensures writing { result.writing ≡ false }
     {
@@ -42,7 +52,7 @@ impl Replies {
     }
 
     /// Whether these are for the connection.
-    pub fn are_for(&self, replies: &ReplyBytes) -> bool
+    pub fn are_for(&self, replies: &ReplyBytes<L>) -> bool
         ensures { IsTrue result ↔ AreForOne replies.now self.now.pending }
     {
         self.pending.is_for(replies)
@@ -50,7 +60,7 @@ impl Replies {
 
     /// Puts replies behind those that wait: all of them, or none, where they are for another connection, or memory is
     /// refused, which is never so while the buffer has room for them.
-    pub fn put(&mut self, replies: &ReplyBytes) -> Put
+    pub fn put(&mut self, replies: &ReplyBytes<L>) -> Put
         ensures done { result ≡ puts.Done → AreForOne replies.now self.old.pending
             × (self.new.pending ≡ with_more replies.now self.new.pending.room self.old.pending) }
         ensures another { result ≡ puts.Another → (AreForOne replies.now self.old.pending → ⊥)
@@ -79,7 +89,7 @@ impl Replies {
 
     /// Hands the thread that writes all that waits, for a buffer that is used again. Where nothing waits, no
     /// thread writes any more.
-    pub fn take(&mut self, used: Backlog) -> Option<Backlog>
+    pub fn take(&mut self, used: Backlog<L>) -> Option<Backlog<L>>
         ensures taken { IfSome result (λ taken. (taken ≡ self.old.pending) × (taken.bytes ≢ [])
             × (self.new.pending ≡ nothing_for self.old.pending.key self.old.pending.number self.new.pending.room)
             × (self.new.writing ≡ true)) }

@@ -9,12 +9,12 @@ use Rattle.pool.proofs.SeatedSteps.{next_gives, next_seated}
 use Rattle.pool.specs.Answers.{GivesFor, errand_after}
 use Rattle.pool.specs.Seated.{IsSeated}
 use Rattle.pool.specs.Stepping.{grown}
-use Rattle.pool.specs.declared.errand.Errand.{Errand}
+use Rattle.pool.specs.Errand.{Errand}
 use Rattle.pool.specs.declared.told.Told.{Told}
 use Rattle.pool.proofs.work.Work.step.Goals as goal
 
 pub after-errand-requires : goal.after-errand-requires
-after-errand-requires c =
+after-errand-requires g c =
     let e = c.advance-made.ensures in
     let old = side c.self.inside.worker.state c.args.core.now in
     let new = side e.0 c.advance-made.new.core in
@@ -25,7 +25,7 @@ after-errand-requires c =
     (next_gives c.self.inside.errand shown old new made c.self.invariant e.1 e.4)
 
 pub invariant_of-self : goal.invariant_of-self
-invariant_of-self c =
+invariant_of-self g c =
     let e = c.advance-made.ensures in
     let old = side c.self.inside.worker.state c.args.core.now in
     let new = side e.0 c.advance-made.new.core in
@@ -37,7 +37,7 @@ invariant_of-self c =
     (next_seated c.self.inside.errand shown old new made c.self.invariant e.1 e.4)
 
 pub returns-clause-places : goal.returns-clause-places
-returns-clause-places c =
+returns-clause-places g c =
     let e = c.advance-made.ensures in
     let old = side c.self.inside.worker.state c.args.core.now in
     let new = side e.0 c.advance-made.new.core in
@@ -45,7 +45,7 @@ returns-clause-places c =
     ∙ ap (λ (t : Told). c.args.core.now.log.places + grown t) (sym c.told_by-self-inside.ensures)
 
 pub returns-clause-calls : goal.returns-clause-calls
-returns-clause-calls c =
+returns-clause-calls g c =
     let e = c.advance-made.ensures in
     let old = side c.self.inside.worker.state c.args.core.now in
     let new = side e.0 c.advance-made.new.core in

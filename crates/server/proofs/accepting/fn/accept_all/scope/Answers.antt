@@ -13,4 +13,4 @@ spawn-reader-requires-send-F g c κs within =
 
 pub spawn-requires-send-F : goal.spawn-requires-send-F
 spawn-requires-send-F g c κs within =
-    search (listed_send, c.requires.8, crosses, sendable) depth 60 fits 20000
+    search (listed_send (param 0 g.row.L) g.L.Ledger, c.requires.8, crosses, sendable) depth 60 fits 20000

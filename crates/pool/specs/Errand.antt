@@ -1,0 +1,12 @@
+-- What a clause sees of what a seat has of its job.
+use Rattle.std.specs.Prelude.{Option}
+use Rattle.pool_answers.specs.Evident.{Answered}
+use Rattle.pool_jobs.specs.Sent.{Sent}
+use Rattle.procs.specs.Outcome.{Outcome}
+use Rattle.txn.specs.Receipts.{Given}
+
+-- where its answer goes, until it is answered; what shows that its procedure was committed; and the answer that lies ready
+pub record Errand : Type 0 where
+  pub ticket : Option Sent
+  pub voucher : Option (Given Outcome)
+  pub answer : Option Answered
