@@ -16,8 +16,8 @@ use Rattle.session.specs.Serving.{Client, HasServed, client_of}
 use Rattle.session.specs.declared.serving.SessionFault.{SessionFault}
 use Rattle.store_images.specs.Opening.{HasOpened, Opened}
 use Rattle.pool.specs.declared.ending.Ended.{Ended}
-use Rattle.server.specs.declared.serving.ServeFault.{ServeFault}
-use Rattle.server.specs.declared.serving.ServeFault.TheVariants as server
+use Rattle.server.specs.declared.threads.ServeFault.{ServeFault}
+use Rattle.server.specs.declared.threads.ServeFault.TheVariants as server
 use Rattle.nfsd.specs.declared.fault.Fault.{Fault}
 use Rattle.nfsd.specs.declared.fault.Fault.TheVariants as fault
 use Rattle.nfsd.specs.Done.{Answers, DoesCommand, FormatsDevice, FormatsImage, IsWithoutMemory, Obeys, Outcome}

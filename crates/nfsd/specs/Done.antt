@@ -19,8 +19,8 @@ use Rattle.layout.specs.Geometry.{data_at}
 use Rattle.store_images.specs.Formatting.{HasFormatted}
 use Rattle.store_images.specs.Opening.{HasOpened, Opened}
 use Rattle.session.specs.Serving.{Client, HasServed}
-use Rattle.server.specs.declared.serving.ServeFault.{ServeFault}
-use Rattle.server.specs.declared.serving.ServeFault.TheVariants as server
+use Rattle.server.specs.declared.threads.ServeFault.{ServeFault}
+use Rattle.server.specs.declared.threads.ServeFault.TheVariants as server
 use Rattle.session.specs.declared.serving.SessionFault.TheVariants as session
 use Rattle.nfsd.specs.declared.fault.Fault.{Fault}
 use Rattle.nfsd.specs.declared.fault.Fault.TheVariants as fault

@@ -1,8 +1,8 @@
 -- The line of a server that can serve.
 use Rattle.std.specs.Prelude.{◌≡◌, ℕ, List, ◌++◌, [], ◌∷◌, Option, Result, Ok, Err, codes}
 use Rattle.std.specs.Io.KnownBytes.{Appends}
-use Rattle.server.specs.declared.serving.ServeFault.{ServeFault}
-use Rattle.server.specs.declared.serving.ServeFault.TheVariants.{Memory, Output}
+use Rattle.server.specs.declared.threads.ServeFault.{ServeFault}
+use Rattle.server.specs.declared.threads.ServeFault.TheVariants.{Memory, Output}
 
 -- `listening ADDRESS`
 abbrev pub listening_line : List ℕ → List ℕ

@@ -1,5 +1,5 @@
 //! How the threads of a store end.
-ghost use Rattle.std.specs.Prelude.{◌≡◌, false, IfOk};
+ghost use Rattle.std.specs.Prelude.{◌≡◌, ◌⊎◌, false, true, IfErr, IfOk};
 ghost use Rattle.wal_law.specs.Log.{settled_place};
 
 use crate::Pool;
@@ -56,7 +56,8 @@ pub fn end<L: Ledger, G: Whole, I: Whole, P: Port + Drop, S: Drop, R: Wait>(
 
 // The core, if each of its commits is settled and it isn't broken.
 fn settled(core: Core<Done>) -> Result<Ended, Unsettled>
-    ensures { IfOk result (λ ended. ended.core ≡ core) }
+    ensures core { IfOk result (λ ended. ended.core ≡ core) }
+    ensures refused { IfErr result (λ _. (settled_place core.log ≡ core.log.places → ⊥) ⊎ (core.log.broken ≡ true)) }
 {
     if core.is_settled() && !core.broken() {
         Ok(Ended { core })

@@ -77,7 +77,15 @@ impl<L: Ledger> Errand<L> {
             voucher,
             answer,
         } = self;
-        left_of(core, made, ticket, kept(voucher, shown), answer, given, share)
+        left_of(
+            core,
+            made,
+            ticket,
+            kept(voucher, shown),
+            answer,
+            given,
+            share,
+        )
     }
 }
 

@@ -17,7 +17,7 @@ pub use locked::Locked;
 pub use log_seats::Caller;
 pub use pool_answers::{Answer, Put, ReplyBytes};
 pub use pool_calls::{Gate, IoSeat, NoGate, Point, Turn, Whole};
-pub use pool_jobs::{Bearer, Connections, Immediate, Job, Received, Stream};
+pub use pool_jobs::{Bearer, ConnectionKey, Connections, Immediate, Job, Received, Stream};
 pub use seat::Seat;
 pub use shared::{Look, Shared};
 pub use steps::{installer_io, installer_step, logger_io, logger_step, worker_io, worker_step};

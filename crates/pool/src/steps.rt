@@ -5,6 +5,7 @@ ghost use Rattle.pool.specs.Locking.{IsLawful};
 ghost use Rattle.pool.specs.Stepping.{HasStepped, ReadsFrom, grown};
 ghost use Rattle.pool_calls.specs.Numbers.{MakesCall, due};
 ghost use Rattle.pool_calls.specs.Sides.{HasTurned};
+ghost use Rattle.store_workers.specs.declared.workers.parts.Phase.TheVariants.{Reading};
 ghost use Rattle.wal_law.specs.Installer.{may_install};
 ghost use Rattle.wal_law.specs.Logger.{may_log};
 
@@ -110,6 +111,7 @@ pub fn worker_io<L: Ledger, S: Source, T: Gate>(
     gate: &T,
 ) -> bool
     ensures read { ReadsFrom result (S.calls seat.old.source) seat.old.work (S.calls seat.new.source) seat.new.work }
+    ensures was_due { IsTrue result ↔ (seat.old.work.worker.phase ≡ Reading) }
     ensures share { seat.new.share ≡ seat.old.share }
 {
     if seat.is_due() {

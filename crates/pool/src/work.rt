@@ -127,9 +127,10 @@ impl<L: Ledger> Work<L> {
         answer
     }
 
-    /// Reads the block that is due, if one is, by a source.
+    /// Reads the block that is due, if one is, by a source. It answers whether one was.
     pub(crate) fn read_from<S: Source>(&mut self, source: &mut S) -> bool
-        ensures { ReadsFrom result (S.calls source.old) self.old (S.calls source.new) self.new }
+        ensures read { ReadsFrom result (S.calls source.old) self.old (S.calls source.new) self.new }
+        ensures was_due { IsTrue result ↔ (self.old.worker.phase ≡ Reading) }
     {
         self.worker.read_from(source).is_some()
     }

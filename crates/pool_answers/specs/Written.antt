@@ -24,6 +24,10 @@ pub record Written : Type 0 where
   pub bytes : List ℕ
   pub answers : List Answered
 
+-- no answer, for the same connection
+abbrev pub none_of : Written → Written
+none_of replies = record replies { bytes = []; answers = [] }
+
 -- the same as it waits to be written, in a buffer with room for so many bytes
 pub record Queued : Type 0 where
   pub key : ℕ

@@ -35,8 +35,8 @@ impl<L: Ledger> Model for Backlog<L> {
 }
 
 impl<L: Ledger> Backlog<L> {
-    ghost use Rattle.std.specs.Prelude.{◌≡◌, ◌+◌, ◌<◌, ◌↔◌, IsTrue, length};
-    ghost use Rattle.pool_answers.specs.Written.{AreForOne, IsWritten, nothing_for, with_more};
+    ghost use Rattle.std.specs.Prelude.{◌≡◌, ◌+◌, ◌<◌, ◌↔◌, ◌⊎◌, IsTrue, length};
+    ghost use Rattle.pool_answers.specs.Written.{AreForOne, IsWritten, none_of, nothing_for, with_more};
     ghost use Rattle.pool_answers.specs.declared.reply_bytes.Put.TheVariants as puts;
 
     /// Nothing, for the connection of this key and number.
@@ -94,15 +94,17 @@ impl<L: Ledger> Backlog<L> {
         key == self.key && number == self.number
     }
 
-    /// Puts the bytes of further answers to the same connection behind these: all of them, or none, where they are for
-    /// another, or memory is refused, which is never so while the buffer has room for them.
+    /// Puts the bytes of further answers to the same connection behind these: all of them, which are used up for it; or
+    /// none, where they are for another, or memory is refused, which is never so while the buffer has room for them.
     #[tactic(auto, using(crate::proofs::Puts::one_piece))]
-    pub fn put(&mut self, replies: &ReplyBytes<L>) -> Put
-        ensures done { result ≡ puts.Done → AreForOne replies.now self.old
-            × (self.new ≡ with_more replies.now self.new.room self.old) }
-        ensures another { result ≡ puts.Another → (AreForOne replies.now self.old → ⊥) × (self.new ≡ self.old) }
+    pub fn put(&mut self, replies: &mut ReplyBytes<L>) -> Put
+        ensures done { result ≡ puts.Done → AreForOne replies.old self.old
+            × (self.new ≡ with_more replies.old self.new.room self.old) }
+        ensures used { result ≡ puts.Done → replies.new ≡ none_of replies.old }
+        ensures another { result ≡ puts.Another → (AreForOne replies.old self.old → ⊥) × (self.new ≡ self.old) }
         ensures refused { result ≡ puts.Refused → (self.new ≡ record self.old { room = self.new.room })
-            × (self.old.room < length self.old.bytes + length replies.now.bytes) }
+            × (self.old.room < length self.old.bytes + length replies.old.bytes) }
+        ensures kept { (result ≡ puts.Another) ⊎ (result ≡ puts.Refused) → replies.new ≡ replies.old }
     {
         if !self.is_for(replies) {
             return Put::Another;
@@ -111,7 +113,8 @@ impl<L: Ledger> Backlog<L> {
         if self.bytes.extend_from_slice(replies.as_slice()).is_err() {
             return Put::Refused;
         }
-        self.pieces = self.pieces.and(replies, &());
+        self.pieces = self.pieces.and(&*replies, &());
+        replies.clear();
         Put::Done
     }
 

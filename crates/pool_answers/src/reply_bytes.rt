@@ -45,7 +45,7 @@ pub enum Put {
 
 impl<L: Ledger> ReplyBytes<L> {
     ghost use Rattle.std.specs.Prelude.{◌≡◌, ◌++◌, ◌∷◌, ◌⊎◌, [], length};
-    ghost use Rattle.pool_answers.specs.Written.{IsFor, IsWritten, spelled};
+    ghost use Rattle.pool_answers.specs.Written.{IsFor, IsWritten, none_of, spelled};
     ghost use Rattle.pool_answers.specs.declared.reply_bytes.Put.TheVariants as puts;
 
     /// Nothing yet.
@@ -121,7 +121,7 @@ impl<L: Ledger> ReplyBytes<L> {
 
     /// Lets go of all.
     pub fn clear(&mut self)
-        ensures { self.new ≡ record self.old { bytes = []; answers = [] } }
+        ensures { self.new ≡ none_of self.old }
     {
         self.bytes.clear();
         self.answers = Log::new();

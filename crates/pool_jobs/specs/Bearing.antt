@@ -13,4 +13,4 @@ number_next accepted = min (accepted + 1) (2 ^ 64 - 1)
 
 -- this peer is open under this key, and bears this number
 abbrev pub IsOpenAt : {T : Type 0} → Slab (Bearer T) → ℕ → ℕ → T → Type 0
-IsOpenAt open key number peer = get open key ≡ Some (record { number = number; peer = peer })
+IsOpenAt slots key number peer = get slots key ≡ Some (record { number = number; peer = peer })

@@ -42,11 +42,11 @@ use Rattle.pool.specs.contracts.work.Work
 use Rattle.pool.specs.contracts.work.Work.TheInside as work
 use Rattle.pool.specs.declared.Whole
 use Rattle.store_workers.specs.contracts.workers.Worker
-use Rattle.server.specs.contracts.connection.Connection
-use Rattle.server.specs.contracts.hall.Hall
-use Rattle.server.specs.contracts.hall.Signs
+use Rattle.server_replies.specs.contracts.connection.Connection
+use Rattle.server.specs.contracts.state.ServerState
+use Rattle.server.specs.contracts.state.Synchronization
 use Rattle.server.specs.contracts.jobs.Jobs
-use Rattle.server.proofs.Outgoing.{answer_send, outgoing_send, outgoing_sync}
+use Rattle.server.proofs.Connections.{answer_send, connection_send, connection_sync}
 
 job_send : IsSend Job.the_row
 job_send = recorded_send Job.the_field.row _ _ Job.the_type.to_one (struct_send (Declared.shape Job.the_type) (
@@ -113,28 +113,14 @@ seat_send L S l s =
     ))
 
 module _ (L : RattleType) (l : Ledger.Ghosts L.Denot) where
-  connection_send : IsSend (Connection.the_row L l)
-  connection_send = recorded_send (Connection.the_field L l).row _ _ (Connection.the_type L l).to_one
-      (struct_send (Declared.shape (Connection.the_type L l)) (
-        search (crosses, sendable) depth 60 fits 20000,
-        (search (outgoing_send L l, crosses, sendable) depth 20, tt),
-      ))
-
-  connection_sync : IsSync (Connection.the_row L l)
-  connection_sync = recorded_sync (Connection.the_field L l).row _ _ (Connection.the_type L l).to_one
-      (struct_sync (Declared.shape (Connection.the_type L l)) (
-        search (crosses, sendable) depth 60 fits 20000,
-        (search (outgoing_sync L l, crosses, sendable) depth 20, tt),
-      ))
-
   pub listed_send : IsSend (Arc.the_row (Connection.the_row L l) Global.the_row TheImpl.ghosts)
-  listed_send = search (connection_send, connection_sync, crosses, sendable) depth 60 fits 20000
+  listed_send = search (connection_send L l, connection_sync L l, crosses, sendable) depth 60 fits 20000
 
   open_send : IsSend (Connections.the_row (Arc.the_row (Connection.the_row L l) Global.the_row TheImpl.ghosts))
   open_send = search (listed_send, crosses, sendable) depth 60 fits 20000
 
-  signs_sync : IsSync (Signs.the_field L l).row
-  signs_sync = struct_sync (Declared.shape (Signs.the_type L l)) (
+  synchronization_sync : IsSync (Synchronization.the_field L l).row
+  synchronization_sync = struct_sync (Declared.shape (Synchronization.the_type L l)) (
     search (crosses, sendable) depth 40 fits 20000,
     (
       jobs_sync,
@@ -194,14 +180,14 @@ module _ (L G I : RattleType) (w : Whole.Ghosts G.Denot) (w' : Whole.Ghosts I.De
     tt,
   )
 
-  pub hall_sync : (P S : RattleType) (p : Port.Ghosts P.Denot) → IsSend P → IsSend S
-      → IsSync (Hall.the_row L G I P S w w' p l l' l'')
-  hall_sync P S p port source =
+  pub server_sync : (P S : RattleType) (p : Port.Ghosts P.Denot) → IsSend P → IsSend S
+      → IsSync (ServerState.the_row L G I P S w w' p l l' l'')
+  server_sync P S p port source =
       let seat = seat_send L S l source in
       let logger = io_seat_send G P w p l' port in
       let installer = io_seat_send I P w' p l'' port in
-      recorded_sync (Hall.the_field L G I P S w w' p l l' l'').row _ _ (Hall.the_type L G I P S w w' p l l' l'').to_one
-      (struct_sync (Declared.shape (Hall.the_type L G I P S w w' p l l' l'')) (
+      recorded_sync (ServerState.the_field L G I P S w w' p l l' l'').row _ _ (ServerState.the_type L G I P S w w' p l l' l'').to_one
+      (struct_sync (Declared.shape (ServerState.the_type L G I P S w w' p l l' l'')) (
         search (crosses, sendable) depth 20,
         (
           search (shared_sync, crosses, sendable) depth 20,
@@ -209,7 +195,7 @@ module _ (L G I : RattleType) (w : Whole.Ghosts G.Denot) (w' : Whole.Ghosts I.De
             search (seat, crosses, sendable) depth 20,
             (
               search (logger, crosses, sendable) depth 20,
-              (search (installer, crosses, sendable) depth 20, (signs_sync L l, tt)),
+              (search (installer, crosses, sendable) depth 20, (synchronization_sync L l, tt)),
             ),
           ),
         ),

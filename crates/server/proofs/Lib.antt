@@ -1,2 +1,2 @@
-mod Outgoing
+mod Connections
 mod Crossing

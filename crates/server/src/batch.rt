@@ -1,5 +1,5 @@
-//! Calls of one connection that are driven in a row.
-use crate::sizes::CALLS_IN_A_ROW;
+//! Calls of one connection that are driven one after another.
+use crate::sizes::BATCH_CALLS;
 use pool::{Answer, Job};
 use server_parts::{Parked, SeatKey};
 use std::alloc::{AllocError, Global};
@@ -18,18 +18,18 @@ pub struct Batch<L: Ledger> {
 }
 
 impl<L: Ledger> Batch<L> {
-    /// No call, with room for as many as are driven in a row.
+    /// No call, with room for as many as are driven in one batch.
     pub fn new(alloc: Global) -> Result<Batch<L>, AllocError> {
         Ok(Batch {
-            jobs: VecDeque::with_capacity(alloc, CALLS_IN_A_ROW)?,
-            answers: VecDeque::with_capacity(alloc, CALLS_IN_A_ROW)?,
-            waiting: VecDeque::with_capacity(alloc, CALLS_IN_A_ROW)?,
+            jobs: VecDeque::with_capacity(alloc, BATCH_CALLS)?,
+            answers: VecDeque::with_capacity(alloc, BATCH_CALLS)?,
+            waiting: VecDeque::with_capacity(alloc, BATCH_CALLS)?,
             held_up: None,
         })
     }
 
-    /// Whether it has as many calls as are driven in a row.
+    /// Whether it has as many calls as are driven in one batch.
     pub fn is_full(&self) -> bool {
-        self.jobs.len() >= CALLS_IN_A_ROW
+        self.jobs.len() >= BATCH_CALLS
     }
 }

@@ -1,22 +1,21 @@
 //! The TCP server: its threads, its connections, and how it ends.
 #![tactic(auto)]
 
-mod accepting;
-mod announcing;
+mod acceptor;
+mod announcer;
 mod batch;
-mod beginning;
-mod connection;
-mod driving;
-mod hall;
-mod installing;
+mod driver;
+mod installer;
 mod jobs;
-mod logging;
-mod reading;
-mod serving;
+mod logger;
+mod reader;
 mod sizes;
-mod working;
+mod startup;
+mod state;
+mod threads;
+mod workers;
 
-pub use announcing::Announcer;
-pub use beginning::serve_store;
+pub use announcer::Announcer;
 pub use pool::Ended;
-pub use serving::{ServeFault, serve};
+pub use startup::serve_store;
+pub use threads::{ServeFault, serve};

@@ -10,8 +10,8 @@ pub const MOST_JOBS: usize = 256;
 pub const MOST_JOB_THREADS: usize = 4;
 /// The bytes that are read of a stream at once.
 pub const STREAM_PIECE_BYTES: usize = 65_536;
-/// The most calls of a connection that are driven in a row, while the others wait for theirs.
-pub const CALLS_IN_A_ROW: usize = 8;
+/// The most calls of a connection that are driven in one batch, while the others wait for theirs.
+pub const BATCH_CALLS: usize = 8;
 /// Replies of a piece are written once there are so many bytes of them.
 pub const REPLY_BATCH_BYTES: usize = 65_536;
 /// Where more bytes of replies wait to be written, the connection isn't read.

@@ -2,22 +2,22 @@
 //! and changes that wait to be settled.
 #![tactic(auto)]
 
-mod bell;
 mod free_seats;
 mod moments;
+mod notifier;
 mod parking;
+mod pending;
 mod rack;
 mod rounds;
 mod silence;
-mod unheard;
 mod waiting;
 
-pub use bell::Bell;
 pub use free_seats::FreeSeats;
 pub use moments::{Moments, moment_of};
+pub use notifier::Notifier;
 pub use parking::Parking;
+pub use pending::{Notice, Pending};
 pub use rack::{Rack, SeatKey};
 pub use rounds::Rounds;
 pub use silence::{Silence, Silent, steady_second};
-pub use unheard::{Rung, Unheard};
 pub use waiting::{Next, Parked, Waiting};

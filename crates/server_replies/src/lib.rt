@@ -1,10 +1,10 @@
-//! What a connection still has to be sent: the bytes of answers to it, and of nothing else.
+//! A connection, and what it still has to be sent: the bytes of answers to it, and of nothing else.
 #![tactic(auto)]
 
+mod connection;
 mod outbox;
-mod outgoing;
 mod replies;
 
+pub use connection::{Connection, Gone};
 pub use outbox::{Offer, Outbox};
-pub use outgoing::Outgoing;
 pub use replies::Replies;

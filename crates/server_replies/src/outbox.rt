@@ -51,7 +51,7 @@ impl<L: Ledger> Model for Outbox<L> {
 }
 
 impl<L: Ledger> Outbox<L> {
-    ghost use Rattle.pool_answers.specs.Written.{AreForOne, nothing_for};
+    ghost use Rattle.pool_answers.specs.Written.{AreForOne, none_of, nothing_for};
     ghost use Rattle.server_replies.specs.Outbox.{IsLeft, IsDone, IsForWriter, IsSilent};
 
     /// Nothing waits, of the connection of this key and number, which came at this second.
@@ -86,24 +86,28 @@ impl<L: Ledger> Outbox<L> {
     }
 
     /// Puts the reply of a call that was handed on, or shuts where there is none.
-    pub fn answer(&mut self, reply: Option<&ReplyBytes<L>>)
+    pub fn answer(&mut self, reply: Option<ReplyBytes<L>>)
         ensures due { self.new.due ≡ self.old.due - 1 }
-        ensures left { IfSome reply.entry (λ replies. IsLeft self.old replies.now self.new) }
-        ensures none { IfNone reply.entry (self.new.shut ≡ true) }
+        ensures left { IfSome reply (λ replies. IsLeft self.old replies self.new) }
+        ensures none { IfNone reply (self.new.shut ≡ true) }
         ensures writing { self.new.replies.writing ≡ self.old.replies.writing }
         ensures ended { self.new.ended ≡ self.old.ended }
     {
         self.take_back();
         match reply {
-            Some(replies) => self.leave(replies),
+            Some(replies) => {
+                let mut replies = replies;
+                self.leave(&mut replies);
+            }
             None => self.shut(),
         }
     }
 
-    /// Leaves replies behind all that waits, and shuts where they are for another connection, or memory is refused for
-    /// them. Once no more is written they are let go.
-    pub fn leave(&mut self, replies: &ReplyBytes<L>)
-        ensures left { IsLeft self.old replies.now self.new }
+    /// Leaves replies behind all that waits, which uses them up, and shuts where they are for another connection, or
+    /// memory is refused for them. Once no more is written they are let go.
+    pub fn leave(&mut self, replies: &mut ReplyBytes<L>)
+        ensures left { IsLeft self.old replies.old self.new }
+        ensures used { self.new.shut ≡ false → replies.new ≡ none_of replies.old }
         ensures due { self.new.due ≡ self.old.due }
         ensures ended { self.new.ended ≡ self.old.ended }
     {
@@ -113,16 +117,18 @@ impl<L: Ledger> Outbox<L> {
     }
 
     /// What becomes of replies that a thread would write: where it writes them it is from then on the one that writes.
-    pub fn offer(&mut self, replies: &ReplyBytes<L>) -> Offer
+    pub fn offer(&mut self, replies: &mut ReplyBytes<L>) -> Offer
         ensures shut { (result ≡ Offer.Shut)
-            ↔ ((self.old.shut ≡ true) ⊎ (AreForOne replies.now self.old.replies.pending → ⊥)) }
+            ↔ ((self.old.shut ≡ true) ⊎ (AreForOne replies.old self.old.replies.pending → ⊥)) }
         ensures let_go { result ≡ Offer.Shut → self.new ≡ self.old }
         ensures begins { (result ≡ Offer.Write) ↔ ((self.old.shut ≡ false)
-            × AreForOne replies.now self.old.replies.pending
+            × AreForOne replies.old self.old.replies.pending
             × (self.old.replies.pending.bytes ≡ []) × (self.old.replies.writing ≡ false)) }
         ensures begun { result ≡ Offer.Write → (self.new.replies.pending.bytes ≡ [])
             × (self.new.replies.writing ≡ true) × (self.new.shut ≡ false) }
-        ensures left { result ≡ Offer.Left → IsLeft self.old replies.now self.new }
+        ensures left { result ≡ Offer.Left → IsLeft self.old replies.old self.new }
+        ensures used { result ≡ Offer.Left → self.new.shut ≡ false → replies.new ≡ none_of replies.old }
+        ensures same { result ≡ Offer.Write → replies.new ≡ replies.old }
         ensures due { self.new.due ≡ self.old.due }
         ensures ended { self.new.ended ≡ self.old.ended }
     {

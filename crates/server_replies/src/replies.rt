@@ -1,6 +1,6 @@
 //! Replies that wait to be written to a connection.
 ghost use Rattle.std.specs.Prelude.{◌≡◌, ◌≢◌, ◌+◌, ◌<◌, ◌||◌, ◌↔◌, [], true, false, IfSome, IfNone, length, IsTrue};
-ghost use Rattle.pool_answers.specs.Written.{AreForOne, nothing_for, with_more};
+ghost use Rattle.pool_answers.specs.Written.{AreForOne, none_of, nothing_for, with_more};
 ghost use Rattle.pool_answers.specs.declared.reply_bytes.Put.TheVariants as puts;
 
 use pool_answers::{Backlog, Put, ReplyBytes};
@@ -58,16 +58,17 @@ impl<L: Ledger> Replies<L> {
         self.pending.is_for(replies)
     }
 
-    /// Puts replies behind those that wait: all of them, or none, where they are for another connection, or memory is
-    /// refused, which is never so while the buffer has room for them.
-    pub fn put(&mut self, replies: &ReplyBytes<L>) -> Put
-        ensures done { result ≡ puts.Done → AreForOne replies.now self.old.pending
-            × (self.new.pending ≡ with_more replies.now self.new.pending.room self.old.pending) }
-        ensures another { result ≡ puts.Another → (AreForOne replies.now self.old.pending → ⊥)
+    /// Puts replies behind those that wait: all of them, which are used up for it; or none, where they are for another
+    /// connection, or memory is refused, which is never so while the buffer has room for them.
+    pub fn put(&mut self, replies: &mut ReplyBytes<L>) -> Put
+        ensures done { result ≡ puts.Done → AreForOne replies.old self.old.pending
+            × (self.new.pending ≡ with_more replies.old self.new.pending.room self.old.pending) }
+        ensures used { result ≡ puts.Done → replies.new ≡ none_of replies.old }
+        ensures another { result ≡ puts.Another → (AreForOne replies.old self.old.pending → ⊥)
             × (self.new.pending ≡ self.old.pending) }
         ensures refused { result ≡ puts.Refused
             → (self.new.pending ≡ record self.old.pending { room = self.new.pending.room })
-            × (self.old.pending.room < length self.old.pending.bytes + length replies.now.bytes) }
+            × (self.old.pending.room < length self.old.pending.bytes + length replies.old.bytes) }
         ensures writing { self.new.writing ≡ self.old.writing }
     {
         self.pending.put(replies)

@@ -5,8 +5,8 @@ use Rattle.pool.specs.Stepping.{ReadsFrom}
 use Rattle.pool.specs.Working.{Working}
 use Rattle.pool.proofs.work.Work.read_from.Goals as goal
 
-pub returns : goal.returns
-returns g c =
+pub returns-clause-read : goal.returns-clause-read
+returns-clause-read g c =
     let before = g.S.Source.calls c.args.source.now in
     let after = g.S.Source.calls c.read_from.new.source in
     let made = reads c.read_from.result before after c.args.self.now c.self.inside.worker c.read_from.new.self

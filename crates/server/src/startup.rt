@@ -3,8 +3,8 @@ ghost use Rattle.std.specs.Prelude.{◌≡◌, ◌+◌, IfOk};
 ghost use Rattle.disk.specs.declared.block.Side.TheVariants.{Home, Log};
 ghost use Rattle.server.specs.Announcing.{Announces};
 
-use crate::announcing::Announcer;
-use crate::serving::{ServeFault, serve};
+use crate::announcer::Announcer;
+use crate::threads::{ServeFault, serve};
 use disk::{BlockFile, FilePort, FileSource, ThreadedDisk};
 use pool::{Ended, Ledgers, Whole, begin};
 use std::alloc::Global;

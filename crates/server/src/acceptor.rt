@@ -1,13 +1,15 @@
 //! The thread that accepts connections.
 ghost use Rattle.std.specs.Thread.{IsSend, IsSync};
 
-use crate::connection::Connection;
-use crate::hall::Hall;
-use crate::reading::read_all;
-use crate::sizes::{ACCEPT_SLEEP_MILLISECONDS, MOST_CONNECTIONS, SILENT_SECONDS};
+use crate::reader::read_all;
+use crate::sizes::{
+    ACCEPT_SLEEP_MILLISECONDS, IDLE_SECONDS, MOST_CONNECTIONS, SILENT_SECONDS, WRITE_SECONDS,
+};
+use crate::state::ServerState;
 use disk::{Port, Source};
-use pool::{Connections, Whole};
+use pool::{ConnectionKey, Connections, Whole};
 use server_parts::{Silent, steady_second};
+use server_replies::Connection;
 use std::alloc::Global;
 use std::net::{TcpListener, TcpStream};
 use std::sync::ledger::Ledger;
@@ -20,15 +22,14 @@ use std::time::{Clock, Duration};
 struct Guest<L: Ledger> {
     connection: Arc<Connection<L>, Global>,
     writer: Arc<Connection<L>, Global>,
-    key: usize,
-    number: u64,
+    key: ConnectionKey,
 }
 
 /// Accepts connections, and serves each in threads of its own: so many of them, or without end where that is 0.
 /// It returns once each has ended.
 pub fn accept_all<L, G, I, P, S, R>(
     rt: &R,
-    hall: &Hall<L, G, I, P, S>,
+    server: &ServerState<L, G, I, P, S>,
     listener: &TcpListener,
     connections: u32,
 )
@@ -40,7 +41,7 @@ where
     S: Source + Send,
     R: Threads + Wait + Clock + Sync,
 {
-    let alloc = hall.alloc;
+    let alloc = server.alloc;
     thread::scope(
         thread::scope_env(),
         rt,
@@ -58,22 +59,22 @@ where
                     continue;
                 };
                 accepted = accepted.saturating_add(1);
-                let Some(guest) = let_in(rt, hall, stream) else {
+                let Some(guest) = let_in(rt, server, stream) else {
                     continue;
                 };
                 let Guest {
                     connection,
                     writer,
                     key,
-                    number,
                 } = guest;
+                let (at, number) = key.parts();
                 if scope.spawn(move || writer.write_all(rt, alloc)).is_err() {
-                    turn_away(rt, hall, &*connection, key, number);
+                    turn_away(rt, server, &*connection, at, number);
                     continue;
                 }
-                let reader = scope.spawn(move || read_all(rt, hall, key, number));
+                let reader = scope.spawn(move || read_all(rt, server, key));
                 if reader.is_err() {
-                    turn_away(rt, hall, &*connection, key, number);
+                    turn_away(rt, server, &*connection, at, number);
                 }
             }
         },
@@ -83,25 +84,32 @@ where
 // Lets a connection in, where not too many are open, or one of them gives it its place.
 fn let_in<L: Ledger, G: Whole, I: Whole, P: Port, S, R: Wait + Clock>(
     rt: &R,
-    hall: &Hall<L, G, I, P, S>,
+    server: &ServerState<L, G, I, P, S>,
     stream: TcpStream,
 ) -> Option<Guest<L>> {
-    let mut open = hall.signs.open.lock(rt);
+    let mut open = server.sync.open.lock(rt);
     if open.count() >= MOST_CONNECTIONS && !make_place(rt, &mut *open) {
         return None;
     }
+    prepare(&stream);
     let (key, number) = open.next();
-    let connection = Connection::new(rt, hall.alloc, stream, key, number);
-    let connection = Arc::new(hall.alloc, connection).ok()?;
+    let connection = Connection::new(rt, server.alloc, stream, key, number);
+    let connection = Arc::new(server.alloc, connection).ok()?;
     let writer = Arc::try_clone(&connection).ok()?;
     let listed = Arc::try_clone(&connection).ok()?;
-    let (key, number) = open.accept(listed).ok()?;
+    let key = open.accept(listed).ok()?;
     Some(Guest {
         connection,
         writer,
         key,
-        number,
     })
+}
+
+// A stream sends each write at once, and a write and a read that wait too long fail on it.
+fn prepare(stream: &TcpStream) {
+    let _ = stream.set_nodelay(true);
+    let _ = stream.set_write_timeout(Some(Duration::from_secs(WRITE_SECONDS)));
+    let _ = stream.set_read_timeout(Some(Duration::from_secs(IDLE_SECONDS)));
 }
 
 // Ends the connection that has been silent longest, where that is long enough. Whether there was one.
@@ -117,7 +125,7 @@ fn make_place<L: Ledger, R: Wait + Clock>(
         let Some(connection) = open.find(silent.key, silent.number) else {
             return false;
         };
-        if connection.outgoing.give_place(rt, second, SILENT_SECONDS) {
+        if connection.give_place(rt, second, SILENT_SECONDS) {
             connection.close();
             drop(open.close(silent.key, silent.number));
             return true;
@@ -141,7 +149,7 @@ fn longest_silent<L: Ledger, R: Wait>(
         let Some(bearer) = open.at(key) else {
             continue;
         };
-        if let Some(seconds) = bearer.peer.outgoing.silent(rt, second) {
+        if let Some(seconds) = bearer.peer.silent(rt, second) {
             let silent = Silent {
                 key,
                 number: bearer.number,
@@ -156,12 +164,12 @@ fn longest_silent<L: Ledger, R: Wait>(
 // Ends a connection for which there is no thread.
 fn turn_away<L: Ledger, G: Whole, I: Whole, P: Port, S, R: Wait>(
     rt: &R,
-    hall: &Hall<L, G, I, P, S>,
+    server: &ServerState<L, G, I, P, S>,
     connection: &Connection<L>,
     key: usize,
     number: u64,
 ) {
-    connection.outgoing.shut(rt);
+    connection.shut(rt);
     connection.close();
-    let _ = hall.signs.open.lock(rt).close(key, number);
+    let _ = server.sync.open.lock(rt).close(key, number);
 }

@@ -1,4 +1,4 @@
--- Answers, and what a connection still has to be sent, may be handed among threads.
+-- Answers and connections may be handed among threads, and a connection may be shared by them.
 use denote.RattleType.{RattleType}
 use denote.Param.Send.{IsSend, IsSync, recorded_send, recorded_sync, sendable, struct_send, struct_sync, view_send}
 use denote.Struct.Declared
@@ -10,9 +10,9 @@ use Rattle.pool_answers.specs.contracts.answer.Answer
 use Rattle.pool_answers.specs.contracts.answer.Answer.TheInside as answer
 use Rattle.pool_answers.specs.contracts.backlog.Backlog
 use Rattle.pool_answers.specs.contracts.backlog.Backlog.TheInside as backlog
+use Rattle.server_replies.specs.contracts.connection.Connection
 use Rattle.server_replies.specs.contracts.outbox.Outbox
 use Rattle.server_replies.specs.contracts.outbox.Outbox.TheInside as outbox
-use Rattle.server_replies.specs.contracts.outgoing.Outgoing
 use Rattle.server_replies.specs.contracts.replies.Replies
 use Rattle.server_replies.specs.contracts.replies.Replies.TheInside as replies
 
@@ -63,14 +63,22 @@ module _ (L : RattleType) (l : Ledger.Ghosts L.Denot) where
         ),
       )))
 
-  pub outgoing_send : IsSend (Outgoing.the_field L l).row
-  outgoing_send = struct_send (Declared.shape (Outgoing.the_type L l)) (
-    search (outbox_send, crosses, sendable) depth 40,
-    (search (crosses, sendable) depth 40, (search (crosses, sendable) depth 40, tt)),
-  )
+  pub connection_send : IsSend (Connection.the_row L l)
+  connection_send = recorded_send (Connection.the_field L l).row _ _ (Connection.the_type L l).to_one
+      (struct_send (Declared.shape (Connection.the_type L l)) (
+        search (crosses, sendable) depth 60 fits 20000,
+        (
+          search (outbox_send, crosses, sendable) depth 40,
+          (search (crosses, sendable) depth 40, (search (crosses, sendable) depth 40, tt)),
+        ),
+      ))
 
-  pub outgoing_sync : IsSync (Outgoing.the_field L l).row
-  outgoing_sync = struct_sync (Declared.shape (Outgoing.the_type L l)) (
-    search (outbox_send, crosses, sendable) depth 40,
-    (search (crosses, sendable) depth 40, (search (crosses, sendable) depth 40, tt)),
-  )
+  pub connection_sync : IsSync (Connection.the_row L l)
+  connection_sync = recorded_sync (Connection.the_field L l).row _ _ (Connection.the_type L l).to_one
+      (struct_sync (Declared.shape (Connection.the_type L l)) (
+        search (crosses, sendable) depth 60 fits 20000,
+        (
+          search (outbox_send, crosses, sendable) depth 40,
+          (search (crosses, sendable) depth 40, (search (crosses, sendable) depth 40, tt)),
+        ),
+      ))

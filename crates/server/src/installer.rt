@@ -1,9 +1,9 @@
 //! The thread that brings settled changes home.
-use crate::hall::Hall;
 use crate::sizes::INSTALL_MILLISECONDS;
+use crate::state::ServerState;
 use disk::Port;
 use pool::{Gate, Point, Turn, Whole, installer_io};
-use server_parts::Rung;
+use server_parts::Notice;
 use std::sync::Wait;
 use std::sync::atomic::{AtomicU64, Ordering};
 use std::sync::ledger::Ledger;
@@ -36,18 +36,18 @@ const BARRIERS_OF_BATCH: u64 = 2;
 /// store is broken.
 pub fn install_all<L: Ledger, G: Whole, I: Whole, P: Port, S, R: Wait + Clock>(
     rt: &R,
-    hall: &Hall<L, G, I, P, S>,
+    server: &ServerState<L, G, I, P, S>,
 ) {
     for _ in rt.forever() {
-        let rung = wait(rt, hall);
-        let goes_on = match rung {
-            Rung::End => install(rt, hall, u64::MAX),
-            _ => install(rt, hall, BARRIERS_OF_BATCH),
+        let notice = wait(rt, server);
+        let goes_on = match notice {
+            Notice::End => install(rt, server, u64::MAX),
+            _ => install(rt, server, BARRIERS_OF_BATCH),
         };
         // There is room in the log, and fewer commits are kept, or the store is broken.
-        hall.signs.to_log.ring(rt);
-        hall.signs.rounds.next(rt);
-        if !goes_on || rung == Rung::End {
+        server.sync.to_log.notify(rt);
+        server.sync.rounds.next(rt);
+        if !goes_on || notice == Notice::End {
             return;
         }
     }
@@ -56,35 +56,35 @@ pub fn install_all<L: Ledger, G: Whole, I: Whole, P: Port, S, R: Wait + Clock>(
 // Waits for work, and a while longer for more of it, where that isn't urgent.
 fn wait<L: Ledger, G: Whole, I: Whole, P: Port, S, R: Wait + Clock>(
     rt: &R,
-    hall: &Hall<L, G, I, P, S>,
-) -> Rung {
-    match hall.signs.to_install.wait(rt) {
-        Rung::Work => hall
-            .signs
+    server: &ServerState<L, G, I, P, S>,
+) -> Notice {
+    match server.sync.to_install.wait(rt) {
+        Notice::Work => server
+            .sync
             .to_install
             .wait_until_now(rt, Duration::from_millis(INSTALL_MILLISECONDS)),
-        rung => rung,
+        notice => notice,
     }
 }
 
 // Brings home what is settled, up to so many barriers. False where the store is broken.
 fn install<L: Ledger, G: Whole, I: Whole, P: Port, S, R: Wait>(
     rt: &R,
-    hall: &Hall<L, G, I, P, S>,
+    server: &ServerState<L, G, I, P, S>,
     most: u64,
 ) -> bool {
-    let mut seat = hall.installer.lock(rt);
+    let mut seat = server.installer.lock(rt);
     let barriers = Barriers {
         count: AtomicU64::new(0),
     };
     for _ in rt.forever() {
-        match hall.shared.install(rt, &mut *seat) {
+        match server.shared.install(rt, &mut *seat) {
             Turn::Broken => return false,
             Turn::Moved => {
                 let made = installer_io(&mut *seat, &barriers);
                 if !made && barriers.count() >= most {
                     // More may be settled since: it stays for the next batch.
-                    hall.signs.to_install.ring(rt);
+                    server.sync.to_install.notify(rt);
                     return true;
                 }
             }

@@ -1,56 +1,60 @@
 //! What the threads share.
 ghost use Rattle.model.specs.Sound.{SoundTime};
 
-use crate::connection::Connection;
 use crate::jobs::Jobs;
 use crate::sizes::{CROWDING_COMMITS, URGENT_COMMITS};
 use disk::Port;
 use nfs_types::Moment;
 use pool::{Answer, Connections, IoSeat, Look, Pool, Put, ReplyBytes, Seat, Shared, Whole};
-use server_parts::{Bell, FreeSeats, Moments, Parking, Rounds, moment_of};
+use server_parts::{FreeSeats, Moments, Notifier, Parking, Rounds, moment_of};
+use server_replies::Connection;
 use std::alloc::{AllocError, Global};
 use std::sync::ledger::Ledger;
 use std::sync::{Arc, Mutex, Wait};
 use std::time::Clock;
 
 /// What the threads share. A seat is in the hands of one thread at a time.
-pub struct Hall<L: Ledger, G: Whole, I: Whole, P: Port, S> {
+pub struct ServerState<L: Ledger, G: Whole, I: Whole, P: Port, S> {
     pub alloc: Global,
     pub shared: Shared<L, G, I>,
     pub seats: Vec<Mutex<Seat<L, S>>>,
     pub logger: Mutex<IoSeat<G, P>>,
     pub installer: Mutex<IoSeat<I, P>>,
-    pub signs: Signs<L>,
+    pub sync: Synchronization<L>,
 }
 
 /// What threads tell one another.
 #[derive(Drop)]
-pub struct Signs<L: Ledger> {
+pub struct Synchronization<L: Ledger> {
     pub free: FreeSeats,
     pub jobs: Jobs,
     pub parking: Parking,
-    pub to_log: Bell,
-    pub to_install: Bell,
+    pub to_log: Notifier,
+    pub to_install: Notifier,
     pub rounds: Rounds,
     pub open: Mutex<Connections<Arc<Connection<L>, Global>>>,
     pub moments: Mutex<Moments>,
-    // Who drives seats has it for the steps that it makes in a row.
-    pub baton: Mutex<()>,
+    // Who drives seats takes it for the steps that it makes in a row.
+    pub scheduler: Mutex<()>,
 }
 
-impl<L: Ledger> Signs<L> {
+impl<L: Ledger> Synchronization<L> {
     /// So many seats are free, and no connection is open.
-    pub fn new(alloc: Global, seats: usize, settled: u64) -> Result<Signs<L>, AllocError> {
-        Ok(Signs {
+    pub fn new(
+        alloc: Global,
+        seats: usize,
+        settled: u64,
+    ) -> Result<Synchronization<L>, AllocError> {
+        Ok(Synchronization {
             free: FreeSeats::new(alloc, seats)?,
             jobs: Jobs::new(alloc)?,
             parking: Parking::new(alloc, settled, seats)?,
-            to_log: Bell::new(),
-            to_install: Bell::new(),
+            to_log: Notifier::new(),
+            to_install: Notifier::new(),
             rounds: Rounds::new(),
             open: Mutex::new(Connections::new(alloc)),
             moments: Mutex::new(Moments::new()),
-            baton: Mutex::new(()),
+            scheduler: Mutex::new(()),
         })
     }
 
@@ -73,15 +77,15 @@ impl<L: Ledger> Signs<L> {
         };
         let mut reply = ReplyBytes::new(alloc, key, number);
         match reply.put(alloc, answer) {
-            Put::Done => connection.outgoing.answer(rt, Some(&reply)),
-            Put::Another | Put::Refused => connection.outgoing.answer(rt, None),
+            Put::Done => connection.answer(rt, Some(reply)),
+            Put::Another | Put::Refused => connection.answer(rt, None),
         }
     }
 
     /// Ends the connection with this key and number, as one of its calls that were handed on isn't answered.
     pub fn let_go<R: Wait>(&self, rt: &R, key: usize, number: u64) {
         if let Some(connection) = self.connection(rt, key, number) {
-            connection.outgoing.answer(rt, None);
+            connection.answer(rt, None);
         }
     }
 
@@ -97,34 +101,38 @@ impl<L: Ledger> Signs<L> {
     }
 }
 
-impl<L: Ledger, G: Whole, I: Whole, P: Port, S> Hall<L, G, I, P, S> {
+impl<L: Ledger, G: Whole, I: Whole, P: Port, S> ServerState<L, G, I, P, S> {
     /// What the threads share of a pool.
-    pub fn new(alloc: Global, pool: Pool<L, G, I, P, S>, signs: Signs<L>) -> Hall<L, G, I, P, S> {
+    pub fn new(
+        alloc: Global,
+        pool: Pool<L, G, I, P, S>,
+        sync: Synchronization<L>,
+    ) -> ServerState<L, G, I, P, S> {
         let Pool {
             shared,
             seats,
             logger,
             installer,
         } = pool;
-        Hall {
+        ServerState {
             alloc,
             shared,
             seats,
             logger: Mutex::new(logger),
             installer: Mutex::new(installer),
-            signs,
+            sync,
         }
     }
 
     /// The pool again.
     pub fn into_pool(self) -> Pool<L, G, I, P, S> {
-        let Hall {
+        let ServerState {
             alloc: _,
             shared,
             seats,
             logger,
             installer,
-            signs: _,
+            sync: _,
         } = self;
         Pool {
             shared,
@@ -138,10 +146,10 @@ impl<L: Ledger, G: Whole, I: Whole, P: Port, S> Hall<L, G, I, P, S> {
     /// are that who has committed waits until some of them are home.
     pub fn tell_of_commit<R: Wait>(&self, rt: &R, look: Look) -> bool {
         if !look.is_settled {
-            self.signs.to_log.ring(rt);
+            self.sync.to_log.notify(rt);
         }
         if look.kept > URGENT_COMMITS {
-            self.signs.to_install.ring_now(rt);
+            self.sync.to_install.notify_now(rt);
         }
         is_crowded(look)
     }

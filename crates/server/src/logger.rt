@@ -1,9 +1,9 @@
 //! The thread that settles changes.
-use crate::hall::Hall;
+use crate::state::ServerState;
 use disk::Port;
 use limits::{CHANGED_BLOCKS, LOG_SLOTS};
 use pool::{Gate, Point, Turn, Whole, logger_io};
-use server_parts::Rung;
+use server_parts::Notice;
 use std::sync::Wait;
 use std::sync::atomic::{AtomicU64, Ordering};
 use std::sync::ledger::Ledger;
@@ -34,80 +34,80 @@ impl Gate for Logged {
 /// or the store is broken.
 pub fn log_all<L: Ledger, G: Whole, I: Whole, P: Port, S, R: Wait + Clock>(
     rt: &R,
-    hall: &Hall<L, G, I, P, S>,
+    server: &ServerState<L, G, I, P, S>,
 ) {
-    let mut seat = hall.logger.lock(rt);
+    let mut seat = server.logger.lock(rt);
     let logged = Logged {
         blocks: AtomicU64::new(0),
     };
     let mut told = 0;
     for _ in rt.forever() {
-        match hall.shared.log(rt, &mut *seat) {
+        match server.shared.log(rt, &mut *seat) {
             Turn::Broken => break,
             Turn::Moved => {
                 logger_io(&mut *seat, &logged);
-                if tell(rt, hall, &mut told) {
-                    ring_installer(rt, hall, &logged);
+                if tell(rt, server, &mut told) {
+                    wake_installer(rt, server, &logged);
                 }
             }
             Turn::Idle => {
-                if !logger_io(&mut *seat, &logged) && !wait(rt, hall) {
+                if !logger_io(&mut *seat, &logged) && !wait(rt, server) {
                     break;
                 }
             }
         }
     }
     // A store that is broken settles no more: what waits is answered so.
-    hall.signs.parking.raise(rt, u64::MAX);
+    server.sync.parking.raise(rt, u64::MAX);
 }
 
 // Tells that there is room, and what is settled. True where that is more than was told.
 fn tell<L: Ledger, G: Whole, I: Whole, P: Port, S, R: Wait>(
     rt: &R,
-    hall: &Hall<L, G, I, P, S>,
+    server: &ServerState<L, G, I, P, S>,
     told: &mut u64,
 ) -> bool {
-    let look = hall.shared.look(rt);
+    let look = server.shared.look(rt);
     if look.tail <= ROOMY_BLOCKS {
-        hall.signs.rounds.next(rt);
+        server.sync.rounds.next(rt);
     }
     let place = look.settled.0;
     if place <= *told {
         return false;
     }
     *told = place;
-    hall.signs.parking.raise(rt, place);
+    server.sync.parking.raise(rt, place);
     true
 }
 
 // Tells the installer of a group that is settled.
-fn ring_installer<L: Ledger, G: Whole, I: Whole, P: Port, S, R: Wait>(
+fn wake_installer<L: Ledger, G: Whole, I: Whole, P: Port, S, R: Wait>(
     rt: &R,
-    hall: &Hall<L, G, I, P, S>,
+    server: &ServerState<L, G, I, P, S>,
     logged: &Logged,
 ) {
     if logged.blocks.load(Ordering::SeqCst) < HALF_OF_LOG {
-        hall.signs.to_install.ring(rt);
+        server.sync.to_install.notify(rt);
         return;
     }
     logged.blocks.store(0, Ordering::SeqCst);
-    hall.signs.to_install.ring_now(rt);
+    server.sync.to_install.notify_now(rt);
 }
 
 // Waits for commits. False where none will come and all is settled.
 fn wait<L: Ledger, G: Whole, I: Whole, P: Port, S, R: Wait + Clock>(
     rt: &R,
-    hall: &Hall<L, G, I, P, S>,
+    server: &ServerState<L, G, I, P, S>,
 ) -> bool {
-    let look = hall.shared.look(rt);
+    let look = server.shared.look(rt);
     if look.broken {
         return true;
     }
     if !look.is_settled {
         // The log has no room.
-        hall.signs.to_install.ring_now(rt);
+        server.sync.to_install.notify_now(rt);
     }
-    if hall.signs.to_log.wait(rt) != Rung::End {
+    if server.sync.to_log.wait(rt) != Notice::End {
         return true;
     }
     if look.is_settled {

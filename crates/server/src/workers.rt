@@ -1,6 +1,6 @@
 //! The threads that take jobs off their queue, and the one that answers what is settled.
-use crate::driving::{Seen, answer_in, see_through};
-use crate::hall::Hall;
+use crate::driver::{Seen, answer_in, see_through};
+use crate::state::ServerState;
 use disk::{Port, Source};
 use pool::Whole;
 use std::sync::Wait;
@@ -10,18 +10,18 @@ use std::time::Clock;
 /// Takes jobs until it is told that none will come, waits for a free seat for each, and drives it.
 pub fn work_all<L: Ledger, G: Whole, I: Whole, P: Port, S: Source, R: Wait + Clock>(
     rt: &R,
-    hall: &Hall<L, G, I, P, S>,
+    server: &ServerState<L, G, I, P, S>,
 ) {
     for _ in rt.forever() {
-        let Some(job) = hall.signs.jobs.take(rt) else {
+        let Some(job) = server.sync.jobs.take(rt) else {
             break;
         };
-        let (peer, number) = (job.key, job.number);
-        let key = hall.signs.free.take(rt);
-        match answer_in(rt, hall, key, job) {
-            Seen::Answered(answer) => hall.signs.deliver(rt, hall.alloc, answer),
+        let (peer, number) = job.comes_from();
+        let key = server.sync.free.take(rt);
+        match answer_in(rt, server, key, job) {
+            Seen::Answered(answer) => server.sync.deliver(rt, server.alloc, answer),
             Seen::Parked => {}
-            Seen::Nothing => hall.signs.let_go(rt, peer, number),
+            Seen::Nothing => server.sync.let_go(rt, peer, number),
         }
     }
 }
@@ -29,14 +29,14 @@ pub fn work_all<L: Ledger, G: Whole, I: Whole, P: Port, S: Source, R: Wait + Clo
 /// Takes parked seats whose changes are settled, until none will come, and drives each to its answer.
 pub fn finish_all<L: Ledger, G: Whole, I: Whole, P: Port, S: Source, R: Wait + Clock>(
     rt: &R,
-    hall: &Hall<L, G, I, P, S>,
+    server: &ServerState<L, G, I, P, S>,
 ) {
     for _ in rt.forever() {
-        let Some(key) = hall.signs.parking.take(rt) else {
+        let Some(key) = server.sync.parking.take(rt) else {
             break;
         };
-        match see_through(rt, hall, key) {
-            Seen::Answered(answer) => hall.signs.deliver(rt, hall.alloc, answer),
+        match see_through(rt, server, key) {
+            Seen::Answered(answer) => server.sync.deliver(rt, server.alloc, answer),
             // (a seat that was parked has a call)
             Seen::Parked | Seen::Nothing => {}
         }

@@ -1,5 +1,5 @@
 use Rattle.disk.specs.declared.block.Side.TheVariants.{Home, Log}
-use Rattle.server.proofs.beginning.serve_store.Given as goal
+use Rattle.server.proofs.startup.serve_store.Given as goal
 
 abbrev pub ghosts-serve_opened-L-Ledger : goal.ghosts-serve_opened-L-Ledger
 ghosts-serve_opened-L-Ledger g a = record { name = a.ledgers.commits.name; parts = a.ledgers.commits.parts }

@@ -1,81 +1,71 @@
 //! The thread that reads a connection.
-ghost use Rattle.std.specs.Prelude.{◌≤◌, IfOk, length};
-
 use crate::batch::Batch;
-use crate::connection::Connection;
-use crate::driving::{Seen, drive_batch, see_through, wait_while_crowded};
-use crate::hall::Hall;
+use crate::driver::{Seen, drive_batch, see_through, wait_while_crowded};
 use crate::sizes::{MOST_WAITING_BYTES, REPLY_BATCH_BYTES, STREAM_PIECE_BYTES};
+use crate::state::ServerState;
 use disk::{Port, Source};
-use pool::{Answer, Put, Received, ReplyBytes, Stream, Whole};
+use pool::{Answer, ConnectionKey, Put, Received, ReplyBytes, Stream, Whole};
 use server_parts::SeatKey;
+use server_replies::Connection;
 use std::alloc::Global;
-use std::io::{ErrorKind, Read};
 use std::sync::Wait;
 use std::sync::ledger::Ledger;
 use std::time::Clock;
 
 // The connection that is read, and where it is listed.
 #[derive(Drop)]
-struct Desk<'a, L: Ledger> {
+struct ConnectionContext<'a, L: Ledger> {
     key: usize,
     number: u64,
     connection: &'a Connection<L>,
 }
 
-// The connection is gone.
-#[derive(Clone, Copy)]
-struct Gone;
-
-/// Reads the connection with this key and number until it ends, answers its records or hands them on, and then
-/// waits until each is answered.
+/// Reads the connection of this key until it ends, answers its records or hands them on, and then waits until each is
+/// answered.
 pub fn read_all<L: Ledger, G: Whole, I: Whole, P: Port, S: Source, R: Wait + Clock>(
     rt: &R,
-    hall: &Hall<L, G, I, P, S>,
-    key: usize,
-    number: u64,
+    server: &ServerState<L, G, I, P, S>,
+    of: ConnectionKey,
 ) {
-    let Some(connection) = hall.signs.connection(rt, key, number) else {
+    let (key, number) = of.parts();
+    let Some(connection) = server.sync.connection(rt, key, number) else {
         return;
     };
-    let desk = Desk {
+    let context = ConnectionContext {
         key,
         number,
         connection: &*connection,
     };
-    if read_pieces(rt, hall, &desk) {
-        connection.outgoing.end(rt);
+    if read_pieces(rt, server, &context, of) {
+        connection.end(rt);
     } else {
-        connection.outgoing.shut(rt);
+        connection.shut(rt);
     }
     connection.close();
-    let _ = hall.signs.open.lock(rt).close(key, number);
+    let _ = server.sync.open.lock(rt).close(key, number);
 }
 
 // Reads until the connection ends. False where no reply can reach the client.
 fn read_pieces<L: Ledger, G: Whole, I: Whole, P: Port, S: Source, R: Wait + Clock>(
     rt: &R,
-    hall: &Hall<L, G, I, P, S>,
-    desk: &Desk<'_, L>,
+    server: &ServerState<L, G, I, P, S>,
+    context: &ConnectionContext<'_, L>,
+    of: ConnectionKey,
 ) -> bool {
-    let Ok(mut piece) = vec![in hall.alloc; 0u8; STREAM_PIECE_BYTES] else {
+    let Ok(mut piece) = vec![in server.alloc; 0u8; STREAM_PIECE_BYTES] else {
         return true;
     };
-    let Ok(mut batch) = Batch::new(hall.alloc) else {
+    let Ok(mut batch) = Batch::new(server.alloc) else {
         return true;
     };
-    let mut stream = Stream::new(hall.alloc, desk.key, desk.number);
+    let mut stream = Stream::new(server.alloc, of);
     for _ in rt.forever() {
-        if !desk
-            .connection
-            .outgoing
-            .wait_for_room(rt, MOST_WAITING_BYTES)
-        {
+        if !context.connection.wait_for_room(rt, MOST_WAITING_BYTES) {
             return false;
         }
-        desk.connection.outgoing.listen(rt);
-        let taken = read_piece(desk.connection, piece.as_mut_slice());
-        desk.connection.outgoing.hear(rt);
+        context.connection.listen(rt);
+        let taken = context.connection.read(piece.as_mut_slice());
+        context.connection.hear(rt);
         let Ok(count) = taken else {
             return false;
         };
@@ -85,46 +75,29 @@ fn read_pieces<L: Ledger, G: Whole, I: Whole, P: Port, S: Source, R: Wait + Cloc
         if stream.feed(&piece, count).is_err() {
             return true;
         }
-        if !serve_records(rt, hall, desk, &mut stream, &mut batch) {
+        if !serve_records(rt, server, context, &mut stream, &mut batch) {
             return true;
         }
     }
     true
 }
 
-// Reads what there is. Nothing came where the client sends no more, or sent nothing for too long.
-fn read_piece<L: Ledger>(connection: &Connection<L>, piece: &mut [u8]) -> Result<usize, Gone>
-    ensures { IfOk result (λ count. count ≤ length piece.new) }
-{
-    for _ in 0..u64::MAX {
-        match (&connection.stream).read(piece) {
-            Ok(count) => return Ok(count),
-            Err(error) => match error.kind() {
-                ErrorKind::Interrupted => {}
-                ErrorKind::WouldBlock => return Ok(0),
-                _ => return Err(Gone),
-            },
-        }
-    }
-    Err(Gone)
-}
-
 // Answers the records that have come whole, or hands them on. False where the connection is to end.
 fn serve_records<L: Ledger, G: Whole, I: Whole, P: Port, S: Source, R: Wait + Clock>(
     rt: &R,
-    hall: &Hall<L, G, I, P, S>,
-    desk: &Desk<'_, L>,
+    server: &ServerState<L, G, I, P, S>,
+    context: &ConnectionContext<'_, L>,
     stream: &mut Stream,
     batch: &mut Batch<L>,
 ) -> bool {
-    let mut replies = ReplyBytes::new(hall.alloc, desk.key, desk.number);
+    let mut replies = ReplyBytes::new(server.alloc, context.key, context.number);
     for _ in rt.forever() {
-        let gathered = gather(rt, hall, desk, stream, batch, &mut replies);
-        let is_well = answer_batch(rt, hall, desk, batch, &mut replies);
+        let gathered = gather(rt, server, context, stream, batch, &mut replies);
+        let is_well = answer_batch(rt, server, context, batch, &mut replies);
         let goes_on = is_well && gathered != Gathered::Closes;
         let is_over = !goes_on || gathered == Gathered::All;
         if is_over || replies.len() >= REPLY_BATCH_BYTES {
-            if !write(rt, hall.alloc, desk, &mut replies) {
+            if !write(rt, server.alloc, context, &mut replies) {
                 return false;
             }
         }
@@ -138,7 +111,7 @@ fn serve_records<L: Ledger, G: Whole, I: Whole, P: Port, S: Source, R: Wait + Cl
 // How far the records that have come whole were gathered.
 #[derive(Clone, Copy, PartialEq, Eq)]
 enum Gathered {
-    // As many as are driven in a row.
+    // As many as are driven in one batch.
     Batch,
     // All of them.
     All,
@@ -149,30 +122,26 @@ enum Gathered {
 // Gathers calls, once there is room for their replies, and puts the replies of other records.
 fn gather<L: Ledger, G: Whole, I: Whole, P: Port, S, R: Wait>(
     rt: &R,
-    hall: &Hall<L, G, I, P, S>,
-    desk: &Desk<'_, L>,
+    server: &ServerState<L, G, I, P, S>,
+    context: &ConnectionContext<'_, L>,
     stream: &mut Stream,
     batch: &mut Batch<L>,
     replies: &mut ReplyBytes<L>,
 ) -> Gathered {
-    if !desk
-        .connection
-        .outgoing
-        .wait_for_room(rt, MOST_WAITING_BYTES)
-    {
+    if !context.connection.wait_for_room(rt, MOST_WAITING_BYTES) {
         return Gathered::Closes;
     }
     for _ in rt.forever() {
         if batch.is_full() || replies.len() >= REPLY_BATCH_BYTES {
             return Gathered::Batch;
         }
-        let Ok(next) = stream.next(hall.alloc) else {
+        let Ok(next) = stream.next(server.alloc) else {
             return Gathered::Closes;
         };
         let Some(received) = next else {
             return Gathered::All;
         };
-        if !take_record(hall.alloc, received, batch, replies) {
+        if !take_record(server.alloc, received, batch, replies) {
             return Gathered::Closes;
         }
     }
@@ -194,11 +163,11 @@ fn take_record<L: Ledger>(
     }
 }
 
-// Answers the calls of a batch, row by row, or hands them on. False where the connection is to end.
+// Answers the calls of a batch, some at a time, or hands them on. False where the connection is to end.
 fn answer_batch<L: Ledger, G: Whole, I: Whole, P: Port, S: Source, R: Wait + Clock>(
     rt: &R,
-    hall: &Hall<L, G, I, P, S>,
-    desk: &Desk<'_, L>,
+    server: &ServerState<L, G, I, P, S>,
+    context: &ConnectionContext<'_, L>,
     batch: &mut Batch<L>,
     replies: &mut ReplyBytes<L>,
 ) -> bool {
@@ -207,56 +176,56 @@ fn answer_batch<L: Ledger, G: Whole, I: Whole, P: Port, S: Source, R: Wait + Clo
         if batch.jobs.is_empty() {
             break;
         }
-        is_well = answer_row(rt, hall, desk, batch, replies) && is_well;
+        is_well = answer_some(rt, server, context, batch, replies) && is_well;
     }
     is_well
 }
 
-// Drives a row of calls, parks those that wait to be settled, puts the replies of the others, and drives the one
+// Drives calls of a batch, parks those that wait to be settled, puts the replies of the others, and drives the one
 // that was held up to its answer; where no seat is free, hands the first on. So what a seat has taken is waited for
 // by no other of this connection, and nothing is written while a seat is in hand. False where the connection is to
 // end.
-fn answer_row<L: Ledger, G: Whole, I: Whole, P: Port, S: Source, R: Wait + Clock>(
+fn answer_some<L: Ledger, G: Whole, I: Whole, P: Port, S: Source, R: Wait + Clock>(
     rt: &R,
-    hall: &Hall<L, G, I, P, S>,
-    desk: &Desk<'_, L>,
+    server: &ServerState<L, G, I, P, S>,
+    context: &ConnectionContext<'_, L>,
     batch: &mut Batch<L>,
     replies: &mut ReplyBytes<L>,
 ) -> bool {
-    let row = drive_batch(rt, hall, batch);
-    let mut is_well = row.is_well;
+    let outcome = drive_batch(rt, server, batch);
+    let mut is_well = outcome.is_well;
     for _ in 0..batch.waiting.len() {
         let Some(parked) = batch.waiting.pop_front() else {
             break;
         };
-        desk.connection.outgoing.hand_on(rt);
-        if let Err(key) = hall.signs.parking.park(rt, parked) {
-            is_well = drive_on(rt, hall, desk, key, replies) && is_well;
+        context.connection.hand_on(rt);
+        if let Err(key) = server.sync.parking.park(rt, parked) {
+            is_well = drive_on(rt, server, context, key, replies) && is_well;
         }
     }
     for _ in 0..batch.answers.len() {
         let Some(answer) = batch.answers.pop_front() else {
             break;
         };
-        is_well = put(hall.alloc, answer, replies) && is_well;
+        is_well = put(server.alloc, answer, replies) && is_well;
     }
     if let Some(key) = batch.held_up.take() {
-        desk.connection.outgoing.hand_on(rt);
-        is_well = drive_on(rt, hall, desk, key, replies) && is_well;
+        context.connection.hand_on(rt);
+        is_well = drive_on(rt, server, context, key, replies) && is_well;
     }
-    if row.is_crowded {
-        wait_while_crowded(rt, hall);
+    if outcome.is_crowded {
+        wait_while_crowded(rt, server);
     }
-    if row.is_begun {
+    if outcome.is_begun {
         return is_well;
     }
     match batch.jobs.pop_front() {
         None => is_well,
         Some(job) => {
-            desk.connection.outgoing.hand_on(rt);
-            let is_put = hall.signs.jobs.put(rt, job);
+            context.connection.hand_on(rt);
+            let is_put = server.sync.jobs.put(rt, job);
             if !is_put {
-                desk.connection.outgoing.take_back(rt);
+                context.connection.take_back(rt);
             }
             is_put && is_well
         }
@@ -267,19 +236,19 @@ fn answer_row<L: Ledger, G: Whole, I: Whole, P: Port, S: Source, R: Wait + Clock
 // settled it is parked. False where memory is refused for the reply, or no call is there to be answered.
 fn drive_on<L: Ledger, G: Whole, I: Whole, P: Port, S: Source, R: Wait + Clock>(
     rt: &R,
-    hall: &Hall<L, G, I, P, S>,
-    desk: &Desk<'_, L>,
+    server: &ServerState<L, G, I, P, S>,
+    context: &ConnectionContext<'_, L>,
     key: SeatKey,
     replies: &mut ReplyBytes<L>,
 ) -> bool {
-    match see_through(rt, hall, key) {
+    match see_through(rt, server, key) {
         Seen::Parked => true,
         Seen::Answered(answer) => {
-            desk.connection.outgoing.take_back(rt);
-            put(hall.alloc, answer, replies)
+            context.connection.take_back(rt);
+            put(server.alloc, answer, replies)
         }
         Seen::Nothing => {
-            desk.connection.outgoing.take_back(rt);
+            context.connection.take_back(rt);
             false
         }
     }
@@ -289,15 +258,13 @@ fn drive_on<L: Ledger, G: Whole, I: Whole, P: Port, S: Source, R: Wait + Clock>(
 fn write<L: Ledger, R: Wait + Clock>(
     rt: &R,
     alloc: Global,
-    desk: &Desk<'_, L>,
+    context: &ConnectionContext<'_, L>,
     replies: &mut ReplyBytes<L>,
 ) -> bool {
     if replies.len() == 0 {
         return true;
     }
-    let is_written = desk.connection.write(rt, alloc, replies);
-    replies.clear();
-    is_written
+    context.connection.write(rt, alloc, replies)
 }
 
 // Puts the bytes of an answer behind others. False where memory is refused, or it isn't for their connection.

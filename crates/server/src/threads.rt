@@ -3,13 +3,13 @@ ghost use Rattle.std.specs.Prelude.{◌≡◌, IfErr, IfOk, Ok};
 ghost use Rattle.std.specs.Thread.{IsSend, IsSync};
 ghost use Rattle.server.specs.Announcing.{Announces};
 
-use crate::accepting::accept_all;
-use crate::announcing::Announcer;
-use crate::hall::{Hall, Signs};
-use crate::installing::install_all;
-use crate::logging::log_all;
+use crate::acceptor::accept_all;
+use crate::announcer::Announcer;
+use crate::installer::install_all;
+use crate::logger::log_all;
 use crate::sizes::MOST_JOB_THREADS;
-use crate::working::{finish_all, work_all};
+use crate::state::{ServerState, Synchronization};
+use crate::workers::{finish_all, work_all};
 use disk::{Port, Source};
 use pool::{Ended, Pool, Unsettled, Whole, end};
 use std::alloc::Global;
@@ -53,13 +53,13 @@ where
     ensures boot { IfOk result.1 (λ ended. ended.core.boot ≡ G.boot) }
 {
     let settled = pool.shared.look(rt).settled.0;
-    let Ok(signs) = Signs::new(alloc, pool.seats.len(), settled) else {
+    let Ok(sync) = Synchronization::new(alloc, pool.seats.len(), settled) else {
         drop(end(rt, pool));
         return (announcer, Err(ServeFault::Memory));
     };
-    let hall = Hall::new(alloc, pool, signs);
-    let (announcer, ran) = run(rt, &hall, listener, connections, announcer);
-    let ended = all_settled(end(rt, hall.into_pool()));
+    let server = ServerState::new(alloc, pool, sync);
+    let (announcer, ran) = run(rt, &server, listener, connections, announcer);
+    let ended = all_settled(end(rt, server.into_pool()));
     match ran {
         Ok(()) => (announcer, ended),
         Err(fault) => (announcer, Err(fault)),
@@ -81,7 +81,7 @@ fn all_settled(ended: Result<Ended, Unsettled>) -> Result<Ended, ServeFault>
 // can serve was told: then each thread is there, and the memory to begin with.
 fn run<L, G, I, P, S, R, A>(
     rt: &R,
-    hall: &Hall<L, G, I, P, S>,
+    server: &ServerState<L, G, I, P, S>,
     listener: &TcpListener,
     connections: u32,
     announcer: A,
@@ -96,8 +96,8 @@ where
     A: Announcer + Drop,
     ensures { Announces A.tells announcer result.1 result.0 }
 {
-    let threads = hall.seats.len().min(MOST_JOB_THREADS);
-    let Ok(mut working) = Vec::with_capacity(hall.alloc, threads) else {
+    let threads = server.seats.len().min(MOST_JOB_THREADS);
+    let Ok(mut working) = Vec::with_capacity(server.alloc, threads) else {
         return (announcer, Err(ServeFault::Memory));
     };
     thread::scope(
@@ -108,12 +108,12 @@ where
                 × IsSend P.row × IsSend S.row × IsSync R.row }
             ensures { Announces A.tells announcer result.1 result.0 }
         {
-            let logger = scope.spawn(move || log_all(rt, hall)).ok();
-            let installer = scope.spawn(move || install_all(rt, hall)).ok();
-            let finisher = scope.spawn(move || finish_all(rt, hall)).ok();
+            let logger = scope.spawn(move || log_all(rt, server)).ok();
+            let installer = scope.spawn(move || install_all(rt, server)).ok();
+            let finisher = scope.spawn(move || finish_all(rt, server)).ok();
             let mut all = logger.is_some() && installer.is_some() && finisher.is_some();
             for _ in 0..threads {
-                match scope.spawn(move || work_all(rt, hall)) {
+                match scope.spawn(move || work_all(rt, server)) {
                     // There is room for each.
                     Ok(thread) => drop(working.push(thread)),
                     Err(_) => all = false,
@@ -121,17 +121,17 @@ where
             }
             let (announcer, begun) = announce(announcer, all);
             if begun.is_ok() {
-                accept_all(rt, hall, listener, connections);
+                accept_all(rt, server, listener, connections);
             }
             // No job comes any more. Those that wait are done first, and then each seat is freed by who has it.
-            hall.signs.jobs.end(rt, threads);
+            server.sync.jobs.end(rt, threads);
             join_all(rt, working);
-            hall.signs.free.wait_for_all(rt);
-            hall.signs.to_log.end(rt);
+            server.sync.free.wait_for_all(rt);
+            server.sync.to_log.end(rt);
             join(rt, logger);
-            hall.signs.parking.end(rt);
+            server.sync.parking.end(rt);
             join(rt, finisher);
-            hall.signs.to_install.end(rt);
+            server.sync.to_install.end(rt);
             join(rt, installer);
             (announcer, begun)
         },

@@ -1,9 +1,9 @@
 //! Driving a seat: locked steps and reads by turns.
 use crate::batch::Batch;
-use crate::hall::{Hall, is_crowded};
 use crate::sizes::{
-    CALLS_IN_A_ROW, FIRST_SLEEP_MICROSECONDS, FULL_MILLISECONDS, LONGEST_SLEEP_MICROSECONDS, YIELDS,
+    BATCH_CALLS, FIRST_SLEEP_MICROSECONDS, FULL_MILLISECONDS, LONGEST_SLEEP_MICROSECONDS, YIELDS,
 };
+use crate::state::{ServerState, is_crowded};
 use disk::{Port, Source};
 use pool::{Answer, Job, Look, NoGate, Seat, Told, Turn, Whole, worker_io};
 use server_parts::{Parked, SeatKey};
@@ -32,9 +32,9 @@ pub enum Seen<L: Ledger> {
     Nothing,
 }
 
-/// What came of calls that were driven in a row.
+/// What came of the calls of a batch that were driven.
 #[derive(Clone, Copy)]
-pub struct Row {
+pub struct BatchOutcome {
     /// No memory was refused for an answer.
     pub is_well: bool,
     /// A seat was free for the first of them.
@@ -46,23 +46,23 @@ pub struct Row {
 /// Hands a free seat a job, and drives it to its answer, or parks it.
 pub fn answer_in<L: Ledger, G: Whole, I: Whole, P: Port, S: Source, R: Wait + Clock>(
     rt: &R,
-    hall: &Hall<L, G, I, P, S>,
+    server: &ServerState<L, G, I, P, S>,
     key: SeatKey,
     job: Job,
 ) -> Seen<L> {
-    hand(rt, hall, &key, job);
-    see_through(rt, hall, key)
+    hand(rt, server, &key, job);
+    see_through(rt, server, key)
 }
 
 // Hands a seat a job, at the moment of the call.
 fn hand<L: Ledger, G: Whole, I: Whole, P: Port, S, R: Wait + Clock>(
     rt: &R,
-    hall: &Hall<L, G, I, P, S>,
+    server: &ServerState<L, G, I, P, S>,
     key: &SeatKey,
     job: Job,
 ) {
-    let moment = hall.signs.moment(rt);
-    let Some(seat) = hall.seats.get(key.number()) else {
+    let moment = server.sync.moment(rt);
+    let Some(seat) = server.seats.get(key.number()) else {
         return;
     };
     let _ = seat.lock(rt).hand(job, moment);
@@ -72,45 +72,45 @@ fn hand<L: Ledger, G: Whole, I: Whole, P: Port, S, R: Wait + Clock>(
 /// something but to be settled. The jobs that are left come behind it, or found no seat free.
 pub fn drive_batch<L: Ledger, G: Whole, I: Whole, P: Port, S, R: Wait + Clock>(
     rt: &R,
-    hall: &Hall<L, G, I, P, S>,
+    server: &ServerState<L, G, I, P, S>,
     batch: &mut Batch<L>,
-) -> Row {
+) -> BatchOutcome {
     let jobs = batch.jobs.len();
-    let (is_well, look) = drive_in_a_row(rt, hall, batch);
+    let (is_well, look) = drive_under_lock(rt, server, batch);
     let is_crowded = match look {
-        Some(look) => hall.tell_of_commit(rt, look),
+        Some(look) => server.tell_of_commit(rt, look),
         None => false,
     };
-    Row {
+    BatchOutcome {
         is_well,
         is_begun: batch.jobs.len() < jobs,
         is_crowded,
     }
 }
 
-// The same by who has the baton: with how far the core is where something was committed.
-fn drive_in_a_row<L: Ledger, G: Whole, I: Whole, P: Port, S, R: Wait + Clock>(
+// The same under the scheduler lock: with how far the core is where something was committed.
+fn drive_under_lock<L: Ledger, G: Whole, I: Whole, P: Port, S, R: Wait + Clock>(
     rt: &R,
-    hall: &Hall<L, G, I, P, S>,
+    server: &ServerState<L, G, I, P, S>,
     batch: &mut Batch<L>,
 ) -> (bool, Option<Look>) {
-    let _baton = hall.signs.baton.lock(rt);
+    let _steps = server.sync.scheduler.lock(rt);
     let mut is_well = true;
     let mut committed = false;
     let mut free = None;
-    for _ in 0..CALLS_IN_A_ROW {
+    for _ in 0..BATCH_CALLS {
         if batch.jobs.is_empty() {
             break;
         }
-        let Some(key) = seat_for_next(rt, hall, free.take()) else {
+        let Some(key) = seat_for_next(rt, server, free.take()) else {
             break;
         };
         let Some(job) = batch.jobs.pop_front() else {
             free = Some(key);
             break;
         };
-        hand(rt, hall, &key, job);
-        let (first, made) = first_steps(rt, hall, &key);
+        hand(rt, server, &key, job);
+        let (first, made) = first_steps(rt, server, &key);
         committed = committed || made;
         match first {
             First::Answered(answer) => {
@@ -128,10 +128,10 @@ fn drive_in_a_row<L: Ledger, G: Whole, I: Whole, P: Port, S, R: Wait + Clock>(
         }
     }
     if let Some(key) = free {
-        hall.signs.free.put(rt, key);
+        server.sync.free.put(rt, key);
     }
     let look = if committed {
-        Some(hall.shared.look(rt))
+        Some(server.shared.look(rt))
     } else {
         None
     };
@@ -141,37 +141,37 @@ fn drive_in_a_row<L: Ledger, G: Whole, I: Whole, P: Port, S, R: Wait + Clock>(
 // The seat that has just answered, or another that is free.
 fn seat_for_next<L: Ledger, G: Whole, I: Whole, P: Port, S, R: Wait>(
     rt: &R,
-    hall: &Hall<L, G, I, P, S>,
+    server: &ServerState<L, G, I, P, S>,
     free: Option<SeatKey>,
 ) -> Option<SeatKey> {
     match free {
         Some(key) => Some(key),
-        None => hall.signs.free.try_take(rt),
+        None => server.sync.free.try_take(rt),
     }
 }
 
 /// Drives a seat to its answer, and frees it; or parks it, where its change waits to be settled.
 pub fn see_through<L: Ledger, G: Whole, I: Whole, P: Port, S: Source, R: Wait + Clock>(
     rt: &R,
-    hall: &Hall<L, G, I, P, S>,
+    server: &ServerState<L, G, I, P, S>,
     key: SeatKey,
 ) -> Seen<L> {
     let mut key = key;
     for _ in rt.forever() {
-        match go_on(rt, hall, &key) {
+        match go_on(rt, server, &key) {
             Driven::Answered(answer) => {
-                hall.signs.free.put(rt, key);
+                server.sync.free.put(rt, key);
                 return Seen::Answered(answer);
             }
             Driven::Waits(place) => {
                 let parked = Parked { place, seat: key };
-                match hall.signs.parking.park(rt, parked) {
+                match server.sync.parking.park(rt, parked) {
                     Ok(()) => return Seen::Parked,
                     Err(back) => key = back,
                 }
             }
             Driven::Empty => {
-                hall.signs.free.put(rt, key);
+                server.sync.free.put(rt, key);
                 return Seen::Nothing;
             }
         }
@@ -182,10 +182,10 @@ pub fn see_through<L: Ledger, G: Whole, I: Whole, P: Port, S: Source, R: Wait + 
 // Drives a seat until it answers or waits to be settled.
 fn go_on<L: Ledger, G: Whole, I: Whole, P: Port, S: Source, R: Wait + Clock>(
     rt: &R,
-    hall: &Hall<L, G, I, P, S>,
+    server: &ServerState<L, G, I, P, S>,
     key: &SeatKey,
 ) -> Driven<L> {
-    let Some(seat) = hall.seats.get(key.number()) else {
+    let Some(seat) = server.seats.get(key.number()) else {
         return Driven::Empty;
     };
     let mut seat = seat.lock(rt);
@@ -194,11 +194,11 @@ fn go_on<L: Ledger, G: Whole, I: Whole, P: Port, S: Source, R: Wait + Clock>(
         if seat.is_due() {
             worker_io(&mut *seat, key.number(), &NoGate);
         }
-        let rounds = hall.signs.rounds.count();
-        let (made, look) = steps(rt, hall, &mut *seat);
+        let rounds = server.sync.rounds.count();
+        let (made, look) = steps(rt, server, &mut *seat);
         if let Some(look) = look {
-            if hall.tell_of_commit(rt, look) {
-                wait_while_crowded(rt, hall);
+            if server.tell_of_commit(rt, look) {
+                wait_while_crowded(rt, server);
             }
         }
         if let Some(answer) = seat.take_answer() {
@@ -206,7 +206,7 @@ fn go_on<L: Ledger, G: Whole, I: Whole, P: Port, S: Source, R: Wait + Clock>(
         }
         match seat.told() {
             Told::KeptOff => pause(rt, &mut kept_off),
-            Told::Full => wait_for_room(rt, hall, rounds),
+            Told::Full => wait_for_room(rt, server, rounds),
             Told::Nothing | Told::Committed => kept_off = 0,
         }
         if let Some(place) = seat.waits() {
@@ -236,17 +236,17 @@ enum First<L: Ledger> {
     HeldUp,
 }
 
-// The steps in a row of a seat that was just handed a job, by who has the baton, and whether one was a commit.
+// The steps in a row of a seat that was just handed a job, under the scheduler lock, and whether one was a commit.
 fn first_steps<L: Ledger, G: Whole, I: Whole, P: Port, S, R: Wait>(
     rt: &R,
-    hall: &Hall<L, G, I, P, S>,
+    server: &ServerState<L, G, I, P, S>,
     key: &SeatKey,
 ) -> (First<L>, bool) {
-    let Some(seat) = hall.seats.get(key.number()) else {
+    let Some(seat) = server.seats.get(key.number()) else {
         return (First::HeldUp, false);
     };
     let mut seat = seat.lock(rt);
-    let made = steps_in_a_row(rt, hall, &mut *seat);
+    let made = steps_in_a_row(rt, server, &mut *seat);
     let first = match (seat.take_answer(), seat.waits()) {
         (Some(answer), _) => First::Answered(answer),
         (None, Some(place)) => First::Waits(place.0),
@@ -260,29 +260,29 @@ fn first_steps<L: Ledger, G: Whole, I: Whole, P: Port, S, R: Wait>(
 // takes, is seldom taken by another.
 fn steps<L: Ledger, G: Whole, I: Whole, P: Port, S, R: Wait>(
     rt: &R,
-    hall: &Hall<L, G, I, P, S>,
+    server: &ServerState<L, G, I, P, S>,
     seat: &mut Seat<L, S>,
 ) -> (Made, Option<Look>) {
-    let _baton = hall.signs.baton.lock(rt);
-    let made = steps_in_a_row(rt, hall, seat);
+    let _steps = server.sync.scheduler.lock(rt);
+    let made = steps_in_a_row(rt, server, seat);
     let look = if made.committed {
-        Some(hall.shared.look(rt))
+        Some(server.shared.look(rt))
     } else {
         None
     };
     (made, look)
 }
 
-// The steps, by who has the baton.
+// The steps, under the scheduler lock.
 fn steps_in_a_row<L: Ledger, G: Whole, I: Whole, P: Port, S, R: Wait>(
     rt: &R,
-    hall: &Hall<L, G, I, P, S>,
+    server: &ServerState<L, G, I, P, S>,
     seat: &mut Seat<L, S>,
 ) -> Made {
     let mut committed = false;
     let mut looked = false;
     for _ in rt.forever() {
-        let turn = hall.shared.work(rt, hall.alloc, seat);
+        let turn = server.shared.work(rt, server.alloc, seat);
         let told = seat.told();
         committed = committed || told == Told::Committed;
         let is_held_up = told == Told::KeptOff || told == Told::Full || seat.is_due();
@@ -301,27 +301,27 @@ fn steps_in_a_row<L: Ledger, G: Whole, I: Whole, P: Port, S, R: Wait>(
 // Waits until there may be room in the log.
 fn wait_for_room<L: Ledger, G: Whole, I: Whole, P: Port, S, R: Wait + Clock>(
     rt: &R,
-    hall: &Hall<L, G, I, P, S>,
+    server: &ServerState<L, G, I, P, S>,
     rounds: u64,
 ) {
-    hall.signs.to_log.ring(rt);
-    hall.signs.to_install.ring_now(rt);
+    server.sync.to_log.notify(rt);
+    server.sync.to_install.notify_now(rt);
     let patience = Duration::from_millis(FULL_MILLISECONDS);
-    hall.signs.rounds.wait_for_next(rt, rounds, patience);
+    server.sync.rounds.wait_for_next(rt, rounds, patience);
 }
 
 /// Waits while too many commits are kept, as bringing them home is slow.
 pub fn wait_while_crowded<L: Ledger, G: Whole, I: Whole, P: Port, S, R: Wait + Clock>(
     rt: &R,
-    hall: &Hall<L, G, I, P, S>,
+    server: &ServerState<L, G, I, P, S>,
 ) {
     for _ in rt.forever() {
-        let rounds = hall.signs.rounds.count();
-        if !is_crowded(hall.shared.look(rt)) {
+        let rounds = server.sync.rounds.count();
+        if !is_crowded(server.shared.look(rt)) {
             return;
         }
         let patience = Duration::from_millis(FULL_MILLISECONDS);
-        hall.signs.rounds.wait_for_next(rt, rounds, patience);
+        server.sync.rounds.wait_for_next(rt, rounds, patience);
     }
 }
 

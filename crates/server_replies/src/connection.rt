@@ -1,17 +1,23 @@
-//! The replies of a connection, shared by the threads that answer its calls. It takes the bytes of answers to the connection alone.
+//! A connection: its stream, and the replies that wait to be written to it.
+ghost use Rattle.std.specs.Prelude.{◌≡◌, ◌≤◌, IfOk, length};
+ghost use Rattle.pool_answers.specs.Written.{none_of};
+
 use crate::{Offer, Outbox};
 use pool_answers::{Backlog, ReplyBytes};
 use server_parts::steady_second;
 use std::alloc::Global;
-use std::io::Write;
+use std::io::{ErrorKind, Read, Write};
+use std::net::{Shutdown, TcpStream};
 use std::sync::ledger::Ledger;
 use std::sync::{Condvar, Mutex, Wait};
 use std::time::Clock;
 
-/// The replies of a connection. Who answers a call puts its reply here. One thread writes at a time, outside
-/// the lock: so a client that doesn't read holds up no more than that.
+/// A connection, shared by the threads that answer its calls. Who answers a call puts its reply here. One thread writes at
+/// a time, outside the lock: so a client that doesn't read holds up no more than that. Nobody else has the stream: what is
+/// written to it is the bytes of answers to this connection.
 #[derive(Drop)]
-pub struct Outgoing<L: Ledger> {
+pub struct Connection<L: Ledger> {
+    stream: TcpStream,
     outbox: Mutex<Outbox<L>>,
     // The connection's thread that writes what others put waits for this.
     to_write: Condvar,
@@ -19,10 +25,22 @@ pub struct Outgoing<L: Ledger> {
     written: Condvar,
 }
 
-impl<L: Ledger> Outgoing<L> {
-    /// Nothing waits, of the connection of this key and number, which has just come.
-    pub fn new<R: Clock>(rt: &R, alloc: Global, key: usize, number: u64) -> Outgoing<L> {
-        Outgoing {
+/// The stream of a connection is gone.
+#[derive(Clone, Copy, Debug)]
+pub struct Gone;
+
+impl<L: Ledger> Connection<L> {
+    /// The connection of this key and number over a stream, which has just come. Nothing waits. It takes answers of this
+    /// key and number alone.
+    pub fn new<R: Clock>(
+        rt: &R,
+        alloc: Global,
+        stream: TcpStream,
+        key: usize,
+        number: u64,
+    ) -> Connection<L> {
+        Connection {
+            stream,
             outbox: Mutex::new(Outbox::new(alloc, key, number, steady_second(rt))),
             to_write: Condvar::new(),
             written: Condvar::new(),
@@ -36,7 +54,7 @@ impl<L: Ledger> Outgoing<L> {
 
     /// Puts the reply of a call that was handed on, or lets the call go where there is none, for the
     /// connection's own thread to write.
-    pub fn answer<R: Wait>(&self, rt: &R, reply: Option<&ReplyBytes<L>>) {
+    pub fn answer<R: Wait>(&self, rt: &R, reply: Option<ReplyBytes<L>>) {
         let mut outbox = self.outbox.lock(rt);
         outbox.answer(reply);
         if outbox.is_shut() {
@@ -52,15 +70,25 @@ impl<L: Ledger> Outgoing<L> {
         self.outbox.lock(rt).take_back();
     }
 
-    /// Writes replies, or leaves them to the thread that writes. False where no more can be written, or they are for
-    /// another connection.
-    pub fn write<R: Wait + Clock, W: Write>(
+    /// Writes replies, or leaves them to the thread that writes: they are used up. False where no more can be written, or
+    /// they are for another connection.
+    pub fn write<R: Wait + Clock>(&self, rt: &R, alloc: Global, replies: &mut ReplyBytes<L>) -> bool
+        ensures { replies.new ≡ none_of replies.old }
+    {
+        let is_well = self.write_once(rt, alloc, replies);
+        replies.clear();
+        is_well
+    }
+
+    // The same, but that they are let go of by the caller.
+    fn write_once<R: Wait + Clock>(
         &self,
         rt: &R,
-        out: &mut W,
-        replies: &ReplyBytes<L>,
         alloc: Global,
-    ) -> bool {
+        replies: &mut ReplyBytes<L>,
+    ) -> bool
+        ensures key { (replies.new.key ≡ replies.old.key) × (replies.new.number ≡ replies.old.number) }
+    {
         let mut outbox = self.outbox.lock(rt);
         match outbox.offer(replies) {
             Offer::Write => {}
@@ -73,26 +101,20 @@ impl<L: Ledger> Outgoing<L> {
             Offer::Shut => return false,
         }
         drop(outbox);
-        let is_done = out.write_all(replies.as_slice()).is_ok();
-        self.write_rest(rt, out, is_done, alloc)
+        let is_done = (&self.stream).write_all(replies.as_slice()).is_ok();
+        self.write_rest(rt, alloc, is_done)
     }
 
     // Writes what waits, until nothing does. The calling thread is the one that writes, and `is_done` tells whether
     // its last write was. False where a write failed.
-    fn write_rest<R: Wait + Clock, W: Write>(
-        &self,
-        rt: &R,
-        out: &mut W,
-        is_done: bool,
-        alloc: Global,
-    ) -> bool {
+    fn write_rest<R: Wait + Clock>(&self, rt: &R, alloc: Global, is_done: bool) -> bool {
         let mut is_done = is_done;
         let mut batch = Backlog::new(alloc, 0, 0);
         for _ in rt.forever() {
             let Some(next) = self.next_batch(rt, is_done, batch) else {
                 return is_done;
             };
-            is_done = out.write_all(next.as_slice()).is_ok();
+            is_done = (&self.stream).write_all(next.as_slice()).is_ok();
             batch = next;
         }
         is_done
@@ -112,15 +134,44 @@ impl<L: Ledger> Outgoing<L> {
         next
     }
 
-    /// Writes what other threads put, until no call comes any more and nothing waits, or a write fails.
-    pub fn write_all<R: Wait + Clock, W: Write>(&self, rt: &R, out: &mut W, alloc: Global) {
+    /// Writes what other threads put, until no call comes any more and nothing waits, or a write fails; and ends the
+    /// stream.
+    pub fn write_all<R: Wait + Clock>(&self, rt: &R, alloc: Global) {
+        self.write_others(rt, alloc);
+        // Who reads learns of it where a write failed.
+        self.close();
+    }
+
+    fn write_others<R: Wait + Clock>(&self, rt: &R, alloc: Global) {
         for _ in rt.forever() {
             let Some(taken) = self.take_for_writer(rt, alloc) else {
                 return;
             };
-            let is_done = out.write_all(taken.as_slice()).is_ok();
-            self.write_rest(rt, out, is_done, alloc);
+            let is_done = (&self.stream).write_all(taken.as_slice()).is_ok();
+            self.write_rest(rt, alloc, is_done);
         }
+    }
+
+    /// Reads what there is. Nothing came where the client sends no more, or sent nothing for too long.
+    pub fn read(&self, piece: &mut [u8]) -> Result<usize, Gone>
+        ensures { IfOk result (λ count. count ≤ length piece.new) }
+    {
+        for _ in 0..u64::MAX {
+            match (&self.stream).read(piece) {
+                Ok(count) => return Ok(count),
+                Err(error) => match error.kind() {
+                    ErrorKind::Interrupted => {}
+                    ErrorKind::WouldBlock => return Ok(0),
+                    _ => return Err(Gone),
+                },
+            }
+        }
+        Err(Gone)
+    }
+
+    /// Ends the stream both ways.
+    pub fn close(&self) {
+        let _ = self.stream.shutdown(Shutdown::Both);
     }
 
     // Waits until the connection's own writer has something to write, and takes it. None where nothing more will come.
