@@ -1,6 +1,5 @@
 //! A connection: its stream, and the replies that wait to be written to it.
-ghost use Rattle.std.specs.Prelude.{◌≡◌, ◌≤◌, IfOk, length};
-ghost use Rattle.pool_answers.specs.Written.{none_of};
+ghost use Rattle.std.specs.Prelude.{◌≡◌, ◌≤◌, [], IfOk, length};
 
 use crate::{Offer, Outbox};
 use pool_answers::{Backlog, ReplyBytes};
@@ -73,7 +72,7 @@ impl<L: Ledger> Connection<L> {
     /// Writes replies, or leaves them to the thread that writes: they are used up. False where no more can be written, or
     /// they are for another connection.
     pub fn write<R: Wait + Clock>(&self, rt: &R, alloc: Global, replies: &mut ReplyBytes<L>) -> bool
-        ensures { replies.new ≡ none_of replies.old }
+        ensures { replies.new.bytes ≡ [] }
     {
         let is_well = self.write_once(rt, alloc, replies);
         replies.clear();
@@ -86,9 +85,7 @@ impl<L: Ledger> Connection<L> {
         rt: &R,
         alloc: Global,
         replies: &mut ReplyBytes<L>,
-    ) -> bool
-        ensures key { (replies.new.key ≡ replies.old.key) × (replies.new.number ≡ replies.old.number) }
-    {
+    ) -> bool {
         let mut outbox = self.outbox.lock(rt);
         match outbox.offer(replies) {
             Offer::Write => {}
