@@ -7,5 +7,5 @@ use Rattle.pool.proofs.ending.end.Goals as goal
 pub returns : goal.returns
 returns g c = record {
   boot = IfOk-weaker c.settled.result _ _ (λ ended is. ap (λ (core : CoreState). core.boot) is ∙ c.into_core.ensures)
-      c.settled.ensures;
+      c.settled.ensures.core;
 }
