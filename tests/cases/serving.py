@@ -173,6 +173,23 @@ def test_calls_of_one_piece_never_wait_for_each_other(place):
         server.end()
 
 
+def test_sixteen_reads_of_32_kb_in_one_piece_are_answered_right(place):
+    server = Server(place, place.image(), connections=2)
+    client = server.client()
+    data = random.Random(16).randbytes(16 * 32768)
+    file = client.create(ROOT, b"a", data)
+    asked = [nfs.READ.call(it + 1, CALLER, file, it * 32768, 32768) for it in range(16)]
+    with server.connect() as stream:
+        stream.sendall(b"".join(asked))
+        for xid, message in replies(stream, len(asked)).items():
+            result = nfs.result_of(message)
+            same(f"the status of call {xid}", result[:4], wire.words(nfs.OK))
+            at = (xid - 1) * 32768
+            is_so(f"the bytes of call {xid}", result.endswith(data[at : at + 32768]))
+    client.close()
+    server.end()
+
+
 def test_a_connection_beyond_64_is_closed_and_counts(place):
     server = Server(place, place.image(), connections=MOST + 2)
     streams = [server.connect() for _ in range(MOST)]

@@ -73,12 +73,7 @@ pub fn begin<L: Ledger, G: Whole, I: Whole, D: Splits<P, S>, P: Port + Drop, S: 
     let (logged, logs) = logged.open::<G>();
     let (installed, installs) = installed.open::<I>();
     Ok(Pool {
-        shared: Shared::new(Locked {
-            core,
-            commits,
-            logged,
-            installed,
-        }),
+        shared: Shared::new(Locked::new(core, commits, logged, installed)),
         seats,
         logger: IoSeat::new(logs, log),
         installer: IoSeat::new(installs, home),

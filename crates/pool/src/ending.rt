@@ -1,5 +1,5 @@
 //! How the threads of a store end.
-ghost use Rattle.std.specs.Prelude.{◌≡◌, ◌⊎◌, false, true, IfErr, IfOk};
+ghost use Rattle.std.specs.Prelude.{◌≡◌, ◌+◌, ◌⊎◌, false, true, IfErr, IfOk};
 ghost use Rattle.wal_law.specs.Log.{settled_place};
 
 use crate::Pool;
@@ -31,12 +31,17 @@ impl Ended {
 #[derive(Clone, Copy, Debug)]
 pub struct Unsettled;
 
-/// Gives back what the seats have begun, and takes the core out of its lock.
+/// Gives back what the seats have begun, and takes the core out of its lock: it has handed out just the calls that the
+/// seats of logger and installer have taken, where these have the whole ledgers.
 pub fn end<L: Ledger, G: Whole, I: Whole, P: Port + Drop, S: Drop, R: Wait>(
     rt: &R,
     pool: Pool<L, G, I, P, S>,
 ) -> Result<Ended, Unsettled>
     ensures boot { IfOk result (λ ended. ended.core.boot ≡ G.boot) }
+    ensures log_calls { G.all ≡ G.parts → IfOk result (λ ended. ended.core.log_calls
+        ≡ pool.logger.calls.amount + G.first) }
+    ensures inst_calls { I.all ≡ I.parts → IfOk result (λ ended. ended.core.inst_calls
+        ≡ pool.installer.calls.amount + I.first) }
 {
     let Pool {
         shared,
@@ -49,9 +54,9 @@ pub fn end<L: Ledger, G: Whole, I: Whole, P: Port + Drop, S: Drop, R: Wait>(
         shared.leave(rt, seat.into_inner());
     }
     seats.destroy_empty();
-    shared.leave_log(rt, logger);
-    shared.leave_install(rt, installer);
-    settled(shared.into_core())
+    let logged = shared.leave_log(rt, logger);
+    let installed = shared.leave_install(rt, installer);
+    settled(shared.into_core(logged, installed))
 }
 
 // The core, if each of its commits is settled and it isn't broken.

@@ -166,10 +166,10 @@ fn answer_of<L: Ledger>(
             return Answer::of_change(ticket, voucher, stable, reply, share);
         }
         (Way::Nothing, _, _) => {
-            return Answer::of_nothing(ticket);
+            return Answer::of_nothing(ticket, share);
         }
         (_, _, verdict) => {
-            return Answer::in_its_place(ticket, body_of(verdict));
+            return Answer::in_its_place(ticket, body_of(verdict), share);
         }
     }
 }

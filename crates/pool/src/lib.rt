@@ -2,23 +2,23 @@
 #![tactic(auto)]
 
 mod beginning;
+mod device_calls;
 mod ending;
 mod errand;
 mod locked;
 mod seat;
 mod shared;
-mod steps;
 mod told;
 mod work;
 
 pub use beginning::{Ledgers, Pool, begin};
+pub use device_calls::{installer_io, logger_io, worker_io};
 pub use ending::{Ended, Unsettled, end};
-pub use locked::Locked;
+pub use locked::{Locked, Look, installer_step, logger_step, worker_step};
 pub use log_seats::Caller;
 pub use pool_answers::{Answer, Put, ReplyBytes};
 pub use pool_calls::{Gate, IoSeat, NoGate, Point, Turn, Whole};
 pub use pool_jobs::{Bearer, ConnectionKey, Connections, Immediate, Job, Received, Stream};
 pub use seat::Seat;
-pub use shared::{Look, Shared};
-pub use steps::{installer_io, installer_step, logger_io, logger_step, worker_io, worker_step};
+pub use shared::Shared;
 pub use told::Told;

@@ -1,10 +1,16 @@
-//! What lies behind the lock.
+//! What lies behind the lock. Nothing but what stands here gets at it.
 ghost use Rattle.std.specs.Prelude.{◌≡◌, ◌+◌};
 ghost use Rattle.disk.specs.declared.block.Side.TheVariants.{Home, Log};
 
+mod ending;
+mod look;
+mod steps;
+
+pub use look::Look;
 use pool_calls::Whole;
 use procs::Done;
 use std::sync::ledger::{Book, Ledger};
+pub use steps::{installer_step, logger_step, worker_step};
 use txn::Core;
 
 /// The core, the book of its commits, and those of the device calls that it has handed out. Its type keeps that the
@@ -13,14 +19,37 @@ use txn::Core;
 /// ledgers name.
 #[derive(Drop)]
 pub struct Locked<L: Ledger, G: Whole, I: Whole> {
-    pub(crate) core: Core<Done>,
-    pub(crate) commits: Book<L>,
-    pub(crate) logged: Book<G>,
-    pub(crate) installed: Book<I>,
+    core: Core<Done>,
+    commits: Book<L>,
+    logged: Book<G>,
+    installed: Book<I>,
     pub ghost counted: { commits.total ≡ core.log.places },
     pub ghost log_calls: { logged.total + G.first ≡ core.log_calls },
     pub ghost inst_calls: { installed.total + I.first ≡ core.inst_calls },
     pub ghost log_side: { G.side ≡ Log },
     pub ghost home_side: { I.side ≡ Home },
     pub ghost booted: { core.boot ≡ G.boot },
+}
+
+impl<L: Ledger, G: Whole, I: Whole> Locked<L, G, I> {
+    /// A core with books of its commits and of its device calls, of which none was written yet but its commits so far.
+    pub(crate) fn new(
+        core: Core<Done>,
+        commits: Book<L>,
+        logged: Book<G>,
+        installed: Book<I>,
+    ) -> Locked<L, G, I>
+        requires commits { commits.total ≡ core.log.places }
+        requires log_calls { logged.total + G.first ≡ core.log_calls }
+        requires inst_calls { installed.total + I.first ≡ core.inst_calls }
+        requires sides { (G.side ≡ Log) × (I.side ≡ Home) }
+        requires boot { core.boot ≡ G.boot }
+    {
+        Locked {
+            core,
+            commits,
+            logged,
+            installed,
+        }
+    }
 }

@@ -108,11 +108,12 @@ impl<L: Ledger> Answer<L> {
         }
     }
 
-    /// One of the three in the place of a reply.
-    pub fn in_its_place(ticket: Ticket, body: ReplyBody) -> Answer<L>
+    /// One of the three in the place of a reply. Who makes it has a share of the ledger of commits, as above.
+    pub fn in_its_place(ticket: Ticket, body: ReplyBody, share: &Share<L>) -> Answer<L>
         requires { IsInItsPlace ticket.job.call body }
         ensures { result ≡ answer_to ticket.job body (evidence.InItsPlace ticket) }
     {
+        let _ = share;
         let (key, number) = ticket.goes_to();
         Answer {
             key,
@@ -124,11 +125,12 @@ impl<L: Ledger> Answer<L> {
         }
     }
 
-    /// To a job whose call begins no transaction.
-    pub fn of_nothing(ticket: Ticket) -> Answer<L>
+    /// To a job whose call begins no transaction. Who makes it has a share of the ledger of commits, as above.
+    pub fn of_nothing(ticket: Ticket, share: &Share<L>) -> Answer<L>
         requires { begins_transaction ticket.job.call ≡ false }
         ensures { result ≡ answer_to ticket.job (with_reply Null) (evidence.Nothing ticket) }
     {
+        let _ = share;
         let (key, number) = ticket.goes_to();
         Answer {
             key,

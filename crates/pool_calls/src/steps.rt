@@ -11,7 +11,7 @@ use disk::{Failed, Port, Side};
 use http_server::Log;
 use log_seats::Stepped;
 use std::snapshot::Snapshot;
-use std::sync::ledger::Book;
+use std::sync::ledger::{Book, Share};
 use txn::{Change, Core};
 
 /// One step of the logger or of the installer: one call of the core at most. A call that is handed out gets the next
@@ -55,25 +55,28 @@ pub fn step_calls<C: Change, G: Whole, P: Port>(
     }
 }
 
-/// Ends a seat: a call that is out is given back with its port's answer, or as failed where it wasn't made.
+/// Ends a seat: a call that is out is given back with its port's answer, or as failed where it wasn't made. What is left
+/// is the seat's share of the ledger of its calls.
 #[tactic(auto, using(crate::proofs::Places::ended))]
 pub fn give_up<C: Change, G: Whole, P: Port + Drop>(
     side: Side,
     core: &mut Core<C>,
     seat: IoSeat<G, P>,
-)
+) -> Share<G>
     ensures back { HasEnded (comes_back side) core.old seat.caller.io seat.caller.made core.new }
     ensures places { core.new.log.places ≡ core.old.log.places }
     ensures calls { HandsOutNone core.old core.new }
+    ensures share { result ≡ seat.calls }
 {
     let IoSeat {
         caller,
-        calls: _,
+        calls,
         taken: _,
         number: _,
         port: _,
     } = seat;
     caller.end(side, core);
+    calls
 }
 
 /// Makes the device call that is out, where it wasn't made, on the seat's own port, and leaves the port's answer in the

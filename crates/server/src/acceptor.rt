@@ -9,9 +9,9 @@ use crate::state::ServerState;
 use disk::{Port, Source};
 use pool::{ConnectionKey, Connections, Whole};
 use server_parts::{Silent, steady_second};
-use server_replies::Connection;
+use server_replies::{Connection, Incoming};
 use std::alloc::Global;
-use std::net::{TcpListener, TcpStream};
+use std::net::TcpListener;
 use std::sync::ledger::Ledger;
 use std::sync::{Arc, Wait};
 use std::thread;
@@ -54,12 +54,12 @@ where
                 if connections != 0 && accepted >= connections {
                     break;
                 }
-                let Ok((stream, _)) = listener.accept() else {
+                let Some(incoming) = Incoming::accept(listener, WRITE_SECONDS, IDLE_SECONDS) else {
                     thread::sleep(rt, Duration::from_millis(ACCEPT_SLEEP_MILLISECONDS));
                     continue;
                 };
                 accepted = accepted.saturating_add(1);
-                let Some(guest) = let_in(rt, server, stream) else {
+                let Some(guest) = let_in(rt, server, incoming) else {
                     continue;
                 };
                 let Guest {
@@ -85,15 +85,14 @@ where
 fn let_in<L: Ledger, G: Whole, I: Whole, P: Port, S, R: Wait + Clock>(
     rt: &R,
     server: &ServerState<L, G, I, P, S>,
-    stream: TcpStream,
+    incoming: Incoming,
 ) -> Option<Guest<L>> {
     let mut open = server.sync.open.lock(rt);
     if open.count() >= MOST_CONNECTIONS && !make_place(rt, &mut *open) {
         return None;
     }
-    prepare(&stream);
     let (key, number) = open.next();
-    let connection = Connection::new(rt, server.alloc, stream, key, number);
+    let connection = Connection::new(rt, server.alloc, incoming, key, number);
     let connection = Arc::new(server.alloc, connection).ok()?;
     let writer = Arc::try_clone(&connection).ok()?;
     let listed = Arc::try_clone(&connection).ok()?;
@@ -103,13 +102,6 @@ fn let_in<L: Ledger, G: Whole, I: Whole, P: Port, S, R: Wait + Clock>(
         writer,
         key,
     })
-}
-
-// A stream sends each write at once, and a write and a read that wait too long fail on it.
-fn prepare(stream: &TcpStream) {
-    let _ = stream.set_nodelay(true);
-    let _ = stream.set_write_timeout(Some(Duration::from_secs(WRITE_SECONDS)));
-    let _ = stream.set_read_timeout(Some(Duration::from_secs(IDLE_SECONDS)));
 }
 
 // Ends the connection that has been silent longest, where that is long enough. Whether there was one.

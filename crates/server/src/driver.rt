@@ -62,7 +62,7 @@ fn hand<L: Ledger, G: Whole, I: Whole, P: Port, S, R: Wait + Clock>(
     job: Job,
 ) {
     let moment = server.sync.moment(rt);
-    let Some(seat) = server.seats.get(key.number()) else {
+    let Some(seat) = server.seats.at(key) else {
         return;
     };
     let _ = seat.lock(rt).hand(job, moment);
@@ -185,7 +185,7 @@ fn go_on<L: Ledger, G: Whole, I: Whole, P: Port, S: Source, R: Wait + Clock>(
     server: &ServerState<L, G, I, P, S>,
     key: &SeatKey,
 ) -> Driven<L> {
-    let Some(seat) = server.seats.get(key.number()) else {
+    let Some(seat) = server.seats.at(key) else {
         return Driven::Empty;
     };
     let mut seat = seat.lock(rt);
@@ -242,7 +242,7 @@ fn first_steps<L: Ledger, G: Whole, I: Whole, P: Port, S, R: Wait>(
     server: &ServerState<L, G, I, P, S>,
     key: &SeatKey,
 ) -> (First<L>, bool) {
-    let Some(seat) = server.seats.get(key.number()) else {
+    let Some(seat) = server.seats.at(key) else {
         return (First::HeldUp, false);
     };
     let mut seat = seat.lock(rt);

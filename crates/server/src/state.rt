@@ -6,7 +6,7 @@ use crate::sizes::{CROWDING_COMMITS, URGENT_COMMITS};
 use disk::Port;
 use nfs_types::Moment;
 use pool::{Answer, Connections, IoSeat, Look, Pool, Put, ReplyBytes, Seat, Shared, Whole};
-use server_parts::{FreeSeats, Moments, Notifier, Parking, Rounds, moment_of};
+use server_parts::{FreeSeats, Moments, Notifier, Parking, Rounds, Seats, moment_of};
 use server_replies::Connection;
 use std::alloc::{AllocError, Global};
 use std::sync::ledger::Ledger;
@@ -17,7 +17,7 @@ use std::time::Clock;
 pub struct ServerState<L: Ledger, G: Whole, I: Whole, P: Port, S> {
     pub alloc: Global,
     pub shared: Shared<L, G, I>,
-    pub seats: Vec<Mutex<Seat<L, S>>>,
+    pub seats: Seats<Seat<L, S>>,
     pub logger: Mutex<IoSeat<G, P>>,
     pub installer: Mutex<IoSeat<I, P>>,
     pub sync: Synchronization<L>,
@@ -117,7 +117,7 @@ impl<L: Ledger, G: Whole, I: Whole, P: Port, S> ServerState<L, G, I, P, S> {
         ServerState {
             alloc,
             shared,
-            seats,
+            seats: Seats::new(seats),
             logger: Mutex::new(logger),
             installer: Mutex::new(installer),
             sync,
@@ -136,7 +136,7 @@ impl<L: Ledger, G: Whole, I: Whole, P: Port, S> ServerState<L, G, I, P, S> {
         } = self;
         Pool {
             shared,
-            seats,
+            seats: seats.into_all(),
             logger: logger.into_inner(),
             installer: installer.into_inner(),
         }

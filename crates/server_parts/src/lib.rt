@@ -9,6 +9,7 @@ mod parking;
 mod pending;
 mod rack;
 mod rounds;
+mod seats;
 mod silence;
 mod waiting;
 
@@ -19,5 +20,6 @@ pub use parking::Parking;
 pub use pending::{Notice, Pending};
 pub use rack::{Rack, SeatKey};
 pub use rounds::Rounds;
+pub use seats::Seats;
 pub use silence::{Silence, Silent, steady_second};
 pub use waiting::{Next, Parked, Waiting};

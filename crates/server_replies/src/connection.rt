@@ -1,7 +1,7 @@
 //! A connection: its stream, and the replies that wait to be written to it.
 ghost use Rattle.std.specs.Prelude.{◌≡◌, ◌≤◌, [], IfOk, length};
 
-use crate::{Offer, Outbox};
+use crate::{Incoming, Offer, Outbox};
 use pool_answers::{Backlog, ReplyBytes};
 use server_parts::steady_second;
 use std::alloc::Global;
@@ -29,15 +29,16 @@ pub struct Connection<L: Ledger> {
 pub struct Gone;
 
 impl<L: Ledger> Connection<L> {
-    /// The connection of this key and number over a stream, which has just come. Nothing waits. It takes answers of this
-    /// key and number alone.
+    /// The connection of this key and number over a stream that has just come. Nothing waits. It takes answers of this key
+    /// and number alone.
     pub fn new<R: Clock>(
         rt: &R,
         alloc: Global,
-        stream: TcpStream,
+        incoming: Incoming,
         key: usize,
         number: u64,
     ) -> Connection<L> {
+        let Incoming { stream } = incoming;
         Connection {
             stream,
             outbox: Mutex::new(Outbox::new(alloc, key, number, steady_second(rt))),

@@ -2,9 +2,11 @@
 #![tactic(auto)]
 
 mod connection;
+mod incoming;
 mod outbox;
 mod replies;
 
 pub use connection::{Connection, Gone};
+pub use incoming::Incoming;
 pub use outbox::{Offer, Outbox};
 pub use replies::Replies;

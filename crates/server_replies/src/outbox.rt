@@ -92,6 +92,7 @@ impl<L: Ledger> Outbox<L> {
         ensures none { IfNone reply (self.new.shut ≡ true) }
         ensures writing { self.new.replies.writing ≡ self.old.replies.writing }
         ensures ended { self.new.ended ≡ self.old.ended }
+        ensures silence { self.new.silence ≡ self.old.silence }
     {
         self.take_back();
         match reply {
@@ -110,6 +111,7 @@ impl<L: Ledger> Outbox<L> {
         ensures used { self.new.shut ≡ false → replies.new ≡ none_of replies.old }
         ensures due { self.new.due ≡ self.old.due }
         ensures ended { self.new.ended ≡ self.old.ended }
+        ensures silence { self.new.silence ≡ self.old.silence }
     {
         if !self.shut && self.replies.put(replies) != Put::Done {
             self.shut();
@@ -131,6 +133,7 @@ impl<L: Ledger> Outbox<L> {
         ensures same { result ≡ Offer.Write → replies.new ≡ replies.old }
         ensures due { self.new.due ≡ self.old.due }
         ensures ended { self.new.ended ≡ self.old.ended }
+        ensures silence { self.new.silence ≡ self.old.silence }
     {
         if self.shut || !self.replies.are_for(replies) {
             return Offer::Shut;
@@ -152,6 +155,7 @@ impl<L: Ledger> Outbox<L> {
         ensures shut { self.new.shut ≡ (self.old.shut || not is_done) }
         ensures due { self.new.due ≡ self.old.due }
         ensures ended { self.new.ended ≡ self.old.ended }
+        ensures silence { self.new.silence ≡ self.old.silence }
     {
         if !is_done {
             self.shut();
@@ -186,6 +190,7 @@ impl<L: Ledger> Outbox<L> {
         ensures shut { self.new.shut ≡ self.old.shut }
         ensures due { self.new.due ≡ self.old.due }
         ensures ended { self.new.ended ≡ self.old.ended }
+        ensures silence { self.new.silence ≡ self.old.silence }
     {
         if self.ended || self.shut {
             return None;
@@ -236,6 +241,7 @@ impl<L: Ledger> Outbox<L> {
         ensures writing { self.new.replies.writing ≡ self.old.replies.writing }
         ensures due { self.new.due ≡ self.old.due }
         ensures ended { self.new.ended ≡ self.old.ended }
+        ensures silence { self.new.silence ≡ self.old.silence }
     {
         self.shut = true;
         self.replies.forget();

@@ -1,17 +1,16 @@
-//! The steps of workers, logger and installer on what lies behind the lock, and their device calls apart from it.
-ghost use Rattle.std.specs.Prelude.{◌≡◌, ◌+◌, ◌≤◌, ◌↔◌, length, None, IsSome, IsTrue};
+//! The steps of workers, logger and installer on what lies behind the lock.
+ghost use Rattle.std.specs.Prelude.{◌≡◌, ◌+◌, ◌≤◌, length, None, IsSome};
 ghost use Rattle.log_seats.specs.Steps.{InstComesBack, InstGoesOut, LogComesBack, LogGoesOut};
 ghost use Rattle.pool.specs.Locking.{IsLawful};
-ghost use Rattle.pool.specs.Stepping.{HasStepped, ReadsFrom, grown};
-ghost use Rattle.pool_calls.specs.Numbers.{MakesCall, due};
+ghost use Rattle.pool.specs.Stepping.{HasStepped, grown};
 ghost use Rattle.pool_calls.specs.Sides.{HasTurned};
-ghost use Rattle.store_workers.specs.declared.workers.parts.Phase.TheVariants.{Reading};
 ghost use Rattle.wal_law.specs.Installer.{may_install};
 ghost use Rattle.wal_law.specs.Logger.{may_log};
 
-use crate::{Locked, Seat, Told};
-use disk::{Port, Side, Source};
-use pool_calls::{Gate, IoSeat, Point, Turn, Whole, make_call, step_calls};
+use crate::locked::Locked;
+use crate::{Seat, Told};
+use disk::{Port, Side};
+use pool_calls::{IoSeat, Turn, Whole, step_calls};
 use std::alloc::Global;
 use std::sync::ledger::Ledger;
 
@@ -102,47 +101,4 @@ pub fn installer_step<L: Ledger, G: Whole, I: Whole, P: Port>(
     let turn = step_calls(Side::Home, core, installed, seat);
     core.lawful();
     turn
-}
-
-/// Makes the read that a worker has due, if one is, by the seat's own source. It answers whether there was one.
-pub fn worker_io<L: Ledger, S: Source, T: Gate>(
-    seat: &mut Seat<L, S>,
-    worker: usize,
-    gate: &T,
-) -> bool
-    ensures read { ReadsFrom result (S.calls seat.old.source) seat.old.work (S.calls seat.new.source) seat.new.work }
-    ensures was_due { IsTrue result ↔ (seat.old.work.worker.phase ≡ Reading) }
-    ensures share { seat.new.share ≡ seat.old.share }
-{
-    if seat.is_due() {
-        gate.pass(Point::Read(worker));
-    }
-    let Seat {
-        work,
-        share: _,
-        source,
-    } = seat;
-    work.read_from(source)
-}
-
-/// Makes the logger's device call that is out, where it wasn't made, on its port, and leaves the port's answer in
-/// the seat. It answers whether there was one.
-pub fn logger_io<G: Whole, P: Port, T: Gate>(seat: &mut IoSeat<G, P>, gate: &T) -> bool
-    ensures made { MakesCall seat.old.caller.io seat.old.caller.made seat.new.caller.made (P.calls seat.old.port)
-        (P.calls seat.new.port) }
-    ensures was_due { IsTrue result ↔ (due seat.old.caller.io seat.old.caller.made ≡ 1) }
-    ensures io { seat.new.caller.io ≡ seat.old.caller.io }
-{
-    make_call(Side::Log, seat, gate)
-}
-
-/// Makes the installer's device call that is out, where it wasn't made, on its port, and leaves the port's answer
-/// in the seat. It answers whether there was one.
-pub fn installer_io<G: Whole, P: Port, T: Gate>(seat: &mut IoSeat<G, P>, gate: &T) -> bool
-    ensures made { MakesCall seat.old.caller.io seat.old.caller.made seat.new.caller.made (P.calls seat.old.port)
-        (P.calls seat.new.port) }
-    ensures was_due { IsTrue result ↔ (due seat.old.caller.io seat.old.caller.made ≡ 1) }
-    ensures io { seat.new.caller.io ≡ seat.old.caller.io }
-{
-    make_call(Side::Home, seat, gate)
 }
