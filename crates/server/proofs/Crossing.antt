@@ -35,6 +35,8 @@ use Rattle.pool.proofs.Caller.TheSendSync as callers
 use Rattle.pool.specs.contracts.Connections
 use Rattle.pool.specs.contracts.IoSeat
 use Rattle.pool.specs.contracts.Job
+use Rattle.pool.specs.contracts.errand.Errand
+use Rattle.pool.specs.contracts.errand.Errand.TheInside as errand
 use Rattle.pool.specs.contracts.locked.Locked
 use Rattle.pool.specs.contracts.seat.Seat
 use Rattle.pool.specs.contracts.shared.Shared
@@ -88,20 +90,21 @@ core_send : IsSend (Core.the_row Done.the_row Reply.the_row change.ghosts)
 core_send =
     search (wal.the_send, table.the_send, residency.the_send, logs.the_send, crosses, sendable) depth 100 fits 100000
 
+errand_send : (L : RattleType) (l : Ledger.Ghosts L.Denot) → IsSend (Errand.the_row L l)
+errand_send L l = view_send _ _ _ _ _ (recorded_send (errand.the_field L l).row _ _ (errand.the_type L l).to_one
+    (struct_send (Declared.shape (errand.the_type L l)) (
+      search (crosses, sendable) depth 60 fits 20000,
+      (
+        search (crosses, sendable) depth 60 fits 20000,
+        (search (answer_send L l, crosses, sendable) depth 60 fits 20000, tt),
+      ),
+    )))
+
 work_send : (L : RattleType) (l : Ledger.Ghosts L.Denot) → IsSend (Work.the_row L l)
 work_send L l = view_send _ _ _ _ _ (recorded_send (work.the_field L l).row _ _ (work.the_type L l).to_one
     (struct_send (Declared.shape (work.the_type L l)) (
       search (worker_send, crosses, sendable) depth 60 fits 20000,
-      (
-        view_send _ _ _ _ _ (recorded_send _ _ _ _ (struct_send _ (
-          search (crosses, sendable) depth 60 fits 20000,
-          (
-            search (crosses, sendable) depth 60 fits 20000,
-            (search (answer_send L l, crosses, sendable) depth 60 fits 20000, tt),
-          ),
-        ))),
-        (told.the_field_send, tt),
-      ),
+      (search (errand_send L l, crosses, sendable) depth 20, (told.the_field_send, tt)),
     )))
 
 seat_send : (L S : RattleType) (l : Ledger.Ghosts L.Denot) → IsSend S → IsSend (Seat.the_row L S l)
