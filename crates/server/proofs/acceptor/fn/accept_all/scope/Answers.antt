@@ -2,7 +2,7 @@
 use denote.Param.{param}
 use denote.Param.Send.{sendable}
 use Rattle.std.proofs.Crossing.{crosses}
-use Rattle.server.proofs.Crossing.{server_sync, listed_send}
+use Rattle.server.proofs.Crossing.{listed_send, server_sync}
 use Rattle.server.proofs.acceptor.fn.accept_all.scope.Goals as goal
 
 pub spawn-reader-requires-send-F : goal.spawn-reader-requires-send-F
@@ -13,4 +13,4 @@ spawn-reader-requires-send-F g c κs within =
 
 pub spawn-requires-send-F : goal.spawn-requires-send-F
 spawn-requires-send-F g c κs within =
-    search (listed_send (param 0 g.row.L) g.L.Ledger, c.requires.8, crosses, sendable) depth 60 fits 20000
+    search (listed_send, c.requires.8, crosses, sendable) depth 60 fits 20000
