@@ -7,6 +7,7 @@ ghost use Rattle.inode.specs.declared.stop.Stop.TheVariants as stop;
 ghost use Rattle.procedures.specs.Listing.{entry_room};
 
 use crate::next::Plan;
+use crate::pieces::Pieces;
 use block_files::BlockFiles;
 use files::{Files, Head};
 use inode::{Snap, Stop, ask_block, held};
@@ -20,12 +21,13 @@ use objects::Addr;
 use procedures::{ITSELF_COOKIE, PARENT_COOKIE};
 use std::alloc::{AllocError, Global};
 
-/// Nothing; the blocks of a file that a READ asks for; or what a listing asks for.
+/// Nothing; the blocks of a file that a READ asks for; what a listing asks for; or the bitmaps.
 #[derive(Drop)]
 pub(crate) enum Ahead {
     Nothing,
     Blocks(Blocks),
     Listing(Listing),
+    Pieces(Pieces),
 }
 
 /// The blocks of a file from an index on up to another.
@@ -134,6 +136,7 @@ impl Ahead {
             Ahead::Nothing => Ok(()),
             Ahead::Blocks(blocks) => blocks.go_on(snap),
             Ahead::Listing(listing) => listing.go_on(alloc, snap),
+            Ahead::Pieces(pieces) => pieces.go_on(snap),
         }
     }
 
@@ -258,6 +261,7 @@ fn in_a_row(alloc: Global, call: &Call, snap: &Snap) -> Result<Ahead, Stop> {
                 true,
             )
         }
+        Call::FsStat { .. } => Ok(Ahead::Pieces(Pieces::begin())),
         _ => Ok(Ahead::Nothing),
     }
 }

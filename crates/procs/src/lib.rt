@@ -9,6 +9,7 @@ mod done;
 mod draft;
 mod ends;
 mod next;
+mod pieces;
 mod planner;
 mod reading;
 mod refused;
