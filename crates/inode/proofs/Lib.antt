@@ -9,4 +9,4 @@ pub mod FileSizes
 pub mod BodyThere
 pub mod HeldThere
 pub mod Stops
-pub mod KnownPlaces
+pub mod KnownPositions

@@ -43,17 +43,17 @@ pub(crate) fn walk(objects: &[Object], addr: Addr) -> Option<&Object>
     None
 }
 
-// The object at a place, if it has the address.
-fn at_place(objects: &[Object], place: usize, addr: Addr) -> Option<&Object>
+// The object at a position, if it has the address.
+fn at_position(objects: &[Object], position: usize, addr: Addr) -> Option<&Object>
     ensures some { IfSome result (λ o. same_addr addr o.now.addr ≡ true) }
     ensures there { IfSome result (λ o. Contains objects.now o.now) }
-    ensures none { IfNone result (place < length objects.now
-        → (d : ObjectBytes) → same_addr addr (slice_index_or objects.now place d).addr ≡ false) }
+    ensures none { IfNone result (position < length objects.now
+        → (d : ObjectBytes) → same_addr addr (slice_index_or objects.now position d).addr ≡ false) }
 {
-    if place >= objects.len() {
+    if position >= objects.len() {
         return None;
     }
-    let object = &objects[place];
+    let object = &objects[position];
     if same_addr(addr, object.addr()) {
         Some(object)
     } else {
@@ -61,15 +61,15 @@ fn at_place(objects: &[Object], place: usize, addr: Addr) -> Option<&Object>
     }
 }
 
-// The object of an address, if it stands at one of these places.
-fn look_up<'a>(objects: &'a [Object], places: &[usize], addr: Addr) -> Option<&'a Object>
+// The object of an address, if it stands at one of these positions.
+fn look_up<'a>(objects: &'a [Object], positions: &[usize], addr: Addr) -> Option<&'a Object>
     ensures some { IfSome result (λ o. same_addr addr o.now.addr ≡ true) }
     ensures there { IfSome result (λ o. Contains objects.now o.now) }
-    ensures none { IfNone result ((at : ℕ) → list_any (nat_eq at) places.now ≡ true → at < length objects.now
+    ensures none { IfNone result ((at : ℕ) → list_any (nat_eq at) positions.now ≡ true → at < length objects.now
         → (d : ObjectBytes) → same_addr addr (slice_index_or objects.now at d).addr ≡ false) }
 {
-    for place in places {
-        match at_place(objects, *place, addr) {
+    for position in positions {
+        match at_position(objects, *position, addr) {
             Some(object) => return Some(object),
             None => {}
         }
@@ -94,7 +94,7 @@ pub(crate) fn find<'a>(
     }
 }
 
-// Notes the place of an object, behind those of the objects before it.
+// Notes the position of an object, behind those of the objects before it.
 fn note(index: &mut AddressIndex, objects: &[Object], at: usize) -> Result<(), AllocError>
     requires { at < length objects.now }
     ensures { OnOk result (AreKnown index.old (take at objects.now)
@@ -109,7 +109,7 @@ fn index_of(alloc: Global, objects: &[Object]) -> Result<AddressIndex, AllocErro
     ensures { IfOk result (λ index. AreKnown index objects.now) }
 {
     let mut index = AddressIndex::new(alloc)?;
-    'places: for at in 0..objects.len() {
+    'positions: for at in 0..objects.len() {
         note(&mut index, objects, at)?;
     }
     Ok(index)

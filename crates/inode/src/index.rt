@@ -4,10 +4,10 @@ ghost use Rattle.std.specs.Prelude.{◌≡◌, ◌∷◌, ◌++◌, [], OnOk};
 use std::alloc::{AllocError, Global};
 use std::marker::Model;
 
-// Into how many lists the places are parted. Some 2,000 objects are read for a call at most.
+// Into how many lists the positions are parted. Some 2,000 objects are read for a call at most.
 const BUCKETS: usize = 256;
 
-/// The places of objects in a list, by a key of the address of each. A clause sees the places of each bucket.
+/// The positions of objects in a list, by a key of the address of each. A clause sees the positions of each bucket.
 #[derive(Drop)]
 pub struct AddressIndex {
     buckets: Vec<Vec<usize>>,
@@ -28,9 +28,9 @@ impl Model for AddressIndex {
 
 impl AddressIndex {
     ghost use Rattle.std.specs.Prelude.{◌≡◌, ℕ, true, OnOk};
-    ghost use Rattle.inode.specs.Indexed.{held, is_held};
+    ghost use Rattle.inode.specs.Indexed.{under, is_under};
 
-    /// No place is known yet.
+    /// No position is known yet.
     pub(crate) fn new(alloc: Global) -> Result<AddressIndex, AllocError> {
         let mut buckets = Vec::with_capacity(alloc, BUCKETS)?;
         for _ in 0..BUCKETS {
@@ -39,27 +39,27 @@ impl AddressIndex {
         Ok(AddressIndex { buckets })
     }
 
-    /// The places under a key, among them those under others.
+    /// The positions under a key, among them those under others.
     pub(crate) fn under(&self, key: usize) -> &[usize]
-        ensures { result.now ≡ held key self.now }
+        ensures { result.now ≡ under key self.now }
     {
         &self.buckets[key % BUCKETS]
     }
 
-    /// Notes a place under a key.
-    pub(crate) fn note(&mut self, key: usize, place: usize) -> Result<(), AllocError>
-        ensures there { OnOk result (is_held place key self.new ≡ true) }
-        ensures stays { OnOk result ((other at : ℕ) → is_held at other self.old ≡ true
-            → is_held at other self.new ≡ true) }
+    /// Notes a position under a key.
+    pub(crate) fn note(&mut self, key: usize, position: usize) -> Result<(), AllocError>
+        ensures there { OnOk result (is_under position key self.new ≡ true) }
+        ensures stays { OnOk result ((other at : ℕ) → is_under at other self.old ≡ true
+            → is_under at other self.new ≡ true) }
     {
-        add(&mut self.buckets[key % BUCKETS], place)
+        add(&mut self.buckets[key % BUCKETS], position)
     }
 }
 
-// Adds a place to a bucket.
-fn add(bucket: &mut Vec<usize>, place: usize) -> Result<(), AllocError>
-    ensures { OnOk result (bucket.new.items ≡ bucket.old.items ++ place ∷ []) }
+// Adds a position to a bucket.
+fn add(bucket: &mut Vec<usize>, position: usize) -> Result<(), AllocError>
+    ensures { OnOk result (bucket.new.items ≡ bucket.old.items ++ position ∷ []) }
 {
-    bucket.push(place)?;
+    bucket.push(position)?;
     Ok(())
 }

@@ -23,7 +23,7 @@ pub struct Snap {
 }
 
 impl Snap {
-    ghost use Rattle.std.specs.Prelude.{◌≡◌, false, true, ◌∷◌, [], ◌++◌, length, Contains, None, IfSome, IfNone, OnOk};
+    ghost use Rattle.std.specs.Prelude.{◌≡◌, false, true, ◌∷◌, [], ◌++◌, length, Contains, IfSome, IfNone, OnOk};
     ghost use Rattle.inode.specs.Snap.{HasRoom, is_claimed, is_seen, same_addr};
 
     /// Nothing was read yet.
@@ -92,17 +92,6 @@ impl Snap {
         ensures { result ≡ is_claimed block self.now.claims.items }
     {
         self.claims.iter().any(|claim| block.0 == claim.0)
-    }
-
-    /// Forgets where the objects stand, so that others may be laid in their places.
-    pub fn forget_index(&mut self)
-        ensures index { self.new.index ≡ None }
-        ensures objects { self.new.objects ≡ self.old.objects }
-        ensures geometry { self.new.geometry ≡ self.old.geometry }
-        ensures claims { self.new.claims ≡ self.old.claims }
-        ensures from { self.new.from ≡ self.old.from }
-    {
-        self.index = None;
     }
 
     /// The object of an address, if it was read.

@@ -4,7 +4,7 @@ use Rattle.txn.specs.Object.{ObjectBytes}
 use Rattle.inode.specs.Snap.{same_addr}
 use Rattle.inode.proofs.finding.look_up.Given as goal
 
-abbrev pub invariant-loop-place : goal.invariant-loop-place
-invariant-loop-place l =
-    (at : ℕ) → list_any (nat_eq at) (take l.place-index l.places) ≡ true → at < length l.objects
+abbrev pub invariant-loop-position : goal.invariant-loop-position
+invariant-loop-position l =
+    (at : ℕ) → list_any (nat_eq at) (take l.position-index l.positions) ≡ true → at < length l.objects
     → (d : ObjectBytes) → same_addr l.addr (get_or l.objects at d).addr ≡ false
