@@ -3,11 +3,11 @@
 ghost use Rattle.std.specs.Prelude.{◌≡◌, ◌≤◌, IfErr, IfSome};
 ghost use Rattle.limits.specs.declared.TheConstants.{FILE_INDEXES};
 ghost use Rattle.inode.specs.Over.{MayStop};
-ghost use Rattle.inode.specs.declared.stop.Stop.TheVariants as stop;
 ghost use Rattle.procedures.specs.Listing.{entry_room};
 
 use crate::next::Plan;
 use crate::pieces::Pieces;
+use crate::writing::Writing;
 use block_files::BlockFiles;
 use files::{Files, Head};
 use inode::{Snap, Stop, ask_block, held};
@@ -17,15 +17,15 @@ use limits::{
     TRANSFER_BYTES,
 };
 use nfs_types::{Call, Handle};
-use objects::Addr;
 use procedures::{ITSELF_COOKIE, PARENT_COOKIE};
 use std::alloc::{AllocError, Global};
 
-/// Nothing; the blocks of a file that a READ asks for; what a listing asks for; or the bitmaps.
+/// Nothing; the blocks of a file that a READ asks for; what a WRITE asks for; what a listing asks for; or the bitmaps.
 #[derive(Drop)]
 pub(crate) enum Ahead {
     Nothing,
     Blocks(Blocks),
+    Writing(Writing),
     Listing(Listing),
     Pieces(Pieces),
 }
@@ -135,18 +135,19 @@ impl Ahead {
         match self {
             Ahead::Nothing => Ok(()),
             Ahead::Blocks(blocks) => blocks.go_on(snap),
+            Ahead::Writing(writing) => writing.go_on(snap),
             Ahead::Listing(listing) => listing.go_on(alloc, snap),
             Ahead::Pieces(pieces) => pieces.go_on(snap),
         }
     }
 
-    /// The next object that is asked for: the same until it was read.
-    pub(crate) fn next(&mut self, alloc: Global, snap: &Snap) -> Option<Addr>
-        ensures { IfSome result (λ addr. MayStop snap.now (stop.Need addr)) }
+    /// The next object or block that is asked for: the same until it was read or claimed.
+    pub(crate) fn next(&mut self, alloc: Global, snap: &Snap) -> Option<Stop>
+        ensures { IfSome result (λ why. MayStop snap.now why) }
     {
         match self.go_on(alloc, snap) {
-            Err(Stop::Need(addr)) => Some(addr),
-            _ => None,
+            Ok(()) => None,
+            Err(stop) => Some(stop),
         }
     }
 }
@@ -261,28 +262,42 @@ fn in_a_row(alloc: Global, call: &Call, snap: &Snap) -> Result<Ahead, Stop> {
                 true,
             )
         }
+        Call::Write {
+            file,
+            offset,
+            bytes,
+            ..
+        } => match Writing::begin(snap, file, *offset, bytes.as_slice().len())? {
+            Some(writing) => Ok(Ahead::Writing(writing)),
+            None => Ok(Ahead::Nothing),
+        },
         Call::FsStat { .. } => Ok(Ahead::Pieces(Pieces::begin())),
         _ => Ok(Ahead::Nothing),
     }
 }
 
-/// What a call asks for behind a plan: nothing, unless the plan asks for the next object of what the call asks for in a
-/// row, so that the run has come there.
+// Whether a plan asks for what a position asks for next.
+fn is_asked(plan: &Plan, next: &Option<Stop>) -> bool {
+    match (plan, next) {
+        (Plan::Need(asked, _), Some(Stop::Need(addr))) => *asked == *addr,
+        (Plan::Claim(asked), Some(Stop::Claim(block))) => *asked == *block,
+        _ => false,
+    }
+}
+
+/// What a call asks for behind a plan: nothing, unless the plan asks for the next of what the call asks for in a row, so
+/// that the run has come there.
 pub(crate) fn behind(alloc: Global, call: &Call, snap: &Snap, plan: &Plan) -> Ahead {
-    let Plan::Need(asked, _) = plan else {
+    if !matches!(plan, Plan::Need(..) | Plan::Claim(_)) {
         return Ahead::Nothing;
-    };
+    }
     let Ok(mut ahead) = in_a_row(alloc, call, snap) else {
         return Ahead::Nothing;
     };
-    match ahead.next(alloc, snap) {
-        Some(addr) => {
-            if addr == *asked {
-                ahead
-            } else {
-                Ahead::Nothing
-            }
-        }
-        None => Ahead::Nothing,
+    let next = ahead.next(alloc, snap);
+    if is_asked(plan, &next) {
+        ahead
+    } else {
+        Ahead::Nothing
     }
 }

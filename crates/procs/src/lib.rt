@@ -8,6 +8,7 @@ mod changing;
 mod done;
 mod draft;
 mod ends;
+mod free_blocks;
 mod next;
 mod pieces;
 mod planner;
@@ -16,6 +17,7 @@ mod refused;
 mod rules;
 mod telling;
 mod work;
+mod writing;
 
 pub use anew::plan;
 pub use asks::{

@@ -1,8 +1,8 @@
-//! The pieces of the bitmaps, all of which FSSTAT asks for (RFC 1813, section 3.3.18).
-ghost use Rattle.std.specs.Prelude.{◌+◌, ◌/◌, ◌<◌, IfErr};
+//! The pieces of the bitmaps: FSSTAT asks for all of them (RFC 1813, section 3.3.18).
+ghost use Rattle.std.specs.Prelude.{◌≡◌, ◌+◌, ◌/◌, ◌<◌, length, IfErr, IfOk};
 ghost use Rattle.limits.specs.declared.TheConstants.{FIRST_HOME_BLOCK};
 ghost use Rattle.layout.specs.Geometry.{table_at};
-ghost use Rattle.layout.specs.declared.grid.TheConstants.{PIECES_PER_BLOCK};
+ghost use Rattle.layout.specs.declared.grid.TheConstants.{PIECE_BYTES, PIECES_PER_BLOCK};
 ghost use Rattle.inode.specs.Over.{MayStop};
 
 use inode::{Snap, Stop, bytes_at};
@@ -16,14 +16,15 @@ pub(crate) struct Pieces {
     at: u32,
 }
 
-// Asks for a piece.
-fn ask_piece(snap: &Snap, piece: u32) -> Result<(), Stop>
+/// The bytes of a piece.
+pub(crate) fn piece_bytes(snap: &Snap, piece: u32) -> Result<&[u8], Stop>
     requires { FIRST_HOME_BLOCK + piece / PIECES_PER_BLOCK
         < table_at snap.now.geometry.blocks snap.now.geometry.inodes }
-    ensures { IfErr result (λ why. MayStop snap.now why) }
+    ensures len { IfOk result (λ bytes. length bytes.now ≡ PIECE_BYTES) }
+    ensures err { IfErr result (λ why. MayStop snap.now why) }
 {
     match bytes_at(snap, piece_addr(FIRST_HOME_BLOCK, piece)) {
-        Ok(_) => Ok(()),
+        Ok(bytes) => Ok(bytes),
         Err(stop) => Err(stop),
     }
 }
@@ -40,7 +41,7 @@ impl Pieces {
     {
         let end = PIECES_PER_BLOCK * (snap.geometry.inode_table().0 - FIRST_HOME_BLOCK);
         'pieces: while self.at < end {
-            ask_piece(snap, self.at)?;
+            piece_bytes(snap, self.at)?;
             self.at += 1;
         }
         Ok(())

@@ -2,7 +2,7 @@ use Rattle.std.proofs.Common.{sym, subst, arith}
 use Rattle.limits.specs.declared.TheConstants.{FIRST_HOME_BLOCK}
 use Rattle.bitmap.specs.Pieces.{IsAskedObject}
 use Rattle.bitmap.proofs.Asked.{is_object, may_stop}
-use Rattle.procs.proofs.pieces.ask_piece.Goals as goal
+use Rattle.procs.proofs.pieces.piece_bytes.Goals as goal
 
 pub returns-in-Err : goal.returns-in-Err
 returns-in-Err c =
