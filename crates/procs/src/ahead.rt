@@ -5,6 +5,7 @@ ghost use Rattle.limits.specs.declared.TheConstants.{FILE_INDEXES};
 ghost use Rattle.inode.specs.Over.{MayStop};
 ghost use Rattle.procedures.specs.Listing.{entry_room};
 
+use crate::entering::Entering;
 use crate::next::Plan;
 use crate::pieces::Pieces;
 use crate::writing::Writing;
@@ -16,16 +17,18 @@ use limits::{
     BLOCK_BYTES, ENTRY_BYTES, ENTRY_PLUS_BYTES, LARGEST_FILE, LISTING_BYTES, LISTING_FRAME,
     TRANSFER_BYTES,
 };
-use nfs_types::{Call, Handle};
+use nfs_types::{Call, DirectoryName, Handle};
 use procedures::{ITSELF_COOKIE, PARENT_COOKIE};
 use std::alloc::{AllocError, Global};
 
-/// Nothing; the blocks of a file that a READ asks for; what a WRITE asks for; what a listing asks for; or the bitmaps.
+/// Nothing; the blocks of a file that a READ asks for; what a WRITE asks for; what a name asks for
+/// that a directory gets; what a listing asks for; or the bitmaps.
 #[derive(Drop)]
 pub(crate) enum Ahead {
     Nothing,
     Blocks(Blocks),
     Writing(Writing),
+    Entering(Entering),
     Listing(Listing),
     Pieces(Pieces),
 }
@@ -136,6 +139,7 @@ impl Ahead {
             Ahead::Nothing => Ok(()),
             Ahead::Blocks(blocks) => blocks.go_on(snap),
             Ahead::Writing(writing) => writing.go_on(snap),
+            Ahead::Entering(entering) => entering.go_on(snap),
             Ahead::Listing(listing) => listing.go_on(alloc, snap),
             Ahead::Pieces(pieces) => pieces.go_on(snap),
         }
@@ -216,6 +220,20 @@ fn listing_of(
     Ok(Ahead::Listing(listing))
 }
 
+// What a name asks for that a directory gets.
+fn entering(
+    alloc: Global,
+    snap: &Snap,
+    name: &DirectoryName,
+    makes: bool,
+    has_block: bool,
+) -> Result<Ahead, Stop> {
+    match Entering::begin(alloc, snap, &name.directory, makes, has_block)? {
+        Some(entering) => Ok(Ahead::Entering(entering)),
+        None => Ok(Ahead::Nothing),
+    }
+}
+
 // What a call asks for in a row, from its first object on.
 fn in_a_row(alloc: Global, call: &Call, snap: &Snap) -> Result<Ahead, Stop> {
     match call {
@@ -271,6 +289,11 @@ fn in_a_row(alloc: Global, call: &Call, snap: &Snap) -> Result<Ahead, Stop> {
             Some(writing) => Ok(Ahead::Writing(writing)),
             None => Ok(Ahead::Nothing),
         },
+        Call::Create { name, .. } | Call::MkDir { name, .. } => {
+            entering(alloc, snap, name, true, false)
+        }
+        Call::SymLink { name, .. } => entering(alloc, snap, name, true, true),
+        Call::Link { name, .. } => entering(alloc, snap, name, false, false),
         Call::FsStat { .. } => Ok(Ahead::Pieces(Pieces::begin())),
         _ => Ok(Ahead::Nothing),
     }

@@ -6,7 +6,7 @@ ghost use Rattle.limits.specs.declared.TheConstants.{FILE_INDEXES, LARGEST_FILE}
 ghost use Rattle.layout.specs.Places.{is_data};
 ghost use Rattle.inode.specs.Over.{MayStop};
 
-use crate::free_blocks::{FreeBlocks, Room};
+use crate::free::{FreeBlocks, Room};
 use disk::BlockNo;
 use file_writes::unmapped;
 use inode::{Snap, Stop, block_number, data_block, held};
@@ -111,7 +111,7 @@ impl Writing {
     fn pay(&mut self, snap: &Snap) -> Result<(), Stop>
         ensures { IfErr result (λ why. MayStop snap.now why) }
     {
-        'owed: for _ in 0..self.owed {
+        'owed: while self.owed > 0 {
             self.free.take(snap)?;
             self.owed -= 1;
         }

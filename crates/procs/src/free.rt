@@ -1,5 +1,5 @@
-//! Free blocks that a call asks for behind a run: whether there are enough of them, and each as a claim. These are
-//! positions, of which nothing is claimed.
+//! What is free, as a call asks for it behind a run: whether there are enough blocks, each of them as a claim, and a
+//! number that no file has. These are positions, of which nothing is claimed.
 ghost use Rattle.std.specs.Prelude.{◌≡◌, ◌*◌, ◌+◌, ◌-◌, ◌<◌, ◌≤◌, length, true, IfErr, IfSome};
 ghost use Rattle.limits.specs.declared.TheConstants.{FIRST_HOME_BLOCK};
 ghost use Rattle.layout.specs.Geometry.{inode_bitmap_at};
@@ -28,6 +28,12 @@ pub(crate) struct Room {
 pub(crate) struct FreeBlocks {
     passed: u32,
     bit: u32,
+}
+
+/// How many pieces of the bitmap of inodes were gone through for a number that no file has.
+#[derive(Drop)]
+pub(crate) struct FreeNumber {
+    passed: u32,
 }
 
 // How many pieces the bitmap of blocks has.
@@ -130,5 +136,28 @@ impl FreeBlocks {
             }
         }
         Ok(())
+    }
+}
+
+impl FreeNumber {
+    /// No bit was looked at.
+    pub(crate) fn begin() -> FreeNumber {
+        FreeNumber { passed: 0 }
+    }
+
+    /// The first number that no file has, if there is one. Asks for the pieces up to its bit.
+    pub(crate) fn find(&mut self, snap: &Snap) -> Result<Option<u32>, Stop>
+        ensures { IfErr result (λ why. MayStop snap.now why) }
+    {
+        let first = pieces_of_blocks(snap);
+        let pieces = PIECES_PER_BLOCK * (snap.geometry.inode_table().0 - FIRST_HOME_BLOCK) - first;
+        'pieces: for passed in self.passed..pieces {
+            self.passed = passed;
+            let bytes = piece_bytes(snap, first + passed)?;
+            if let Some(bit) = clear_from(bytes, 0) {
+                return Ok(Some(PIECE_BITS * passed + bit));
+            }
+        }
+        Ok(None)
     }
 }
