@@ -12,6 +12,6 @@ mod taking;
 pub use finding::{new_block, new_number};
 pub use laws::the_clear_bits_are_what_is_free;
 pub use marking::{mark_block, mark_number};
-pub use pieces::{free_blocks, free_numbers, start_in};
+pub use pieces::{free_blocks, free_numbers};
 pub use room::is_room;
 pub use taking::take_block;

@@ -19,7 +19,7 @@ use layout_records::{clear_in, piece_addr};
 use limits::FIRST_HOME_BLOCK;
 
 /// The piece from which a bitmap of so many is gone through: this one, if there is one, or else the first.
-pub fn start_in(from: u32, pieces: u32) -> u32
+pub(crate) fn start_in(from: u32, pieces: u32) -> u32
     ensures within { result ≤ pieces }
     ensures same { from < pieces → result ≡ from }
 {

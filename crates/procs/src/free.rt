@@ -7,7 +7,6 @@ ghost use Rattle.layout.specs.declared.grid.TheConstants.{PIECE_BITS, PIECE_BYTE
 ghost use Rattle.inode.specs.Over.{MayStop};
 
 use crate::pieces::piece_bytes;
-use bitmap::start_in;
 use disk::BlockNo;
 use inode::{Snap, Stop};
 use layout::{PIECE_BITS, PIECES_PER_BLOCK};
@@ -48,7 +47,7 @@ fn piece_behind(snap: &Snap, pieces: u32, passed: u32) -> u32
     requires { passed < pieces }
     ensures { result < pieces }
 {
-    let start = start_in(snap.from, pieces);
+    let start = if snap.from < pieces { snap.from } else { 0 };
     let behind = pieces - start;
     if passed < behind {
         start + passed
