@@ -64,9 +64,9 @@ fn clear_from(bytes: &[u8], from: u32) -> Option<u32>
     let first = (from / 8) as usize;
     'bytes: for at in first..bytes.len() {
         let below = if at == first { from % 8 } else { 0 };
-        let byte = bytes[at] | !(255 << below);
-        if byte != 255 {
-            return Some(8 * at as u32 + byte.trailing_ones());
+        let bit = (bytes[at] | !(255 << below)).trailing_ones();
+        if bit < 8 {
+            return Some(8 * at as u32 + bit);
         }
     }
     None
