@@ -1,4 +1,4 @@
-use Rattle.std.proofs.Common.{◌≡◌, ◌∙◌, ◌+◌, ◌-◌, ◌<◌, ap, subst, ℕ, length, arith}
+use Rattle.std.proofs.Common.{◌∙◌, ◌-◌, ◌<◌, ap, subst, ℕ, arith}
 use Rattle.store_promise.specs.Aims.{rank_of}
 use Rattle.store_workers.proofs.Above.{above_last, above_none, is_less}
 use Rattle.store_workers.proofs.workers.known.is_above.Goals as goal
