@@ -1,7 +1,7 @@
 //! The table of what is taken.
-ghost use Rattle.std.specs.Prelude.{◌≡◌, ◌↔◌, IsTrue, Contains, [], is_some};
+ghost use Rattle.std.specs.Prelude.{◌≡◌, ◌↔◌, IsTrue, Contains, [], is_some, OnOk, OnErr};
 ghost use Rattle.objects.specs.declared.mode.Mode.TheVariants as modes;
-ghost use Rattle.txn_law.specs.Holds.{IsFree, hold_of, is_read, is_written, released};
+ghost use Rattle.txn_law.specs.Holds.{IsFree, with_hold, hold_of, is_read, is_written, released};
 ghost use Rattle.txn_law.specs.Tidy.{AreApart};
 ghost use Rattle.txn_law.specs.declared.hold.Hold.{Hold};
 ghost use Rattle.locks.specs.Taking.{IsTaking};
@@ -9,7 +9,7 @@ ghost use Rattle.locks.specs.Taking.{IsTaking};
 use crate::looks::{is_free, is_held_by, is_read_by, is_written_by};
 use crate::taking::{note, release};
 use objects::{Addr, Mode};
-use std::alloc::Global;
+use std::alloc::{AllocError, Global};
 use std::marker::Model;
 use txn_law::Hold;
 
@@ -77,11 +77,22 @@ impl Table {
         if !self.is_free(hold.transaction, hold.addr, hold.mode) {
             return Take::Busy;
         }
-        if self.holds.reserve(1).is_err() {
-            return Take::NoMemory;
+        match self.take_free(hold) {
+            Ok(()) => Take::Held,
+            Err(_) => Take::NoMemory,
         }
+    }
+
+    /// Takes what a wish is for that nothing keeps off, beside what its transaction has taken of the address. Where there
+    /// is no room nothing changes.
+    pub fn take_free(&mut self, hold: Hold) -> Result<(), AllocError>
+        requires { IsFree self.old hold.transaction hold.addr hold.mode }
+        ensures taken { OnOk result (self.new ≡ with_hold self.old hold) }
+        ensures refused { OnErr result (self.new ≡ self.old) }
+    {
+        self.holds.reserve(1)?;
         note(&mut self.holds, hold);
-        Take::Held
+        Ok(())
     }
 
     /// Lets go of all that the transaction has taken, and of nothing that others took.

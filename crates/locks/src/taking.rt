@@ -1,5 +1,5 @@
 //! What is taken, and let go again.
-ghost use Rattle.std.specs.Prelude.{◌≡◌, ◌<◌, ◌≤◌, vec_len, vec_capacity};
+ghost use Rattle.std.specs.Prelude.{◌≡◌, ◌<◌, ◌≤◌, ◌++◌, ◌∷◌, [], vec_len, vec_capacity};
 ghost use Rattle.txn_law.specs.Holds.{joined, without_hold, with_hold, released};
 
 use crate::looks::hold_of;
@@ -11,9 +11,21 @@ pub(crate) fn note(holds: &mut Vec<Hold>, hold: Hold)
     requires { vec_len holds.old < vec_capacity holds.old }
     ensures { holds.new.items ≡ with_hold holds.old.items hold }
 {
-    let joined = joined(hold_of(holds, hold.transaction, hold.addr), hold);
-    let_go(holds, hold.transaction, hold.addr);
-    match holds.push(joined) {
+    match hold_of(holds, hold.transaction, hold.addr) {
+        Some(had) => {
+            let_go(holds, hold.transaction, hold.addr);
+            add(holds, joined(Some(had), hold));
+        }
+        None => add(holds, hold),
+    }
+}
+
+// Adds a hold, for which there is room.
+fn add(holds: &mut Vec<Hold>, hold: Hold)
+    requires { vec_len holds.old < vec_capacity holds.old }
+    ensures { holds.new.items ≡ holds.old.items ++ hold ∷ [] }
+{
+    match holds.push(hold) {
         Ok(()) => {}
         Err(_) => unreachable!(),
     }

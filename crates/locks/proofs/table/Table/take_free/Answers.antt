@@ -4,12 +4,11 @@ use Rattle.txn_law.specs.Tidy.{AreApart}
 use Rattle.txn_law.specs.declared.hold.Hold.{Hold}
 use Rattle.txn_law.proofs.Tidied.{apart_with}
 use Rattle.locks.specs.Taking.{IsFreeFor}
-use Rattle.locks.proofs.table.Table.take.Goals as goal
+use Rattle.locks.proofs.table.Table.take_free.Goals as goal
 
 pub invariant_of-self-2 : goal.invariant_of-self-2
 invariant_of-self-2 c =
-    let free : IsFreeFor c.args.self.now c.args.hold = c.is_free.ensures.0 c.if-not-is_free.false in
     subst AreApart
     (sym (c.note.ensures ∙ ap (λ (holds : List Hold). with_hold holds c.args.hold) c.reserve.ensures.items))
     (apart_with c.self.inside.holds.items c.args.hold c.self.invariant
-    (subst (λ (holds : List Hold). IsFreeFor holds c.args.hold) (sym c.self.view_is) free))
+    (subst (λ (holds : List Hold). IsFreeFor holds c.args.hold) (sym c.self.view_is) c.requires))
