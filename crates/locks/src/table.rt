@@ -6,6 +6,7 @@ ghost use Rattle.txn_law.specs.Tidy.{AreApart};
 ghost use Rattle.txn_law.specs.declared.hold.Hold.{Hold};
 ghost use Rattle.locks.specs.Taking.{IsTaking};
 
+use crate::index::Index;
 use crate::looks::{is_free, is_held_by, is_read_by, is_written_by};
 use crate::taking::{note, release};
 use objects::{Addr, Mode};
@@ -27,6 +28,7 @@ pub enum Take {
 #[derive(Drop)]
 pub struct Table {
     holds: Vec<Hold>,
+    index: Index,
 }
 
 impl Model for Table {
@@ -37,9 +39,9 @@ impl Model for Table {
 
     ghost view = { λ table. table.holds.items };
 
-    ghost use Rattle.txn_law.specs.Tidy.{AreApart};
+    ghost use Rattle.locks.specs.Index.{IsSound};
 
-    ghost invariant = { λ table. AreApart table.holds.items };
+    ghost invariant = { IsSound };
 }
 
 impl Table {
@@ -49,6 +51,7 @@ impl Table {
     {
         Table {
             holds: Vec::new(alloc),
+            index: Index::new(alloc),
         }
     }
 
@@ -91,7 +94,8 @@ impl Table {
         ensures refused { OnErr result (self.new ≡ self.old) }
     {
         self.holds.reserve(1)?;
-        note(&mut self.holds, hold);
+        self.index.make_room(hold.addr.block)?;
+        note(&mut self.holds, &mut self.index, hold);
         Ok(())
     }
 
@@ -99,7 +103,7 @@ impl Table {
     pub fn release_all(&mut self, transaction: u64)
         ensures { self.new ≡ released self.old transaction }
     {
-        release(&mut self.holds, transaction);
+        release(&mut self.holds, &mut self.index, transaction);
     }
 
     /// Whether of what keeps the wish off nothing has a byte of the address, but what this transaction has taken
@@ -107,27 +111,27 @@ impl Table {
     pub fn is_free(&self, transaction: u64, addr: Addr, mode: Mode) -> bool
         ensures { IsTrue result ↔ IsFree self.now transaction addr mode }
     {
-        is_free(&self.holds, transaction, addr, mode)
+        is_free(&self.holds, &self.index, transaction, addr, mode)
     }
 
     /// Whether the transaction has taken the address.
     pub fn is_held_by(&self, transaction: u64, addr: Addr) -> bool
         ensures { result ≡ is_some (hold_of self.now transaction addr) }
     {
-        is_held_by(&self.holds, transaction, addr)
+        is_held_by(&self.holds, &self.index, transaction, addr)
     }
 
     /// Whether the transaction holds the address for reading.
     pub fn is_read_by(&self, transaction: u64, addr: Addr) -> bool
         ensures { result ≡ is_read (hold_of self.now transaction addr) }
     {
-        is_read_by(&self.holds, transaction, addr)
+        is_read_by(&self.holds, &self.index, transaction, addr)
     }
 
     /// Whether the transaction holds the address for writing: alone, and read or claimed.
     pub fn is_written_by(&self, transaction: u64, addr: Addr) -> bool
         ensures { result ≡ is_written (hold_of self.now transaction addr) }
     {
-        is_written_by(&self.holds, transaction, addr)
+        is_written_by(&self.holds, &self.index, transaction, addr)
     }
 }
