@@ -1,5 +1,5 @@
 -- What follows from what the program did.
-use Rattle.std.proofs.Common.{◌≡◌, ◌∙◌, ℕ, ◌-◌, ◌⊎◌, ap, inl, inr, List, Option, Ok, Err, arith, refl, subst}
+use Rattle.std.proofs.Common.{◌≡◌, ◌∙◌, ℕ, ◌-◌, ◌⊎◌, ap, inl, inr, List, Option, Ok, Err, arith, refl, subst, subst₂}
 use Rattle.std.proofs.Common.{Bool, Bor, None, Result, Some, false, sym, true}
 use Rattle.std.specs.Prelude.{IfErr, IfOk, OnOk}
 use Rattle.std.specs.Io.KnownBytes.{Appends}
@@ -22,15 +22,16 @@ use Rattle.nfsd.specs.declared.fault.Fault.{Fault}
 use Rattle.nfsd.specs.declared.fault.Fault.TheVariants as fault
 use Rattle.nfsd.specs.Done.{Answers, DoesCommand, FormatsDevice, FormatsImage, IsWithoutMemory, Obeys, Outcome}
 use Rattle.nfsd.specs.Done.{ServesClients, ServesDevice, ServesImage, ServesImageOnce, TellsOutcome, Told}
-use Rattle.nfsd.specs.Done.{formatted_line, moment_at, outcome_of_server}
+use Rattle.nfsd.specs.Done.{formatted_line, left_of_server, moment_at, outcome_of_server}
 use Rattle.nfsd.specs.Faults.{status_of_outcome}
+use Rattle.nfsd.specs.Left.{Left, nothing_left}
 use Rattle.nfsd.specs.Lines.{IsAnnouncedBy}
 use Rattle.nfsd.specs.Looked.{ChecksImage, ShowsImage}
 use Rattle.nfsd.specs.Scripts.{RunsScript}
 
 -- the command that was asked for was done, so the arguments were obeyed
 pub obeys_command : (first : FirstContents) (words : List Text) (args : Args) (client : Client)
-    (outcome : Outcome) (device : Option Device) (later : Client) → WordsAsk words args
+    (outcome : Outcome) (device : Left) (later : Client) → WordsAsk words args
     → DoesCommand first args client outcome device later → Obeys first words client outcome device later
 obeys_command first words (Format image blocks inodes time) client (Err fault.NotText) device later asks does =
     absurd does.1.4
@@ -104,22 +105,25 @@ serves old new time client later opened store moment result outcome opens at ser
 
 -- a device was opened, and what comes of it is what came of its server, which printed where it listens as that tells
 pub listens : (old : Device) (written written' : Option (List ℕ)) (opened : Opened) (address : List ℕ)
-    (ended : Result Ended ServeFault) (outcome : Outcome) (device : Option Device)
+    (ended : Result Ended ServeFault) (outcome : Outcome) (left : Left)
     → HasOpened old (Ok opened) → IsAnnouncedBy written address ended written'
     → IfOk ended (λ core. core.core.boot ≡ opened.core.boot)
-    → outcome ≡ outcome_of_server ended → ServesClients old written outcome device written'
-listens old written written' opened address ended outcome device opens printed boot is =
-    subst (λ (o : Outcome). ServesClients old written o device written') (sym is) (go ended printed boot)
+    → outcome ≡ outcome_of_server ended → left ≡ left_of_server ended → ServesClients old written outcome left written'
+listens old written written' opened address ended outcome left opens printed boot is left_is =
+    subst₂ (λ (o : Outcome) (l : Left). ServesClients old written o l written') (sym is) (sym left_is)
+    (go ended printed boot)
   where
     go : (ended : Result Ended ServeFault) → IsAnnouncedBy written address ended written'
         → IfOk ended (λ core. core.core.boot ≡ opened.core.boot)
-        → ServesClients old written (outcome_of_server ended) device written'
+        → ServesClients old written (outcome_of_server ended) (left_of_server ended) written'
     go (Ok core) line boot = (
       opened,
       opens,
       address,
       line,
-      record { core = core.core; boot_is = boot; settled = core.settled; sound = core.sound },
+      core.core,
+      refl,
+      record { boot_is = boot; settled = core.settled; sound = core.sound },
     )
     go (Err server.Memory) same boot = (opened, opens, same)
     go (Err server.Output) whatever boot = (opened, opens)
@@ -127,7 +131,7 @@ listens old written written' opened address ended outcome device opens printed b
 
 -- an image's file was formatted, so the command was done
 pub formats_command : (first : FirstContents) (image : Bor Text) (blocks : Option ℕ) (inodes time : ℕ) (client : Client)
-    (outcome : Outcome) (device : Option Device) (later : Client) → later.unread ≡ client.unread
+    (outcome : Outcome) (device : Left) (later : Client) → later.unread ≡ client.unread
     → FormatsImage first image.now blocks inodes time client.written outcome device later.written
     → DoesCommand first (Format image blocks inodes time) client outcome device later
 formats_command first image blocks inodes time client (Err (fault.File trouble)) device later unread formats =
@@ -136,14 +140,14 @@ formats_command first image blocks inodes time client outcome device later unrea
 
 -- an image's file was served from, so the command was done
 pub serves_command : (first : FirstContents) (image : Bor Text) (time : ℕ) (client : Client) (outcome : Outcome)
-    (device : Option Device) (later : Client) → ServesImageOnce first image.now time client outcome device later
+    (device : Left) (later : Client) → ServesImageOnce first image.now time client outcome device later
     → DoesCommand first (Once image time) client outcome device later
 serves_command first image time client (Err (fault.File trouble)) device later serves =
     (serves.0, serves.1, inl serves.2)
 serves_command first image time client outcome device later serves = serves
 
 pub listens_command : (first : FirstContents) (image listen : Bor Text) (workers connections : ℕ) (client : Client)
-    (outcome : Outcome) (device : Option Device) (later : Client) → later.unread ≡ client.unread
+    (outcome : Outcome) (device : Left) (later : Client) → later.unread ≡ client.unread
     → ServesImage first image.now listen.now client.written outcome device later.written
     → DoesCommand first (Serve image listen workers connections) client outcome device later
 listens_command first image listen workers connections client (Err (fault.File trouble)) device later unread serves =
@@ -151,7 +155,7 @@ listens_command first image listen workers connections client (Err (fault.File t
 listens_command first image listen workers connections client outcome device later unread serves = (unread, serves)
 
 -- an image's file was looked at, so the command was done
-pub checks_command : (first : FirstContents) (image : Bor Text) (client : Client) (outcome : Outcome) (device : Option Device)
+pub checks_command : (first : FirstContents) (image : Bor Text) (client : Client) (outcome : Outcome) (device : Left)
     (later : Client) → later.unread ≡ client.unread
     → ChecksImage first image.now client.written outcome device later.written
     → DoesCommand first (Check image) client outcome device later
@@ -159,7 +163,7 @@ checks_command first image client (Err (fault.File trouble)) device later unread
     (same_client client later unread checks.0, checks.1, inl checks.2)
 checks_command first image client outcome device later unread checks = (unread, checks)
 
-pub shows_command : (first : FirstContents) (image : Bor Text) (client : Client) (outcome : Outcome) (device : Option Device)
+pub shows_command : (first : FirstContents) (image : Bor Text) (client : Client) (outcome : Outcome) (device : Left)
     (later : Client) → later.unread ≡ client.unread
     → ShowsImage first image.now client.written outcome device later.written
     → DoesCommand first (Show image) client outcome device later
@@ -168,8 +172,8 @@ shows_command first image client (Err (fault.File trouble)) device later unread 
 shows_command first image client outcome device later unread shows = (unread, shows)
 
 -- a script was run, so the command was done
-pub runs_command : (first : FirstContents) (script : Bor Text) (stops : Bool) (client : Client) (outcome : Outcome) (device : Option Device)
-    (later : Client) → device ≡ None → later.unread ≡ client.unread
+pub runs_command : (first : FirstContents) (script : Bor Text) (stops : Bool) (client : Client) (outcome : Outcome) (device : Left)
+    (later : Client) → device ≡ nothing_left → later.unread ≡ client.unread
     → RunsScript stops script.now client.written outcome later.written
     → DoesCommand first (Sim script stops) client outcome device later
 runs_command first script stops client (Err (fault.File trouble)) device later none unread runs =
@@ -178,7 +182,7 @@ runs_command first script stops client outcome device later none unread runs = (
 
 -- with status 2 the arguments have no meaning
 obeys_two : (first : FirstContents) (words : List Text) (client : Client) (outcome : Outcome)
-    (device : Option Device) (later : Client) → Obeys first words client outcome device later
+    (device : Left) (later : Client) → Obeys first words client outcome device later
     → status_of_outcome outcome ≡ 2 → ¬ HasMeaning words
 obeys_two first words client (Err fault.NotText) device later obeys status = absurd obeys
 obeys_two first words client (Err (fault.Words e)) device later obeys status = obeys.0
@@ -186,7 +190,7 @@ obeys_two first words client outcome device later obeys status = absurd (omega a
 
 -- arguments without a meaning end with status 2, or there was no memory to read them
 obeys_none : (first : FirstContents) (words : List Text) (client : Client) (outcome : Outcome)
-    (device : Option Device) (later : Client) → Obeys first words client outcome device later
+    (device : Left) (later : Client) → Obeys first words client outcome device later
     → ¬ HasMeaning words → (status_of_outcome outcome ≡ 2) ⊎ (outcome ≡ Err fault.Memory)
 obeys_none first words client (Err fault.NotText) device later obeys none = absurd obeys
 obeys_none first words client (Err fault.Memory) device later obeys none = inr refl
@@ -194,7 +198,7 @@ obeys_none first words client (Err (fault.Words e)) device later obeys none = in
 obeys_none first words client outcome device later obeys none = absurd (none (obeys.0, obeys.1))
 
 module _ {first : FirstContents} {words : List Text} {client : Client} {told : Told}
-    {written : Option (List ℕ)} {status : ℕ} {device : Option Device} {later : Client} {told' : Told}
+    {written : Option (List ℕ)} {status : ℕ} {device : Left} {later : Client} {told' : Told}
     {written' : Option (List ℕ)} where
   pub refused : Answers first words client told written status device later told' written' → status ≡ 2
       → ¬ HasMeaning words

@@ -5,7 +5,6 @@ use Rattle.std.specs.Io.KnownBytes.{Appends}
 use Rattle.std.specs.declared.io.Error.{Error}
 use Rattle.clap.specs.Words.{Text}
 use Rattle.limits.specs.declared.TheConstants.{MOST_BLOCKS}
-use Rattle.disk.specs.declared.file.BlockFile
 use Rattle.disk.specs.declared.file.FirstContents.{FirstContents}
 use Rattle.disk.specs.Device.{Device}
 use Rattle.disk.specs.File.{file_device, first_in}
@@ -19,14 +18,14 @@ use Rattle.layout.specs.Geometry.{data_at}
 use Rattle.store_images.specs.Formatting.{HasFormatted}
 use Rattle.store_images.specs.Opening.{HasOpened, Opened}
 use Rattle.session.specs.Serving.{Client, HasServed}
+use Rattle.pool.specs.declared.ending.Ended.{Ended}
 use Rattle.server.specs.declared.threads.ServeFault.{ServeFault}
 use Rattle.server.specs.declared.threads.ServeFault.TheVariants as server
 use Rattle.session.specs.declared.serving.SessionFault.TheVariants as session
 use Rattle.nfsd.specs.declared.fault.Fault.{Fault}
 use Rattle.nfsd.specs.declared.fault.Fault.TheVariants as fault
-use Rattle.nfsd.specs.declared.image_disk.ImageDisk.{ImageDisk}
-use Rattle.nfsd.specs.declared.image_disk.ImageDisk.TheVariants.{Plain, Watched}
 use Rattle.nfsd.specs.Faults.{IsAbout, as_line, fault_line, status_of_outcome}
+use Rattle.nfsd.specs.Left.{Left, nothing_left, with_core, with_device}
 use Rattle.nfsd.specs.Lines.{listening_line}
 use Rattle.nfsd.specs.Looked.{ChecksImage, ShowsImage}
 use Rattle.nfsd.specs.Scripts.{RunsScript}
@@ -74,26 +73,31 @@ abbrev pub IsAnnounced : Device → Option (List ℕ) → Option (List ℕ) → 
 IsAnnounced old written written' = (opened : Opened) × HasOpened old (Ok opened)
     × (address : List ℕ) × Appends written written' (listening_line address)
 
--- each commit of a core that came of this store is settled
-pub record HasEnded (opened : Opened) : Type 0 where
-  pub core : CoreState
+-- each commit of this core, which came out of a server of this store, is settled
+pub record HasEnded (opened : Opened) (core : CoreState) : Type 0 where
   pub boot_is : core.boot ≡ opened.core.boot
   pub settled : settled_place core.log ≡ core.log.places
   pub sound : core.log.broken ≡ false
 
--- `serve` of a device: it was opened as a store, where it listens was printed, its clients were served, and all is
--- settled; or that device failed; or it was opened and that couldn't be printed, or no memory was left to begin with, and nothing was printed; or it was
+-- `serve` of a device: it was opened as a store, where it listens was printed, its clients were served, and a core is
+-- handed out in which all is settled; or that device failed; or it was opened and that couldn't be printed, or no memory was left to begin with, and nothing was printed; or it was
 -- refused, and nothing was printed
-abbrev pub ServesClients : Device → Option (List ℕ) → Outcome → Option Device → Option (List ℕ) → Type 0
-ServesClients old written (Ok done) device written' = (opened : Opened) × HasOpened old (Ok opened)
-    × (address : List ℕ) × Appends written written' (listening_line address) × HasEnded opened
-ServesClients old written (Err (fault.Session session.NoMemory)) device written' = (opened : Opened)
+abbrev pub ServesClients : Device → Option (List ℕ) → Outcome → Left → Option (List ℕ) → Type 0
+ServesClients old written (Ok done) left written' = (opened : Opened) × HasOpened old (Ok opened)
+    × (address : List ℕ) × Appends written written' (listening_line address)
+    × (core : CoreState) × (left ≡ with_core core) × HasEnded opened core
+ServesClients old written (Err (fault.Session session.NoMemory)) left written' = (opened : Opened)
     × HasOpened old (Ok opened) × (written' ≡ written)
-ServesClients old written (Err (fault.Session why)) device written' = IsAnnounced old written written'
-ServesClients old written (Err fault.Print) device written' = (opened : Opened) × HasOpened old (Ok opened)
-ServesClients old written (Err (fault.Open why)) device written' = (new : Device) × (device ≡ Some new)
+ServesClients old written (Err (fault.Session why)) left written' = IsAnnounced old written written'
+ServesClients old written (Err fault.Print) left written' = (opened : Opened) × HasOpened old (Ok opened)
+ServesClients old written (Err (fault.Open why)) left written' = (new : Device) × (left ≡ with_device new)
     × HasOpened old (Err (new, why)) × (written' ≡ written)
-ServesClients old written (Err other) device written' = ⊥
+ServesClients old written (Err other) left written' = ⊥
+
+-- what is left of a server by how it ended: its core, where that is well
+abbrev pub left_of_server : Result Ended ServeFault → Left
+left_of_server (Ok ended) = with_core ended.core
+left_of_server (Err why) = nothing_left
 
 -- what comes of a server by how it ended
 abbrev pub outcome_of_server : {T : Type 0} → Result T ServeFault → Outcome
@@ -106,43 +110,34 @@ outcome_of_server (Err server.Device) = Err (fault.Session session.Device)
 abbrev pub device_of : FirstContents → ℕ → Device
 device_of first size = file_device (first_in first.blocks.items) size []
 
--- the device that a command left
-abbrev pub device_in : {F W : Type 0} {f : BlockFile.Ghosts F} {w : BlockFile.Ghosts W} → Option (ImageDisk F W f w)
-    → Option Device
-device_in None = None
-device_in (Some (Plain left)) =
-    Some (file_device (first_in left.value.first.blocks.items) left.value.blocks left.value.file.calls.items)
-device_in (Some (Watched left)) =
-    Some (file_device (first_in left.value.first.blocks.items) left.value.blocks left.value.file.calls.items)
-
 -- so many blocks are as many as are asked for, or no more than the most of an image, where no number is
 abbrev pub AreAsked : Option ℕ → ℕ → Type 0
 AreAsked None size = size ≤ MOST_BLOCKS
 AreAsked (Some asked) size = size ≡ asked
 
 -- `format` of an image's file: what lies there was made an image; or it can't be had, and nothing was printed
-abbrev pub FormatsImage : FirstContents → Text → Option ℕ → ℕ → ℕ → Option (List ℕ) → Outcome → Option Device → Option (List ℕ) → Type 0
-FormatsImage first image blocks inodes time written (Err (fault.File trouble)) device written' =
-    (written' ≡ written) × (device ≡ None) × IsAbout trouble image
-FormatsImage first image blocks inodes time written outcome device written' = (size : ℕ) × (new : Device)
-    × AreAsked blocks size × (device ≡ Some new)
+abbrev pub FormatsImage : FirstContents → Text → Option ℕ → ℕ → ℕ → Option (List ℕ) → Outcome → Left → Option (List ℕ) → Type 0
+FormatsImage first image blocks inodes time written (Err (fault.File trouble)) left written' =
+    (written' ≡ written) × (left ≡ nothing_left) × IsAbout trouble image
+FormatsImage first image blocks inodes time written outcome left written' = (size : ℕ) × (new : Device)
+    × AreAsked blocks size × (left ≡ with_device new)
     × FormatsDevice (device_of first size) inodes time written outcome new written'
 
 -- `once` of an image's file; or it can't be had, and nothing was read or printed
-abbrev pub ServesImageOnce : FirstContents → Text → ℕ → Client → Outcome → Option Device → Client → Type 0
-ServesImageOnce first image time client (Err (fault.File trouble)) device later =
-    (later ≡ client) × (device ≡ None) × IsAbout trouble image
-ServesImageOnce first image time client outcome device later = (size : ℕ) × (new : Device)
-    × (device ≡ Some new) × ServesDevice (device_of first size) time client outcome new later
+abbrev pub ServesImageOnce : FirstContents → Text → ℕ → Client → Outcome → Left → Client → Type 0
+ServesImageOnce first image time client (Err (fault.File trouble)) left later =
+    (later ≡ client) × (left ≡ nothing_left) × IsAbout trouble image
+ServesImageOnce first image time client outcome left later = (size : ℕ) × (new : Device)
+    × (left ≡ with_device new) × ServesDevice (device_of first size) time client outcome new later
 
 -- `serve` of an image's file at an address; or one of them can't be had, and nothing was printed
-abbrev pub ServesImage : FirstContents → Text → Text → Option (List ℕ) → Outcome → Option Device → Option (List ℕ) → Type 0
-ServesImage first image listen written (Err (fault.File trouble)) device written' =
-    (written' ≡ written) × (device ≡ None) × IsAbout trouble image
-ServesImage first image listen written (Err (fault.Address trouble)) device written' =
-    (written' ≡ written) × (device ≡ None) × IsAbout trouble listen
-ServesImage first image listen written outcome device written' = (size : ℕ)
-    × ServesClients (device_of first size) written outcome device written'
+abbrev pub ServesImage : FirstContents → Text → Text → Option (List ℕ) → Outcome → Left → Option (List ℕ) → Type 0
+ServesImage first image listen written (Err (fault.File trouble)) left written' =
+    (written' ≡ written) × (left ≡ nothing_left) × IsAbout trouble image
+ServesImage first image listen written (Err (fault.Address trouble)) left written' =
+    (written' ≡ written) × (left ≡ nothing_left) × IsAbout trouble listen
+ServesImage first image listen written outcome left written' = (size : ℕ)
+    × ServesClients (device_of first size) written outcome left written'
 
 -- the image of a command, or its script
 abbrev pub image_of : Args → Text
@@ -156,32 +151,32 @@ image_of (Sim script stops) = script.now
 -- The command that is asked for was done to the device of a file that held this, this came of it, and the device
 -- is handed back as that left it, but for a device that was served from; or a script was run; or there is no
 -- device, and the fault is that of the file, of what closed streams are filled from, or of the address.
-abbrev pub DoesCommand : FirstContents → Args → Client → Outcome → Option Device → Client → Type 0
-DoesCommand first args client (Err (fault.File trouble)) device later = (later ≡ client) × (device ≡ None)
+abbrev pub DoesCommand : FirstContents → Args → Client → Outcome → Left → Client → Type 0
+DoesCommand first args client (Err (fault.File trouble)) left later = (later ≡ client) × (left ≡ nothing_left)
     × (IsAbout trouble (image_of args) ⊎ IsAbout trouble (codes "/dev/null"))
-DoesCommand first (Format image blocks inodes time) client outcome device later = (later.unread ≡ client.unread)
-    × FormatsImage first image.now blocks inodes time client.written outcome device later.written
-DoesCommand first (Once image time) client outcome device later =
-    ServesImageOnce first image.now time client outcome device later
-DoesCommand first (Serve image listen workers connections) client outcome device later =
+DoesCommand first (Format image blocks inodes time) client outcome left later = (later.unread ≡ client.unread)
+    × FormatsImage first image.now blocks inodes time client.written outcome left later.written
+DoesCommand first (Once image time) client outcome left later =
+    ServesImageOnce first image.now time client outcome left later
+DoesCommand first (Serve image listen workers connections) client outcome left later =
     (later.unread ≡ client.unread)
-    × ServesImage first image.now listen.now client.written outcome device later.written
-DoesCommand first (Check image) client outcome device later = (later.unread ≡ client.unread)
-    × ChecksImage first image.now client.written outcome device later.written
-DoesCommand first (Show image) client outcome device later = (later.unread ≡ client.unread)
-    × ShowsImage first image.now client.written outcome device later.written
-DoesCommand first (Sim script stops) client outcome device later = (device ≡ None) × (later.unread ≡ client.unread)
+    × ServesImage first image.now listen.now client.written outcome left later.written
+DoesCommand first (Check image) client outcome left later = (later.unread ≡ client.unread)
+    × ChecksImage first image.now client.written outcome left later.written
+DoesCommand first (Show image) client outcome left later = (later.unread ≡ client.unread)
+    × ShowsImage first image.now client.written outcome left later.written
+DoesCommand first (Sim script stops) client outcome left later = (left ≡ nothing_left) × (later.unread ≡ client.unread)
     × RunsScript stops script.now client.written outcome later.written
 
 -- The arguments were obeyed: the command that they ask for was done to a file that held this, or they have no
 -- meaning, or there was no memory to read them.
-abbrev pub Obeys : FirstContents → List Text → Client → Outcome → Option Device → Client → Type 0
-Obeys first words client (Err fault.NotText) device later = ⊥
-Obeys first words client (Err fault.Memory) device later = (later ≡ client) × (device ≡ None)
-Obeys first words client (Err (fault.Words error)) device later = (¬ HasMeaning words) × (later ≡ client)
-    × (device ≡ None)
-Obeys first words client outcome device later = (args : Args) × WordsAsk words args
-    × DoesCommand first args client outcome device later
+abbrev pub Obeys : FirstContents → List Text → Client → Outcome → Left → Client → Type 0
+Obeys first words client (Err fault.NotText) left later = ⊥
+Obeys first words client (Err fault.Memory) left later = (later ≡ client) × (left ≡ nothing_left)
+Obeys first words client (Err (fault.Words error)) left later = (¬ HasMeaning words) × (later ≡ client)
+    × (left ≡ nothing_left)
+Obeys first words client outcome left later = (args : Args) × WordsAsk words args
+    × DoesCommand first args client outcome left later
 
 -- the faults that were told on a stream, each with the stream's answer
 abbrev pub Told : Type 0
@@ -201,10 +196,10 @@ TellsOutcome told written (Err why) told' written' = TellsFault told written why
 -- what the program answers its arguments, where the image's file held this: it obeyed them, which left the
 -- device so, told what came of it, and ended with its status
 pub record Answers (first : FirstContents) (words : List Text) (client : Client) (told : Told)
-    (written : Option (List ℕ)) (status : ℕ) (device : Option Device) (later : Client) (told' : Told)
+    (written : Option (List ℕ)) (status : ℕ) (left : Left) (later : Client) (told' : Told)
     (written' : Option (List ℕ)) : Type 0 where
   pub outcome : Outcome
-  pub obeys : Obeys first words client outcome device later
+  pub obeys : Obeys first words client outcome left later
   pub ends : status ≡ status_of_outcome outcome
   pub tells : TellsOutcome told written outcome told' written'
 

@@ -1,5 +1,6 @@
 pub mod Done
 pub mod Faults
 pub mod Lines
+pub mod Left
 pub mod Looked
 pub mod Scripts

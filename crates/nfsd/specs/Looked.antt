@@ -19,6 +19,7 @@ use Rattle.image_check.specs.Checked.{CountsCheck, IsChecked}
 use Rattle.image_lines.specs.declared.line.Line.{Line}
 use Rattle.image_lines.specs.Printed.{lines_text}
 use Rattle.image_lines.specs.Shown.{IsShown}
+use Rattle.nfsd.specs.Left.{Left, nothing_left, with_device}
 use Rattle.nfsd.specs.declared.fault.Fault.{Fault}
 use Rattle.nfsd.specs.declared.fault.Fault.TheVariants as fault
 use Rattle.nfsd.specs.Faults.{IsAbout, as_line}
@@ -65,21 +66,21 @@ ShowsDevice keeps_model old written (Err other) new written' = ⊥
 
 -- this was done to the device of a file that held this when it was opened: the device is handed back, with the calls that
 -- were made of it, and the command was done where they are explained by what the file held
-abbrev pub IsDoneTo : FirstContents → (Type 0 → Device → Device → Type 0) → Option Device → Type 0
+abbrev pub IsDoneTo : FirstContents → (Type 0 → Device → Device → Type 0) → Left → Type 0
 IsDoneTo first Does device = (size : ℕ) × (left : FirstContents) × (blocks : ℕ) × (calls : Calls)
-    × (device ≡ Some (file_device (first_in left.blocks.items) blocks calls))
+    × (device ≡ with_device (file_device (first_in left.blocks.items) blocks calls))
     × Does (KeepsModel (first_in left.blocks.items) blocks calls) (file_device (first_in first.blocks.items) size [])
     (file_device (first_in left.blocks.items) blocks calls)
 
 -- `check` and `show` of an image's file; or it can't be had, and nothing was printed
-abbrev pub ChecksImage : FirstContents → Text → Option (List ℕ) → Result (Unit {0}) Fault → Option Device → Option (List ℕ) → Type 0
+abbrev pub ChecksImage : FirstContents → Text → Option (List ℕ) → Result (Unit {0}) Fault → Left → Option (List ℕ) → Type 0
 ChecksImage first image written (Err (fault.File trouble)) device written' =
-    (written' ≡ written) × (device ≡ None) × IsAbout trouble image
+    (written' ≡ written) × (device ≡ nothing_left) × IsAbout trouble image
 ChecksImage first image written outcome device written' =
     IsDoneTo first (λ keeps_model old new. ChecksDevice keeps_model old written outcome new written') device
 
-abbrev pub ShowsImage : FirstContents → Text → Option (List ℕ) → Result (Unit {0}) Fault → Option Device → Option (List ℕ) → Type 0
+abbrev pub ShowsImage : FirstContents → Text → Option (List ℕ) → Result (Unit {0}) Fault → Left → Option (List ℕ) → Type 0
 ShowsImage first image written (Err (fault.File trouble)) device written' =
-    (written' ≡ written) × (device ≡ None) × IsAbout trouble image
+    (written' ≡ written) × (device ≡ nothing_left) × IsAbout trouble image
 ShowsImage first image written outcome device written' =
     IsDoneTo first (λ keeps_model old new. ShowsDevice keeps_model old written outcome new written') device

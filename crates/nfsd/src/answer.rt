@@ -3,7 +3,8 @@ ghost use Rattle.std.specs.Prelude.{◌≡◌, ◌⊎◌, map};
 ghost use Rattle.nfsd_words.specs.Words.{HasMeaning};
 ghost use Rattle.session.specs.Reading.{unread_of};
 ghost use Rattle.session.specs.Serving.{client_of};
-ghost use Rattle.nfsd.specs.Done.{Answers, DoesCommand, IsWithoutMemory, Obeys, TellsOutcome, device_in};
+ghost use Rattle.nfsd.specs.Left.{left_by};
+ghost use Rattle.nfsd.specs.Done.{Answers, DoesCommand, IsWithoutMemory, Obeys, TellsOutcome};
 ghost use Rattle.nfsd.specs.Faults.{status_of_outcome};
 
 use crate::device::{format_image, serve_image_once};
@@ -69,7 +70,7 @@ where
     E: Write,
     ensures answers { Answers first (map (λ word. word.now) line.now)
         (client_of (unread_of I.remaining reader.old) (O.contents writer.old))
-        faults.old.told.items (E.contents faults.old.stream) result.0 (device_in result.1)
+        faults.old.told.items (E.contents faults.old.stream) result.0 (left_by result.1)
         (client_of (unread_of I.remaining reader.new) (O.contents writer.new))
         faults.new.told.items (E.contents faults.new.stream) }
     ensures refused { result.0 ≡ 2 → ¬ HasMeaning (map (λ word. word.now) line.now) }
@@ -108,7 +109,7 @@ where
     I: Read,
     O: Write,
     ensures { Obeys first (map (λ word. word.now) line.now)
-        (client_of (unread_of I.remaining reader.old) (O.contents writer.old)) result.1 (device_in result.0)
+        (client_of (unread_of I.remaining reader.old) (O.contents writer.old)) result.1 (left_by result.0)
         (client_of (unread_of I.remaining reader.new) (O.contents writer.new)) }
 {
     let args = match words(rt.alloc(), line) {
@@ -151,7 +152,7 @@ where
     I: Read,
     O: Write,
     ensures { DoesCommand first args.entry
-        (client_of (unread_of I.remaining reader.old) (O.contents writer.old)) result.1 (device_in result.0)
+        (client_of (unread_of I.remaining reader.old) (O.contents writer.old)) result.1 (left_by result.0)
         (client_of (unread_of I.remaining reader.new) (O.contents writer.new)) }
 {
     match args {

@@ -4,7 +4,8 @@ ghost use Rattle.std.specs.Io.KnownBytes.{Appends};
 ghost use Rattle.layout.specs.Geometry.{data_at};
 ghost use Rattle.session.specs.Reading.{unread_of};
 ghost use Rattle.session.specs.Serving.{client_of};
-ghost use Rattle.nfsd.specs.Done.{FormatsDevice, FormatsImage, ServesDevice, ServesImageOnce, device_in};
+ghost use Rattle.nfsd.specs.Left.{left_by};
+ghost use Rattle.nfsd.specs.Done.{FormatsDevice, FormatsImage, ServesDevice, ServesImageOnce};
 ghost use Rattle.nfsd.specs.Done.{formatted_line, moment_at};
 
 use crate::fault::Fault;
@@ -35,7 +36,7 @@ where
     R::File: BlockFile,
     O: Write,
     W: BlockFile,
-    ensures { FormatsImage first image.now blocks inodes time (O.contents writer.old) result.1 (device_in result.0)
+    ensures { FormatsImage first image.now blocks inodes time (O.contents writer.old) result.1 (left_by result.0)
         (O.contents writer.new) }
 {
     let made = match make_image(rt, image, blocks) {
@@ -66,7 +67,7 @@ where
     O: Write,
     W: BlockFile,
     ensures { ServesImageOnce first image.now time
-        (client_of (unread_of I.remaining reader.old) (O.contents writer.old)) result.1 (device_in result.0)
+        (client_of (unread_of I.remaining reader.old) (O.contents writer.old)) result.1 (left_by result.0)
         (client_of (unread_of I.remaining reader.new) (O.contents writer.new)) }
 {
     let opened = match open_image(rt, image) {

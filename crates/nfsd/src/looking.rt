@@ -2,8 +2,8 @@
 ghost use Rattle.std.specs.Prelude.{◌≡◌, IfErr, OnOk};
 ghost use Rattle.std.specs.Io.KnownBytes.{Appends};
 ghost use Rattle.image_lines.specs.Printed.{lines_text};
+ghost use Rattle.nfsd.specs.Left.{left_by};
 ghost use Rattle.nfsd.specs.Looked.{ChecksDevice, ChecksImage, ShowsDevice, ShowsImage, clean_line};
-ghost use Rattle.nfsd.specs.Done.{device_in};
 
 use crate::fault::Fault;
 use crate::image_disk::ImageDisk;
@@ -32,7 +32,7 @@ where
     R::File: BlockFile + SharedFile,
     O: Write,
     W: BlockFile,
-    ensures { ChecksImage first image.now (O.contents writer.old) result.1 (device_in result.0)
+    ensures { ChecksImage first image.now (O.contents writer.old) result.1 (left_by result.0)
         (O.contents writer.new) }
 {
     let opened = match open_to_read(rt, image) {
@@ -60,7 +60,7 @@ where
     R::File: BlockFile + SharedFile,
     O: Write,
     W: BlockFile,
-    ensures { ShowsImage first image.now (O.contents writer.old) result.1 (device_in result.0)
+    ensures { ShowsImage first image.now (O.contents writer.old) result.1 (left_by result.0)
         (O.contents writer.new) }
 {
     let opened = match open_to_read(rt, image) {

@@ -1,7 +1,8 @@
 //! What the program does to a device whose files it serves over TCP.
 ghost use Rattle.std.specs.Prelude.{◌≡◌, IfErr, IfOk, string_bytes};
 ghost use Rattle.disk.specs.File.{file_device, first_in};
-ghost use Rattle.nfsd.specs.Done.{ServesClients, ServesImage, device_in, outcome_of_server};
+ghost use Rattle.nfsd.specs.Left.{left_by};
+ghost use Rattle.nfsd.specs.Done.{ServesClients, ServesImage, left_of_server, outcome_of_server};
 ghost use Rattle.nfsd.specs.Lines.{IsAnnouncedBy};
 ghost use Rattle.nfsd.specs.Faults.{IsAbout};
 
@@ -77,7 +78,7 @@ where
         + Sync,
     R::File: BlockFile + Send + Sync,
     O: Write,
-    ensures { ServesImage first image.now listen.now (O.contents writer.old) result.1 (device_in result.0)
+    ensures { ServesImage first image.now listen.now (O.contents writer.old) result.1 (left_by result.0)
         (O.contents writer.new) }
 {
     let listening = match listen_at(rt, rt.alloc(), listen) {
@@ -112,7 +113,7 @@ where
     F: BlockFile + Send + Sync,
     R: Threads + Wait + Clock + Sync,
     O: Write,
-    ensures { ServesClients (file_device (first_in disk.first.blocks.items) disk.blocks disk.file.calls.items) (O.contents writer.old) result.1 (device_in result.0)
+    ensures { ServesClients (file_device (first_in disk.first.blocks.items) disk.blocks disk.file.calls.items) (O.contents writer.old) result.1 (left_by result.0)
         (O.contents writer.new) }
 {
     let store = match store::open(alloc, disk) {
@@ -133,7 +134,7 @@ where
         writer,
         &mut ended,
     );
-    (None, outcome_of(ended))
+    concluded(ended)
 }
 
 // Serves from a store, and prints where it listens once it can serve. How the server ended lies in `ended` then, and the
@@ -174,14 +175,17 @@ where
     writer
 }
 
-// What comes of a server by how it ended.
-fn outcome_of(ended: Result<Ended, ServeFault>) -> Result<(), Fault>
-    ensures { result ≡ outcome_of_server ended }
+// What comes of a server by how it ended, and what is left of it: that it ended with all settled is told by the core itself.
+fn concluded<P: BlockFile, F: BlockFile>(
+    ended: Result<Ended, ServeFault>,
+) -> (Option<ImageDisk<P, F>>, Result<(), Fault>)
+    ensures outcome { result.1 ≡ outcome_of_server ended }
+    ensures left { left_by result.0 ≡ left_of_server ended }
 {
     match ended {
-        Ok(_) => Ok(()),
-        Err(ServeFault::Memory) => Err(Fault::Session(SessionFault::NoMemory)),
-        Err(ServeFault::Output) => Err(Fault::Print),
-        Err(ServeFault::Device) => Err(Fault::Session(SessionFault::Device)),
+        Ok(ended) => (Some(ImageDisk::Served(Snapshot::of(&ended))), Ok(())),
+        Err(ServeFault::Memory) => (None, Err(Fault::Session(SessionFault::NoMemory))),
+        Err(ServeFault::Output) => (None, Err(Fault::Print)),
+        Err(ServeFault::Device) => (None, Err(Fault::Session(SessionFault::Device))),
     }
 }
