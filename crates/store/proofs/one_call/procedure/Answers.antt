@@ -34,11 +34,11 @@ returns-then-keeps_too_many-clause-answered g c = λ first last entries keeps so
       last = last;
       asked = asked_of c.args.credential c.args.moment c.args.call;
     } in
-    let at_rest_is = c.new-worker.ensures.state in
+    let at_rest_is = c.with_room-worker.ensures.state in
     let took = c.hand.ensures.took (c.hand.ensures.taken.1 (ap (λ (s : State). s.phase) at_rest_is)) in
     let state_is = took
     ∙ ap (λ (s : State). with_call (ctx_of c.args.credential c.args.moment) c.args.call s) at_rest_is in
-    let fits = c.hand.ensures.fits was.core (c.new-worker.ensures.fits was.core was.lawful) in
+    let fits = c.hand.ensures.fits was.core (c.with_room-worker.ensures.fits was.core was.lawful) in
     let begun = c.a_call_begins.ensures o c.hand.new.self.state sound c.requires.idle state_is
     (goes_with c.hand.new.self was.core fits) opened in
     let verdict = c.answer-verdict.result in
@@ -66,11 +66,11 @@ returns-else-keeps_too_many-clause-answered g c = λ first last entries keeps so
       last = last;
       asked = asked_of c.args.credential c.args.moment c.args.call;
     } in
-    let at_rest_is = c.new-worker.ensures.state in
+    let at_rest_is = c.with_room-worker.ensures.state in
     let took = c.hand.ensures.took (c.hand.ensures.taken.1 (ap (λ (s : State). s.phase) at_rest_is)) in
     let state_is = took
     ∙ ap (λ (s : State). with_call (ctx_of c.args.credential c.args.moment) c.args.call s) at_rest_is in
-    let fits = c.hand.ensures.fits was.core (c.new-worker.ensures.fits was.core was.lawful) in
+    let fits = c.hand.ensures.fits was.core (c.with_room-worker.ensures.fits was.core was.lawful) in
     let begun = c.a_call_begins.ensures o c.hand.new.self.state sound c.requires.idle state_is
     (goes_with c.hand.new.self was.core fits) opened in
     let verdict = c.answer-verdict.result in
