@@ -1,5 +1,5 @@
 //! The table of what is taken.
-ghost use Rattle.std.specs.Prelude.{◌≡◌, ◌↔◌, IsTrue, Contains, [], is_some, OnOk, OnErr};
+ghost use Rattle.std.specs.Prelude.{◌≡◌, ◌↔◌, IsTrue, Contains, [], is_some, None, OnOk, OnErr};
 ghost use Rattle.objects.specs.declared.mode.Mode.TheVariants as modes;
 ghost use Rattle.txn_law.specs.Holds.{IsFree, with_hold, hold_of, is_read, is_written, released};
 ghost use Rattle.txn_law.specs.Tidy.{AreApart};
@@ -8,7 +8,7 @@ ghost use Rattle.locks.specs.Taking.{IsTaking};
 
 use crate::index::Index;
 use crate::looks::{is_free, is_held_by, is_read_by, is_written_by};
-use crate::taking::{note, release};
+use crate::taking::{note, note_new, release};
 use objects::{Addr, Mode};
 use std::alloc::{AllocError, Global};
 use std::marker::Model;
@@ -96,6 +96,20 @@ impl Table {
         self.holds.reserve(1)?;
         self.index.make_room(hold.addr.block)?;
         note(&mut self.holds, &mut self.index, hold);
+        Ok(())
+    }
+
+    /// Takes what a wish is for that nothing keeps off, and whose transaction has taken nothing by this address. Where there
+    /// is no room nothing changes.
+    pub fn take_new(&mut self, hold: Hold) -> Result<(), AllocError>
+        requires free { IsFree self.old hold.transaction hold.addr hold.mode }
+        requires new { hold_of self.old hold.transaction hold.addr ≡ None }
+        ensures taken { OnOk result (self.new ≡ with_hold self.old hold) }
+        ensures refused { OnErr result (self.new ≡ self.old) }
+    {
+        self.holds.reserve(1)?;
+        self.index.make_room(hold.addr.block)?;
+        note_new(&mut self.holds, &mut self.index, hold);
         Ok(())
     }
 

@@ -1,7 +1,7 @@
 //! What is taken, and let go again.
-ghost use Rattle.std.specs.Prelude.{◌≡◌, ◌<◌, ◌≤◌, ◌++◌, ◌∷◌, [], length, vec_len, vec_capacity};
+ghost use Rattle.std.specs.Prelude.{◌≡◌, ◌<◌, ◌≤◌, ◌++◌, ◌∷◌, [], None, length, vec_len, vec_capacity};
 ghost use Rattle.locks.specs.Index.{IsIndex, numbers};
-ghost use Rattle.txn_law.specs.Holds.{joined, without_hold, with_hold, released};
+ghost use Rattle.txn_law.specs.Holds.{hold_of, joined, without_hold, with_hold, released};
 ghost use Rattle.txn_law.specs.Tidy.{AreApart};
 
 use crate::index::Index;
@@ -26,6 +26,19 @@ pub(crate) fn note(holds: &mut Vec<Hold>, index: &mut Index, hold: Hold)
         }
         None => add(holds, index, hold),
     }
+}
+
+/// Notes that the transaction takes the address, by which it has taken nothing yet, and for which there is room.
+pub(crate) fn note_new(holds: &mut Vec<Hold>, index: &mut Index, hold: Hold)
+    requires new { hold_of holds.old.items hold.transaction hold.addr ≡ None }
+    requires room { vec_len holds.old < vec_capacity holds.old }
+    requires names { length index.old.before.items < vec_capacity index.old.before }
+    requires homed { hold.addr.block.0 < length index.old.last.items }
+    requires index { IsIndex (numbers holds.old.items) index.old.last.items index.old.before.items }
+    ensures holds { holds.new.items ≡ with_hold holds.old.items hold }
+    ensures index { IsIndex (numbers holds.new.items) index.new.last.items index.new.before.items }
+{
+    add(holds, index, hold);
 }
 
 // Adds a hold, for which there is room.

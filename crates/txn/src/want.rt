@@ -188,7 +188,7 @@ fn take(holds: &mut Table, present: &mut Residency, hold: Hold) -> Result<(), Al
     }
     let block = hold.addr.block;
     present.pin(block)?;
-    if let Err(none) = note(holds, hold) {
+    if let Err(none) = holds.take_new(hold) {
         present.take_pin_back(block);
         return Err(none);
     }
