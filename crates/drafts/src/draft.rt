@@ -59,6 +59,7 @@ impl<'a> Draft<'a> {
             objects: on_grid(&seen.geometry, &seen.objects)?,
             claims: seen.claims.clone()?,
             from: seen.from,
+            index: None,
         };
         Ok(Draft {
             seen,
@@ -100,12 +101,12 @@ impl<'a> Draft<'a> {
         let shared = SharedBytes::new(alloc, bytes)?;
         let object = Object::new(addr, shared);
         let copy = object.clone()?;
-        self.there.objects.reserve(1)?;
+        make_room(&mut self.there)?;
         match self.written.push(object) {
             Ok(()) => {}
             Err(_) => return Err(Stop::NoMemory),
         }
-        lay(&mut self.there.objects, copy);
+        lay_there(&mut self.there, copy);
         Ok(())
     }
 
@@ -140,6 +141,27 @@ fn is_given(snap: &Snap, addr: Addr) -> bool
         Some(_) => true,
         None => addr.offset == 0 && addr.len == BLOCK_BYTES && snap.has_claim(addr.block),
     }
+}
+
+// Makes room for one more object.
+fn make_room(there: &mut Snap) -> Result<(), AllocError>
+    ensures room { OnOk result (vec_len there.new.objects < vec_capacity there.new.objects) }
+    ensures objects { there.new.objects.items ≡ there.old.objects.items }
+    ensures geometry { there.new.geometry ≡ there.old.geometry }
+    ensures claims { there.new.claims.items ≡ there.old.claims.items }
+{
+    there.objects.reserve(1)
+}
+
+// Lays an object among those that lie there, for which there is room.
+fn lay_there(there: &mut Snap, object: Object)
+    requires { vec_len there.old.objects < vec_capacity there.old.objects }
+    ensures objects { there.new.objects.items ≡ laid there.old.objects.items object }
+    ensures geometry { there.new.geometry ≡ there.old.geometry }
+    ensures claims { there.new.claims.items ≡ there.old.claims.items }
+{
+    drop(there.index.take());
+    lay(&mut there.objects, object);
 }
 
 // Lays an object in the place of what lay at its address, for which there is room.

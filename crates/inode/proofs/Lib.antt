@@ -9,3 +9,4 @@ pub mod FileSizes
 pub mod BodyThere
 pub mod HeldThere
 pub mod Stops
+pub mod KnownPositions

@@ -1,3 +1,4 @@
+pub mod Indexed
 pub mod Snap
 pub mod Read
 pub mod Over

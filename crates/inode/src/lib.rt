@@ -2,6 +2,8 @@
 #![tactic(auto)]
 
 mod bytes;
+mod finding;
+mod index;
 mod inodes;
 mod map;
 mod read;
@@ -9,6 +11,7 @@ mod snap;
 mod stop;
 
 pub use bytes::{ask_block, piece, target};
+pub use index::AddressIndex;
 pub use inodes::{file_kind, held, used_of};
 pub use map::{block_number, data_block};
 pub use read::{bytes_at, inode_of};

@@ -1,7 +1,8 @@
 //! What has been read for a call so far.
-ghost use Rattle.std.specs.Prelude.{◌≡◌, false, true, ◌∷◌, [], ◌++◌, length, Contains, IfSome, IfNone, OnOk};
-ghost use Rattle.inode.specs.Snap.{HasRoom, is_claimed, is_seen, same_addr};
+ghost use Rattle.inode.specs.Indexed.{IsIndexed};
 
+use crate::finding::{find, walk, with_last};
+use crate::index::AddressIndex;
 use disk::BlockNo;
 use layout::Geometry;
 use objects::{Addr, SharedBytes};
@@ -9,16 +10,22 @@ use std::alloc::{AllocError, Global};
 use txn::Object;
 
 /// The geometry of the image, the objects that were read so far in their order, and the blocks that were
-/// claimed. Free blocks are looked for from a piece of their bitmap on: any does.
+/// claimed. Free blocks are looked for from a piece of their bitmap on: any does. Where there is an index it tells where
+/// each object stands.
 #[derive(Drop)]
 pub struct Snap {
     pub geometry: Geometry,
     pub objects: Vec<Object>,
     pub claims: Vec<BlockNo>,
     pub from: u32,
+    pub index: Option<AddressIndex>,
+    pub ghost indexed: { IsIndexed index objects.items },
 }
 
 impl Snap {
+    ghost use Rattle.std.specs.Prelude.{◌≡◌, false, true, ◌∷◌, [], ◌++◌, length, Contains, IfSome, IfNone, OnOk};
+    ghost use Rattle.inode.specs.Snap.{HasRoom, is_claimed, is_seen, same_addr};
+
     /// Nothing was read yet.
     pub fn new(alloc: Global, geometry: Geometry, from: u32) -> Snap
         ensures geometry { result.geometry ≡ geometry }
@@ -31,6 +38,7 @@ impl Snap {
             objects: Vec::new(alloc),
             claims: Vec::new(alloc),
             from,
+            index: None,
         }
     }
 
@@ -56,10 +64,13 @@ impl Snap {
         ensures claims { self.new.claims.items ≡ self.old.claims.items }
         ensures from { self.new.from ≡ self.old.from }
     {
+        let index = self.index.take();
         match self.objects.push(Object::new(addr, bytes)) {
             Ok(()) => {}
             Err(_) => unreachable!(),
         }
+        let alloc = *self.objects.allocator();
+        self.index = with_last(alloc, index, &self.objects);
     }
 
     /// Notes that a block was claimed, for which there is room.
@@ -89,18 +100,9 @@ impl Snap {
         ensures there { IfSome result (λ o. Contains self.now.objects.items o.now) }
         ensures none { IfNone result (is_seen addr self.now.objects.items ≡ false) }
     {
-        for object in &self.objects {
-            if same_addr(addr, object.addr()) {
-                return Some(object);
-            }
+        match &self.index {
+            Some(index) => find(index, &self.objects, addr),
+            None => walk(&self.objects, addr),
         }
-        None
     }
-}
-
-// Whether two addresses are one.
-fn same_addr(a: Addr, b: Addr) -> bool
-    ensures { result ≡ same_addr a b }
-{
-    a.block.0 == b.block.0 && a.offset == b.offset && a.len == b.len
 }

@@ -3,10 +3,12 @@
 ghost use Rattle.std.specs.Prelude.{◌≡◌, ◌≤◌, IfErr, IfSome};
 ghost use Rattle.limits.specs.declared.TheConstants.{FILE_INDEXES};
 ghost use Rattle.inode.specs.Over.{MayStop};
-ghost use Rattle.inode.specs.declared.stop.Stop.TheVariants as stop;
 ghost use Rattle.procedures.specs.Listing.{entry_room};
 
+use crate::entering::Entering;
 use crate::next::Plan;
+use crate::pieces::Pieces;
+use crate::writing::Writing;
 use block_files::BlockFiles;
 use files::{Files, Head};
 use inode::{Snap, Stop, ask_block, held};
@@ -15,17 +17,20 @@ use limits::{
     BLOCK_BYTES, ENTRY_BYTES, ENTRY_PLUS_BYTES, LARGEST_FILE, LISTING_BYTES, LISTING_FRAME,
     TRANSFER_BYTES,
 };
-use nfs_types::{Call, Handle};
-use objects::Addr;
+use nfs_types::{Call, DirectoryName, Handle};
 use procedures::{ITSELF_COOKIE, PARENT_COOKIE};
 use std::alloc::{AllocError, Global};
 
-/// Nothing; the blocks of a file that a READ asks for; or what a listing asks for.
+/// Nothing; the blocks of a file that a READ asks for; what a WRITE asks for; what a name asks for
+/// that a directory gets; what a listing asks for; or the bitmaps.
 #[derive(Drop)]
 pub(crate) enum Ahead {
     Nothing,
     Blocks(Blocks),
+    Writing(Writing),
+    Entering(Entering),
     Listing(Listing),
+    Pieces(Pieces),
 }
 
 /// The blocks of a file from an index on up to another.
@@ -133,17 +138,20 @@ impl Ahead {
         match self {
             Ahead::Nothing => Ok(()),
             Ahead::Blocks(blocks) => blocks.go_on(snap),
+            Ahead::Writing(writing) => writing.go_on(snap),
+            Ahead::Entering(entering) => entering.go_on(snap),
             Ahead::Listing(listing) => listing.go_on(alloc, snap),
+            Ahead::Pieces(pieces) => pieces.go_on(snap),
         }
     }
 
-    /// The next object that is asked for: the same until it was read.
-    pub(crate) fn next(&mut self, alloc: Global, snap: &Snap) -> Option<Addr>
-        ensures { IfSome result (λ addr. MayStop snap.now (stop.Need addr)) }
+    /// The next object or block that is asked for: the same until it was read or claimed.
+    pub(crate) fn next(&mut self, alloc: Global, snap: &Snap) -> Option<Stop>
+        ensures { IfSome result (λ why. MayStop snap.now why) }
     {
         match self.go_on(alloc, snap) {
-            Err(Stop::Need(addr)) => Some(addr),
-            _ => None,
+            Ok(()) => None,
+            Err(stop) => Some(stop),
         }
     }
 }
@@ -212,6 +220,20 @@ fn listing_of(
     Ok(Ahead::Listing(listing))
 }
 
+// What a name asks for that a directory gets.
+fn entering(
+    alloc: Global,
+    snap: &Snap,
+    name: &DirectoryName,
+    makes: bool,
+    has_block: bool,
+) -> Result<Ahead, Stop> {
+    match Entering::begin(alloc, snap, &name.directory, makes, has_block)? {
+        Some(entering) => Ok(Ahead::Entering(entering)),
+        None => Ok(Ahead::Nothing),
+    }
+}
+
 // What a call asks for in a row, from its first object on.
 fn in_a_row(alloc: Global, call: &Call, snap: &Snap) -> Result<Ahead, Stop> {
     match call {
@@ -258,27 +280,47 @@ fn in_a_row(alloc: Global, call: &Call, snap: &Snap) -> Result<Ahead, Stop> {
                 true,
             )
         }
+        Call::Write {
+            file,
+            offset,
+            bytes,
+            ..
+        } => match Writing::begin(snap, file, *offset, bytes.as_slice().len())? {
+            Some(writing) => Ok(Ahead::Writing(writing)),
+            None => Ok(Ahead::Nothing),
+        },
+        Call::Create { name, .. } | Call::MkDir { name, .. } => {
+            entering(alloc, snap, name, true, false)
+        }
+        Call::SymLink { name, .. } => entering(alloc, snap, name, true, true),
+        Call::Link { name, .. } => entering(alloc, snap, name, false, false),
+        Call::FsStat { .. } => Ok(Ahead::Pieces(Pieces::begin())),
         _ => Ok(Ahead::Nothing),
     }
 }
 
-/// What a call asks for behind a plan: nothing, unless the plan asks for the next object of what the call asks for in a
-/// row, so that the run has come there.
+// Whether a plan asks for what a position asks for next.
+fn is_asked(plan: &Plan, next: &Option<Stop>) -> bool {
+    match (plan, next) {
+        (Plan::Need(asked, _), Some(Stop::Need(addr))) => *asked == *addr,
+        (Plan::Claim(asked), Some(Stop::Claim(block))) => *asked == *block,
+        _ => false,
+    }
+}
+
+/// What a call asks for behind a plan: nothing, unless the plan asks for the next of what the call asks for in a row, so
+/// that the run has come there.
 pub(crate) fn behind(alloc: Global, call: &Call, snap: &Snap, plan: &Plan) -> Ahead {
-    let Plan::Need(asked, _) = plan else {
+    if !matches!(plan, Plan::Need(..) | Plan::Claim(_)) {
         return Ahead::Nothing;
-    };
+    }
     let Ok(mut ahead) = in_a_row(alloc, call, snap) else {
         return Ahead::Nothing;
     };
-    match ahead.next(alloc, snap) {
-        Some(addr) => {
-            if addr == *asked {
-                ahead
-            } else {
-                Ahead::Nothing
-            }
-        }
-        None => Ahead::Nothing,
+    let next = ahead.next(alloc, snap);
+    if is_asked(plan, &next) {
+        ahead
+    } else {
+        Ahead::Nothing
     }
 }

@@ -8,13 +8,17 @@ mod changing;
 mod done;
 mod draft;
 mod ends;
+mod entering;
+mod free;
 mod next;
+mod pieces;
 mod planner;
 mod reading;
 mod refused;
 mod rules;
 mod telling;
 mod work;
+mod writing;
 
 pub use anew::plan;
 pub use asks::{

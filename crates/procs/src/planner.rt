@@ -146,8 +146,10 @@ impl Planner {
                 return Plan::Need(addr, Mode::Exclusive);
             }
         }
-        if let Some(addr) = self.ahead.next(alloc, &self.snap) {
-            return Plan::Need(addr, Mode::Exclusive);
+        match self.ahead.next(alloc, &self.snap) {
+            Some(Stop::Need(addr)) => return Plan::Need(addr, Mode::Exclusive),
+            Some(Stop::Claim(block)) => return Plan::Claim(block),
+            _ => {}
         }
         let next = run(alloc, ctx, call, &self.snap, names);
         if is_same(&next, &search) {

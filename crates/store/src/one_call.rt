@@ -53,9 +53,10 @@ pub fn procedure<D: CrashDisk>(
     ensures model { D.keeps_model store.new.disk → D.keeps_model store.old.disk }
 {
     a_call_begins();
-    let mut worker = Worker::new(alloc);
+    let mut worker = Worker::with_room(alloc, store.room);
     worker.hand(credential, moment, call);
     let verdict = answer(alloc, store, &mut worker);
+    store.room = worker.room();
     worker.end(&mut store.core);
     if keeps_too_many(store) {
         let _ = settle(store);

@@ -29,6 +29,8 @@ pub struct Store<D: CrashDisk> {
     pub core: Core<Done>,
     /// The boot number.
     pub boot: u64,
+    /// The piece of the bitmap from which the next call looks for free blocks. No clause speaks of it.
+    pub room: u32,
     pub ghost size: { (D.device disk).size ≡ core.log.blocks },
     pub ghost lawful: { IsLawful core.log.blocks core.inodes },
 }
@@ -57,6 +59,7 @@ pub fn close<D: CrashDisk>(store: Store<D>) -> D
         disk,
         core: _,
         boot: _,
+        room: _,
     } = store;
     disk
 }

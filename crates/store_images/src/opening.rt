@@ -61,7 +61,12 @@ pub fn open<D: CrashDisk>(alloc: Global, disk: D) -> Result<Store<D>, (D, OpenFa
 {
     let mut disk = disk;
     match recover(alloc, &mut disk) {
-        Ok((core, boot)) => Ok(Store { disk, core, boot }),
+        Ok((core, boot)) => Ok(Store {
+            disk,
+            core,
+            boot,
+            room: 0,
+        }),
         Err(fault) => Err((disk, fault)),
     }
 }

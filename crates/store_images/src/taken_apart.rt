@@ -46,6 +46,7 @@ pub fn parts<D: CrashDisk + Drop>(store: Store<D>) -> TakenApart<D>
         disk,
         mut core,
         boot: _,
+        room: _,
     } = store;
     core.abort_all();
     TakenApart { core, disk }

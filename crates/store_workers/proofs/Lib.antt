@@ -18,3 +18,4 @@ pub mod PlansStay
 pub mod LeavesOthers
 pub mod NotesAll
 pub mod ShareCore
+pub mod Above

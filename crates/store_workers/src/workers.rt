@@ -68,6 +68,14 @@ impl Worker {
         ensures fits { (core : CoreState) → IsLawful core.log.blocks core.inodes → Fits result core }
         ensures state { result.state ≡ at_rest }
     {
+        Worker::with_room(alloc, 0)
+    }
+
+    /// The same, which looks for free blocks from a piece of their bitmap on.
+    pub fn with_room(alloc: Global, room: u32) -> Worker
+        ensures fits { (core : CoreState) → IsLawful core.log.blocks core.inodes → Fits result core }
+        ensures state { result.state ≡ at_rest }
+    {
         Worker {
             state: State {
                 phase: Phase::Idle,
@@ -80,10 +88,16 @@ impl Worker {
                     answer: None,
                 },
                 begun: Begun { tx: None, io: None },
-                asked: Asked::new(),
+                asked: Asked::new(room),
                 known: Known::new(alloc),
             },
         }
+    }
+
+    /// The piece of the bitmap from which its next call looks for free blocks: that of the block which the last call
+    /// claimed last.
+    pub fn room(&self) -> u32 {
+        self.state.room()
     }
 
     /// Whether the worker has no call.

@@ -55,6 +55,7 @@ pub(crate) fn plans_alike(
     alloc: Global,
     disk: &MemDisk,
     geometry: Geometry,
+    from: u32,
     ctx: &Ctx,
     call: &Call,
 ) -> Result<bool, Fail>
@@ -63,7 +64,7 @@ pub(crate) fn plans_alike(
     requires spelled { CallFits call.now }
 {
     are_told(ctx.credential.uid, ctx.credential.gid);
-    let mut planner = Planner::new(alloc, geometry, 0);
+    let mut planner = Planner::new(alloc, geometry, from);
     for _ in 0..MOST_ASKED {
         planner.make_room()?;
         let anew = plan(alloc, ctx, call, &planner.snap);

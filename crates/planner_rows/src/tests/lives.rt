@@ -29,6 +29,9 @@ const NOW: Moment = Moment {
     nanoseconds: 0,
 };
 
+// Pieces of the bitmap from which free blocks are looked for: the one that has the bits of all blocks, another, and none.
+const STARTS: [u32; 3] = [0, 3, 8];
+
 // A row: a call of the superuser; or the second file's links in a directory, or files that are made in the first one, at
 // the names of a first byte and each second byte from one on and below an end.
 enum Row<'a> {
@@ -61,14 +64,20 @@ const EMPTY: NewAttributes = NewAttributes {
     ..UNSET
 };
 
-// What is made; what a file's bytes are, from the first block on, across the border of the indirect block, in a hole and
+// What is made; what a file's bytes are, from the first block on, written over, in part and as a whole, across the border of the indirect block, in a hole and
 // at the end; what is refused.
 const BYTES: &[Row] = &[
     Row::Asks(Asked::MkDir(ROOT, b"d", UNSET)),
     Row::Asks(Asked::Create(ROOT, b"f", PLAIN)),
     Row::Asks(Asked::WriteMany(FILE, 0, 32_768)),
     Row::Asks(Asked::WriteMany(FILE, 30_000, 32_768)),
+    Row::Asks(Asked::WriteMany(FILE, 0, 32_768)),
+    Row::Asks(Asked::WriteMany(FILE, 1_000, 32_768)),
     Row::Asks(Asked::WriteMany(FILE, 4_190_000, 20_000)),
+    Row::Asks(Asked::WriteMany(FILE, 57_344, 32_768)),
+    Row::Asks(Asked::WriteMany(FILE, 0, 0)),
+    Row::Asks(Asked::WriteMany(FILE, 4_220_000, 20_000)),
+    Row::Asks(Asked::WriteMany(DIRECTORY, 0, 10)),
     Row::Asks(Asked::Read(FILE, 0, 32_768)),
     Row::Asks(Asked::Read(FILE, 20_000, 32_768)),
     Row::Asks(Asked::Read(FILE, 45_000, 32_768)),
@@ -179,10 +188,13 @@ fn are_alike(alloc: Global, disk: &MemDisk, entries: &[(Ctx, Call)]) -> Result<b
     requires { All CanBeReplayed entries.now }
 {
     for entry in entries {
-        if !begins_transaction(&entry.1)
-            || !plans_alike(alloc, disk, GEOMETRY, &entry.0, &entry.1)?
-        {
+        if !begins_transaction(&entry.1) {
             return Ok(false);
+        }
+        for from in STARTS {
+            if !plans_alike(alloc, disk, GEOMETRY, from, &entry.0, &entry.1)? {
+                return Ok(false);
+            }
         }
     }
     Ok(true)

@@ -15,6 +15,7 @@ pub(crate) struct Asked {
     wish: Option<Addr>,
     mode: Mode,
     waiting: Option<Snapshot<Job>>,
+    room: u32,
 }
 
 impl Model for Asked {
@@ -31,15 +32,21 @@ impl Model for Asked {
 }
 
 impl Asked {
-    // Nothing yet.
-    pub(super) fn new() -> Asked
+    // Nothing yet. Free blocks are looked for from this piece of their bitmap on, which no clause speaks of.
+    pub(super) fn new(room: u32) -> Asked
         ensures { result ≡ record { wish = None; mode = modes.Exclusive; waiting = None } }
     {
         Asked {
             wish: None,
             mode: Mode::Exclusive,
             waiting: None,
+            room,
         }
+    }
+
+    // The piece of the bitmap from which free blocks are looked for, where no call told another.
+    pub(super) fn room(&self) -> u32 {
+        self.room
     }
 
     // The block of this object, which is wished in this mode, is to be fetched.

@@ -1,5 +1,5 @@
 //! What a worker's call knows: what it has taken, and was kept off from.
-ghost use Rattle.std.specs.Prelude.{◌≡◌, ◌<◌, nat_le, position, vec_len, vec_capacity};
+ghost use Rattle.std.specs.Prelude.{[], ◌≡◌, ◌<◌, ◌++◌, ◌∷◌, nat_le, position, true, vec_len, vec_capacity};
 ghost use Rattle.store_promise.specs.Aims.{Rises, inserted, is_barred, rank_of};
 
 use std::alloc::{AllocError, Global};
@@ -92,7 +92,7 @@ impl Known {
         if self.taken < self.aims.len() {
             self.taken += 1;
         } else {
-            insert(&mut self.aims, one);
+            put(&mut self.aims, one);
             self.taken = self.aims.len();
         }
     }
@@ -127,7 +127,7 @@ impl Known {
         self.room = false;
         self.taken = 0;
         if let Some(wished) = self.off.take() {
-            insert(&mut self.aims, wished);
+            put(&mut self.aims, wished);
         }
     }
 }
@@ -144,6 +144,42 @@ fn position_from(aims: &[Aim], rank: usize) -> Option<usize>
     ensures { result ≡ position (λ other. nat_le rank (rank_of other)) aims.now }
 {
     aims.iter().position(|other| rank <= other.rank())
+}
+
+// Whether an aim stands above all of these.
+fn is_above(aims: &Vec<Aim>, one: Aim) -> bool
+    requires { Rises aims.now.items }
+    ensures { result ≡ true → inserted one aims.now.items ≡ aims.now.items ++ one ∷ [] }
+{
+    if aims.len() == 0 {
+        return true;
+    }
+    aims[aims.len() - 1].rank() < one.rank()
+}
+
+// Puts an aim behind these.
+fn push_last(aims: &mut Vec<Aim>, one: Aim)
+    requires { vec_len aims.old < vec_capacity aims.old }
+    ensures { aims.new.items ≡ aims.old.items ++ one ∷ [] }
+{
+    match aims.push(one) {
+        Ok(()) => {}
+        Err(_) => unreachable!(),
+    }
+}
+
+// Puts an aim in its place: one that stands above all others without a walk past them.
+fn put(aims: &mut Vec<Aim>, one: Aim)
+    requires rise { Rises aims.old.items }
+    requires room { vec_len aims.old < vec_capacity aims.old }
+    ensures items { aims.new.items ≡ inserted one aims.old.items }
+    ensures rise { Rises aims.new.items }
+{
+    if is_above(aims, one) {
+        push_last(aims, one);
+        return;
+    }
+    insert(aims, one);
 }
 
 // Puts an aim in its place. Where its object is there, that is raised to its mode.

@@ -2,6 +2,7 @@
 ghost use Rattle.std.specs.Prelude.{◌≡◌, ◌<◌, ℕ, Some, None, true, is_some, IfSome};
 ghost use Rattle.store_promise.specs.Verdicts.{cause_of, refusal};
 
+use super::asked::Asked;
 use super::note::Note;
 use super::parts::{Job, Phase, State};
 use crate::options::put;
@@ -28,6 +29,11 @@ impl State {
     ghost use Rattle.store_workers.specs.WorkerSteps.{Begins, BeginsAgain, GivesBack, GoesOn};
     ghost use Rattle.store_workers.specs.WorkerSteps.{HasToldBroken, HasToldReply};
     ghost use Rattle.store_workers.specs.WorkerSteps.{KeepsHomeOf, KeepsReadsOf, Refuses, Waits, side};
+
+    // The piece of the bitmap from which free blocks are looked for: that of the block which the last call claimed last.
+    pub(super) fn room(&self) -> u32 {
+        room_of(&self.work.planner, &self.asked)
+    }
 
     // Makes the next step, with a note of it where one is wanted.
     pub(super) fn step(
@@ -100,7 +106,7 @@ impl State {
             self.give(Verdict::Reply(Reply::Null), None);
             return Step::Replied;
         }
-        let from = room_of(&self.work.planner);
+        let from = room_of(&self.work.planner, &self.asked);
         match core.begin() {
             Ok(tx) => {
                 let number = tx.number();
@@ -244,11 +250,11 @@ impl State {
     }
 }
 
-// The piece of the bitmap from which free blocks are looked for: that of the block which the last call claimed last.
-fn room_of(last: &Option<Planner>) -> u32 {
+// The piece of the bitmap in which the last call's planner looked for free blocks last, or that of the worker's beginning.
+fn room_of(last: &Option<Planner>, asked: &Asked) -> u32 {
     match last {
         Some(planner) => planner.room(),
-        None => 0,
+        None => asked.room(),
     }
 }
 

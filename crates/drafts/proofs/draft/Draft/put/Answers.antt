@@ -17,29 +17,34 @@ use Rattle.drafts.proofs.Written.{behind_others, shows_laid}
 use Rattle.drafts.proofs.draft.Draft.put.Goals as goal
 
 pub invariant_of-self-2 : goal.invariant_of-self-2
-invariant_of-self-2 c = record {
-  after = record {
-    geometry = c.self.invariant.after.geometry;
-    claims = c.self.invariant.after.claims;
-    all = λ addr is none. c.self.invariant.after.all addr is
-        (seen_laid addr c.self.inside.there.objects.items c.in_ok-copy.copy
-        (subst (λ l. is_seen addr l ≡ false)
-        (c.lay.ensures
-        ∙ ap (λ (l : List ObjectBytes). laid l c.in_ok-copy.copy) c.in_ok-reserve.ensures.items) none));
-  };
-  grid =
-      subst (All (λ (one : ObjectBytes). IsObject c.self.inside.there.geometry one.addr)) (sym c.in-Ok.ensures.items)
-      (All-push (λ (one : ObjectBytes). IsObject c.self.inside.there.geometry one.addr)
-      c.self.inside.written.items c.new-object.result c.self.invariant.grid
-      (subst (IsObject c.self.inside.there.geometry) (sym c.new-object.ensures.addr)
-      (subst (λ (d : Drafted). IsObject d.there.geometry c.args.addr) (sym c.self.view_is) c.requires.object)));
-  given =
-      subst (All (λ (one : ObjectBytes). MayWrite c.self.inside.seen.now one.addr)) (sym c.in-Ok.ensures.items)
-      (All-push (λ (one : ObjectBytes). MayWrite c.self.inside.seen.now one.addr)
-      c.self.inside.written.items c.new-object.result c.self.invariant.given
-      (subst (MayWrite c.self.inside.seen.now) (sym c.new-object.ensures.addr)
-      (c.is_given.ensures.given (search rules))));
-}
+invariant_of-self-2 c =
+    let geometry : c.lay_there.new.there.geometry ≡ c.self.inside.there.geometry =
+    c.lay_there.ensures.geometry ∙ c.make_room.ensures.geometry in
+    record {
+      after = record {
+        geometry = geometry ∙ c.self.invariant.after.geometry;
+        claims = c.lay_there.ensures.claims ∙ c.make_room.ensures.claims ∙ c.self.invariant.after.claims;
+        all = λ addr is none. c.self.invariant.after.all addr (subst (λ (g : Geometry). IsObject g addr) geometry is)
+            (seen_laid addr c.self.inside.there.objects.items c.in_ok-copy.copy
+            (subst (λ l. is_seen addr l ≡ false)
+            (c.lay_there.ensures.objects
+            ∙ ap (λ (l : List ObjectBytes). laid l c.in_ok-copy.copy) c.make_room.ensures.objects) none));
+      };
+      grid =
+          subst (λ (g : Geometry). All (λ (one : ObjectBytes). IsObject g one.addr) c.push.new.self.items) (sym geometry)
+          (subst (All (λ (one : ObjectBytes). IsObject c.self.inside.there.geometry one.addr))
+          (sym c.in-Ok.ensures.items)
+          (All-push (λ (one : ObjectBytes). IsObject c.self.inside.there.geometry one.addr)
+          c.self.inside.written.items c.new-object.result c.self.invariant.grid
+          (subst (IsObject c.self.inside.there.geometry) (sym c.new-object.ensures.addr)
+          (subst (λ (d : Drafted). IsObject d.there.geometry c.args.addr) (sym c.self.view_is) c.requires.object))));
+      given =
+          subst (All (λ (one : ObjectBytes). MayWrite c.self.inside.seen.now one.addr)) (sym c.in-Ok.ensures.items)
+          (All-push (λ (one : ObjectBytes). MayWrite c.self.inside.seen.now one.addr)
+          c.self.inside.written.items c.new-object.result c.self.invariant.given
+          (subst (MayWrite c.self.inside.seen.now) (sym c.new-object.ensures.addr)
+          (c.is_given.ensures.given (search rules))));
+    }
 
 pub returns-then-not-is_given-clause-err : goal.returns-then-not-is_given-clause-err
 returns-then-not-is_given-clause-err c = (
@@ -52,19 +57,23 @@ returns-then-not-is_given-clause-err c = (
 
 pub invariant_of-self : goal.invariant_of-self
 invariant_of-self c =
-    kept_with c.self.inside.seen.now c.self.inside.there _ refl refl c.reserve.ensures.items
+    kept_with c.self.inside.seen.now c.self.inside.there _ c.make_room.ensures.geometry c.make_room.ensures.claims
+    c.make_room.ensures.objects
     c.self.inside.written.items c.self.inside.written.items refl c.self.invariant
 
 pub invariant_of-self-in-Err : goal.invariant_of-self-in-Err
 invariant_of-self-in-Err c =
-    kept_with c.self.inside.seen.now c.self.inside.there _ refl refl c.reserve.ensures.items
+    kept_with c.self.inside.seen.now c.self.inside.there _ c.make_room.ensures.geometry c.make_room.ensures.claims
+    c.make_room.ensures.objects
     c.self.inside.written.items c.push.new.self.items c.in-Err.ensures.items c.self.invariant
 
 pub returns-clause-shows : goal.returns-clause-shows
 returns-clause-shows c = λ image shows.
     shows_laid c.args.self.now _ c.args.addr c.args.bytes.items image
-    (ap (λ (d : Drafted). d.there.geometry) c.self.view_is)
-    (c.lay.ensures ∙ ap (λ (l : List ObjectBytes). laid l c.in_ok-copy.copy) c.in_ok-reserve.ensures.items
+    (c.lay_there.ensures.geometry ∙ c.make_room.ensures.geometry
+    ∙ ap (λ (d : Drafted). d.there.geometry) c.self.view_is)
+    (c.lay_there.ensures.objects
+    ∙ ap (λ (l : List ObjectBytes). laid l c.in_ok-copy.copy) c.make_room.ensures.objects
     ∙ ap (laid c.self.inside.there.objects.items) (c.in_ok-copy.ensures.cases
     ∙ (λ i. record { addr = c.new-object.ensures.addr i; bytes = (c.new-object.ensures.bytes ∙ c.in_ok-shared.ensures) i }))
     ∙ ap (λ (d : Drafted). laid d.there.objects.items
@@ -101,13 +110,13 @@ returns-clause-stays c =
     more_fresh c.args.self.now _ c.new-object.result c.args.addr c.new-object.ensures.addr
     (c.in-Ok.ensures.items ∙ ap (λ (d : Drafted). d.written ++ c.new-object.result ∷ []) c.self.view_is)
 
-pub returns-in_err-reserve-clause-once : goal.returns-in_err-reserve-clause-once
-returns-in_err-reserve-clause-once c =
+pub returns-in_err-make_room-clause-once : goal.returns-in_err-make_room-clause-once
+returns-in_err-make_room-clause-once c =
     same_once c.args.self.now _ c.args.addr.block.0 c.args.addr.offset c.args.addr.len
     (ap (λ (d : Drafted). d.written) c.self.view_is)
 
-pub returns-in_err-reserve-clause-stays : goal.returns-in_err-reserve-clause-stays
-returns-in_err-reserve-clause-stays c = λ block offset len.
+pub returns-in_err-make_room-clause-stays : goal.returns-in_err-make_room-clause-stays
+returns-in_err-make_room-clause-stays c = λ block offset len.
     same_fresh c.args.self.now _ block offset len (ap (λ (d : Drafted). d.written) c.self.view_is)
 
 pub returns-in-Err-clause-once : goal.returns-in-Err-clause-once

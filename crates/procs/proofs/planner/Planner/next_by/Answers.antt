@@ -8,3 +8,8 @@ returns-in-Err-Need-clause-plan c =
     let is : c.in-Err-Need.field-0 ≡ stop.Need c.in-Err-Need.addr = search rules in
     let may : MayStop c.args.self.now.snap c.in-Err-Need.field-0 = rw c.in-Err-Need.is at c.go_on-search.ensures.err in
     let asks = subst (MayStop c.args.self.now.snap) is may in (asks.0, asks.1, refl)
+
+pub returns-in-Some-Need-clause-plan : goal.returns-in-Some-Need-clause-plan
+returns-in-Some-Need-clause-plan c =
+    let is : c.in-Some-Need.field-0 ≡ stop.Need c.in-Some-Need.addr = search rules in
+    let asks = subst (MayStop c.args.self.now.snap) is c.in-Some-Need.ensures in (asks.0, asks.1, refl)

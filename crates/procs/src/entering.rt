@@ -1,0 +1,114 @@
+//! What a call asks for behind a run that gives a directory a name, maybe of a new file (RFC 1813, sections 3.3.8 to
+//! 3.3.10 and 3.3.15): a number that no file has, free blocks, each as a claim, and the new file's inode. These are
+//! positions, of which nothing is claimed.
+ghost use Rattle.std.specs.Prelude.{◌≡◌, ◌^◌, ◌≤◌, IfErr};
+ghost use Rattle.inode.specs.Over.{MayStop};
+
+use crate::free::{FreeBlocks, FreeNumber, Room};
+use block_files::BlockFiles;
+use dir::free_slot;
+use files::{Files, Head};
+use inode::{Snap, Stop, held};
+use layout::{Inode, InodeKind};
+use nfs_types::Handle;
+use procs_changes::entry_adds;
+use std::alloc::Global;
+
+/// A directory; the number of a new file, where one is made, and how many blocks it has; how many free blocks are wanted
+/// for these and for the name, once this is known; and how many of them were taken.
+#[derive(Drop)]
+pub(crate) struct Entering {
+    directory: Head,
+    inode: Inode,
+    number: Option<FreeNumber>,
+    blocks: u32,
+    wanted: Option<u32>,
+    room: Room,
+    free: FreeBlocks,
+    taken: u32,
+    ghost few: { blocks ≤ 1 },
+}
+
+impl Entering {
+    /// What a name asks for in the directory of a handle: of a file that is there, or of a new one with so many blocks.
+    pub(crate) fn begin(
+        alloc: Global,
+        snap: &Snap,
+        directory: &Handle,
+        makes: bool,
+        has_block: bool,
+    ) -> Result<Option<Entering>, Stop> {
+        let Some((number, _)) = directory.parts() else {
+            return Ok(None);
+        };
+        let Some(inode) = held(snap, number)? else {
+            return Ok(None);
+        };
+        if inode.kind != InodeKind::Directory {
+            return Ok(None);
+        }
+        let Some(directory) = BlockFiles::new(alloc, snap).file(number)? else {
+            return Ok(None);
+        };
+        Ok(Some(Entering {
+            directory,
+            inode,
+            number: if makes {
+                Some(FreeNumber::begin())
+            } else {
+                None
+            },
+            blocks: if has_block { 1 } else { 0 },
+            wanted: None,
+            room: Room::begin(),
+            free: FreeBlocks::begin(),
+            taken: 0,
+        }))
+    }
+    // Whether so many free blocks are wanted and there. Asks for what tells how many.
+    fn has_room(&mut self, snap: &Snap) -> Result<bool, Stop>
+        ensures { IfErr result (λ why. MayStop snap.now why) }
+    {
+        let wanted = match self.wanted {
+            Some(wanted) => wanted,
+            None => match free_slot(snap, &self.inode)? {
+                Some(slot) => entry_adds(&self.directory, slot) + self.blocks,
+                None => return Ok(false),
+            },
+        };
+        self.wanted = Some(wanted);
+        self.room.is_for(snap, wanted)
+    }
+
+    // Asks for the free blocks that are wanted.
+    fn take(&mut self, snap: &Snap) -> Result<(), Stop>
+        ensures { IfErr result (λ why. MayStop snap.now why) }
+    {
+        'blocks: for taken in self.taken..self.wanted.unwrap_or(0) {
+            self.free.take(snap)?;
+            self.taken = taken + 1;
+        }
+        Ok(())
+    }
+
+    /// Asks for the next object or block that wasn't read or claimed.
+    pub(crate) fn go_on(&mut self, snap: &Snap) -> Result<(), Stop>
+        ensures { IfErr result (λ why. MayStop snap.now why) }
+    {
+        let number = match &mut self.number {
+            Some(number) => match number.find(snap)? {
+                Some(number) => Some(number),
+                None => return Ok(()),
+            },
+            None => None,
+        };
+        if !self.has_room(snap)? {
+            return Ok(());
+        }
+        self.take(snap)?;
+        if let Some(number) = number {
+            held(snap, number)?;
+        }
+        Ok(())
+    }
+}

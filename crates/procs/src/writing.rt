@@ -1,0 +1,136 @@
+//! What a WRITE asks for behind a run (RFC 1813, section 3.3.7): the blocks of which it writes a part, to read them,
+//! the others that it writes, to claim them, and free ones for what isn't mapped. These are positions, of which nothing
+//! is claimed.
+ghost use Rattle.std.specs.Prelude.{◌≡◌, ◌+◌, ◌<◌, ◌≤◌, true, IfErr};
+ghost use Rattle.limits.specs.declared.TheConstants.{FILE_INDEXES, LARGEST_FILE};
+ghost use Rattle.layout.specs.Places.{is_data};
+ghost use Rattle.inode.specs.Over.{MayStop};
+
+use crate::free::{FreeBlocks, Room};
+use disk::BlockNo;
+use file_writes::unmapped;
+use inode::{Snap, Stop, block_number, data_block, held};
+use layout::{Inode, InodeKind};
+use limits::{BLOCK_BYTES, DIRECT_INDEXES, LARGEST_FILE};
+use nfs_types::Handle;
+use objects::Addr;
+
+/// The blocks of a file from an index on up to another, which are written from an offset on up to the end; how many
+/// free ones are owed to those before; and whether the file has an indirect block then.
+#[derive(Drop)]
+pub(crate) struct Writing {
+    inode: Inode,
+    offset: u64,
+    end: u64,
+    at: usize,
+    past: usize,
+    wanted: u32,
+    room: Room,
+    free: FreeBlocks,
+    owed: u32,
+    has_far: bool,
+    ghost within: { past ≤ FILE_INDEXES },
+}
+
+// Asks to claim a data block that is written as a whole, unless it was read.
+fn ask_whole(snap: &Snap, number: u32) -> Result<(), Stop>
+    requires { is_data snap.now.geometry number ≡ true }
+    ensures { IfErr result (λ why. MayStop snap.now why) }
+{
+    let block = BlockNo(number);
+    if snap.get(Addr::whole(block)).is_none() && !snap.has_claim(block) {
+        return Err(Stop::Claim(block));
+    }
+    Ok(())
+}
+
+impl Writing {
+    /// What so many bytes ask for that are written to the file of a handle.
+    pub(crate) fn begin(
+        snap: &Snap,
+        file: &Handle,
+        offset: u64,
+        count: usize,
+    ) -> Result<Option<Writing>, Stop> {
+        let Some((number, _)) = file.parts() else {
+            return Ok(None);
+        };
+        let Some(inode) = held(snap, number)? else {
+            return Ok(None);
+        };
+        if count == 0 || offset > LARGEST_FILE || count as u64 > LARGEST_FILE - offset {
+            return Ok(None);
+        }
+        let wanted = unmapped(snap, &inode, offset, count)?;
+        let end = offset + count as u64;
+        Ok(Some(Writing {
+            inode,
+            offset,
+            end,
+            at: (offset / BLOCK_BYTES as u64) as usize,
+            past: ((end + BLOCK_BYTES as u64 - 1) / BLOCK_BYTES as u64) as usize,
+            wanted,
+            room: Room::begin(),
+            free: FreeBlocks::begin(),
+            owed: 0,
+            has_far: inode.indirect != 0,
+        }))
+    }
+
+    // Whether the block at an index is written as a whole.
+    fn is_whole(&self, index: usize) -> bool
+        requires { index < FILE_INDEXES }
+    {
+        let start = index as u64 * BLOCK_BYTES as u64;
+        self.offset <= start && start + BLOCK_BYTES as u64 <= self.end
+    }
+
+    // Asks for the block at an index. Where there is none a free one is owed, and one for the indirect block when there
+    // is none either.
+    fn ask(&mut self, snap: &Snap, index: usize) -> Result<(), Stop>
+        requires { index < FILE_INDEXES }
+        ensures { IfErr result (λ why. MayStop snap.now why) }
+    {
+        let number = block_number(snap, &self.inode, index)?;
+        if number == 0 {
+            self.owed = 1;
+            if index >= DIRECT_INDEXES && !self.has_far {
+                self.owed = 2;
+                self.has_far = true;
+            }
+            return Ok(());
+        }
+        if self.is_whole(index) {
+            return ask_whole(snap, number);
+        }
+        data_block(snap, number)?;
+        Ok(())
+    }
+
+    // Asks for the free blocks that are owed.
+    fn pay(&mut self, snap: &Snap) -> Result<(), Stop>
+        ensures { IfErr result (λ why. MayStop snap.now why) }
+    {
+        'owed: while self.owed > 0 {
+            self.free.take(snap)?;
+            self.owed -= 1;
+        }
+        Ok(())
+    }
+
+    /// Asks for the next object or block that wasn't read or claimed.
+    pub(crate) fn go_on(&mut self, snap: &Snap) -> Result<(), Stop>
+        ensures { IfErr result (λ why. MayStop snap.now why) }
+    {
+        if !self.room.is_for(snap, self.wanted)? {
+            return Ok(());
+        }
+        self.pay(snap)?;
+        'indexes: for index in self.at..self.past {
+            self.ask(snap, index)?;
+            self.at = index + 1;
+            self.pay(snap)?;
+        }
+        Ok(())
+    }
+}
