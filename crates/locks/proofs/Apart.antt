@@ -9,7 +9,7 @@ use Rattle.txn_law.specs.declared.hold.Hold.{Hold}
 use Rattle.txn_law.proofs.Again.{one_or_apart}
 
 -- an address has a byte
-overlaps_itself : (addr : Addr) → Overlap addr addr
+pub overlaps_itself : (addr : Addr) → Overlap addr addr
 overlaps_itself addr = (refl, omega (arith, addr.some), omega (arith, addr.some))
 
 pub one_holder : (holds : List Hold) (one other : Hold) → AreApart holds → Contains holds one

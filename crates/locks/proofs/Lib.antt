@@ -1,1 +1,4 @@
 pub mod Apart
+pub mod IndexLemmas
+pub mod NoneLeft
+pub mod Walks

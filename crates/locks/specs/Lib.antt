@@ -1,1 +1,4 @@
 pub mod Taking
+pub mod Index
+pub mod Looks
+pub mod Walks

@@ -2,6 +2,7 @@
 //! share it.
 #![tactic(auto)]
 
+mod index;
 mod looks;
 mod table;
 mod taking;

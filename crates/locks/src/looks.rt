@@ -1,20 +1,44 @@
 //! Looks at what is taken.
 ghost use Rattle.std.specs.Prelude.{◌≡◌, ◌↔◌, IsTrue, is_some};
-ghost use Rattle.txn_law.specs.Holds.{KeepsOff, IsFree, hold_of, is_read, is_written};
+ghost use Rattle.locks.specs.Index.{IsIndex, numbers};
+ghost use Rattle.locks.specs.Looks.{LetsPass};
+ghost use Rattle.txn_law.specs.Holds.{IsFree, IsHoldOf, KeepsOff, hold_of, is_hold_of, is_read, is_written};
+ghost use Rattle.txn_law.specs.Tidy.{AreApart};
 
+use crate::index::Index;
 use objects::{Addr, Mode};
 use txn_law::Hold;
 
 /// Whether of what keeps the wish off nothing has a byte of the address, but what this transaction has taken by
 /// this address.
-pub(crate) fn is_free(holds: &[Hold], transaction: u64, addr: Addr, mode: Mode) -> bool
+pub(crate) fn is_free(
+    holds: &[Hold],
+    index: &Index,
+    transaction: u64,
+    addr: Addr,
+    mode: Mode,
+) -> bool
+    requires { IsIndex (numbers holds.now) index.now.last.items index.now.before.items }
     ensures { IsTrue result ↔ IsFree holds.now transaction addr mode }
 {
-    holds.iter().all(|hold| {
-        !hold.addr.overlaps(addr)
-            || !keeps_off(hold, transaction, mode)
-            || hold.transaction == transaction && hold.addr == addr
-    })
+    let mut name = index.last_of(holds, addr.block);
+    while name > 0 {
+        let hold = &holds[name - 1];
+        if !lets_pass(hold, transaction, addr, mode) {
+            return false;
+        }
+        name = index.before[name - 1];
+    }
+    true
+}
+
+// Whether a hold leaves the address free for such a wish.
+fn lets_pass(hold: &Hold, transaction: u64, addr: Addr, mode: Mode) -> bool
+    ensures { IsTrue result ↔ LetsPass transaction addr mode hold.now }
+{
+    !hold.addr.overlaps(addr)
+        || !keeps_off(hold, transaction, mode)
+        || hold.transaction == transaction && hold.addr == addr
 }
 
 // Whether what is taken keeps off such a wish.
@@ -25,38 +49,61 @@ fn keeps_off(hold: &Hold, transaction: u64, mode: Mode) -> bool
 }
 
 /// The transaction's hold of the address, if it has one.
-pub(crate) fn hold_of(holds: &[Hold], transaction: u64, addr: Addr) -> Option<Hold>
+pub(crate) fn hold_of(holds: &[Hold], index: &Index, transaction: u64, addr: Addr) -> Option<Hold>
+    requires apart { AreApart holds.now }
+    requires index { IsIndex (numbers holds.now) index.now.last.items index.now.before.items }
     ensures { result ≡ hold_of holds.now transaction addr }
 {
-    holds
-        .iter()
-        .find(|hold| hold.transaction == transaction && hold.addr == addr)
-        .copied()
+    let mut name = index.last_of(holds, addr.block);
+    while name > 0 {
+        let hold = &holds[name - 1];
+        if is_hold_of(hold, transaction, addr) {
+            return Some(*hold);
+        }
+        name = index.before[name - 1];
+    }
+    None
+}
+
+// Whether the transaction has taken the address by this hold.
+fn is_hold_of(hold: &Hold, transaction: u64, addr: Addr) -> bool
+    ensures { result ≡ is_hold_of transaction addr hold.now }
+{
+    hold.transaction == transaction
+        && hold.addr.block.0 == addr.block.0
+        && hold.addr.offset == addr.offset
+        && hold.addr.len == addr.len
 }
 
 /// Whether the transaction holds the address for reading.
-pub(crate) fn is_read_by(holds: &[Hold], transaction: u64, addr: Addr) -> bool
+pub(crate) fn is_read_by(holds: &[Hold], index: &Index, transaction: u64, addr: Addr) -> bool
+    requires apart { AreApart holds.now }
+    requires index { IsIndex (numbers holds.now) index.now.last.items index.now.before.items }
     ensures { result ≡ is_read (hold_of holds.now transaction addr) }
 {
-    match hold_of(holds, transaction, addr) {
+    match hold_of(holds, index, transaction, addr) {
         Some(hold) => hold.is_read,
         None => false,
     }
 }
 
 /// Whether the transaction holds the address for writing.
-pub(crate) fn is_written_by(holds: &[Hold], transaction: u64, addr: Addr) -> bool
+pub(crate) fn is_written_by(holds: &[Hold], index: &Index, transaction: u64, addr: Addr) -> bool
+    requires apart { AreApart holds.now }
+    requires index { IsIndex (numbers holds.now) index.now.last.items index.now.before.items }
     ensures { result ≡ is_written (hold_of holds.now transaction addr) }
 {
-    match hold_of(holds, transaction, addr) {
+    match hold_of(holds, index, transaction, addr) {
         Some(hold) => hold.mode == Mode::Exclusive && (hold.is_read || hold.is_claimed),
         None => false,
     }
 }
 
 /// Whether the transaction has taken the address.
-pub(crate) fn is_held_by(holds: &[Hold], transaction: u64, addr: Addr) -> bool
+pub(crate) fn is_held_by(holds: &[Hold], index: &Index, transaction: u64, addr: Addr) -> bool
+    requires apart { AreApart holds.now }
+    requires index { IsIndex (numbers holds.now) index.now.last.items index.now.before.items }
     ensures { result ≡ is_some (hold_of holds.now transaction addr) }
 {
-    hold_of(holds, transaction, addr).is_some()
+    hold_of(holds, index, transaction, addr).is_some()
 }

@@ -1,15 +1,16 @@
 //! The table of what is taken.
-ghost use Rattle.std.specs.Prelude.{◌≡◌, ◌↔◌, IsTrue, Contains, [], is_some};
+ghost use Rattle.std.specs.Prelude.{◌≡◌, ◌↔◌, IsTrue, Contains, [], is_some, OnOk, OnErr};
 ghost use Rattle.objects.specs.declared.mode.Mode.TheVariants as modes;
-ghost use Rattle.txn_law.specs.Holds.{IsFree, hold_of, is_read, is_written, released};
+ghost use Rattle.txn_law.specs.Holds.{IsFree, with_hold, hold_of, is_read, is_written, released};
 ghost use Rattle.txn_law.specs.Tidy.{AreApart};
 ghost use Rattle.txn_law.specs.declared.hold.Hold.{Hold};
 ghost use Rattle.locks.specs.Taking.{IsTaking};
 
+use crate::index::Index;
 use crate::looks::{is_free, is_held_by, is_read_by, is_written_by};
 use crate::taking::{note, release};
 use objects::{Addr, Mode};
-use std::alloc::Global;
+use std::alloc::{AllocError, Global};
 use std::marker::Model;
 use txn_law::Hold;
 
@@ -27,6 +28,7 @@ pub enum Take {
 #[derive(Drop)]
 pub struct Table {
     holds: Vec<Hold>,
+    index: Index,
 }
 
 impl Model for Table {
@@ -37,9 +39,9 @@ impl Model for Table {
 
     ghost view = { λ table. table.holds.items };
 
-    ghost use Rattle.txn_law.specs.Tidy.{AreApart};
+    ghost use Rattle.locks.specs.Index.{IsSound};
 
-    ghost invariant = { λ table. AreApart table.holds.items };
+    ghost invariant = { IsSound };
 }
 
 impl Table {
@@ -49,6 +51,7 @@ impl Table {
     {
         Table {
             holds: Vec::new(alloc),
+            index: Index::new(alloc),
         }
     }
 
@@ -77,18 +80,30 @@ impl Table {
         if !self.is_free(hold.transaction, hold.addr, hold.mode) {
             return Take::Busy;
         }
-        if self.holds.reserve(1).is_err() {
-            return Take::NoMemory;
+        match self.take_free(hold) {
+            Ok(()) => Take::Held,
+            Err(_) => Take::NoMemory,
         }
-        note(&mut self.holds, hold);
-        Take::Held
+    }
+
+    /// Takes what a wish is for that nothing keeps off, beside what its transaction has taken of the address. Where there
+    /// is no room nothing changes.
+    pub fn take_free(&mut self, hold: Hold) -> Result<(), AllocError>
+        requires { IsFree self.old hold.transaction hold.addr hold.mode }
+        ensures taken { OnOk result (self.new ≡ with_hold self.old hold) }
+        ensures refused { OnErr result (self.new ≡ self.old) }
+    {
+        self.holds.reserve(1)?;
+        self.index.make_room(hold.addr.block)?;
+        note(&mut self.holds, &mut self.index, hold);
+        Ok(())
     }
 
     /// Lets go of all that the transaction has taken, and of nothing that others took.
     pub fn release_all(&mut self, transaction: u64)
         ensures { self.new ≡ released self.old transaction }
     {
-        release(&mut self.holds, transaction);
+        release(&mut self.holds, &mut self.index, transaction);
     }
 
     /// Whether of what keeps the wish off nothing has a byte of the address, but what this transaction has taken
@@ -96,27 +111,27 @@ impl Table {
     pub fn is_free(&self, transaction: u64, addr: Addr, mode: Mode) -> bool
         ensures { IsTrue result ↔ IsFree self.now transaction addr mode }
     {
-        is_free(&self.holds, transaction, addr, mode)
+        is_free(&self.holds, &self.index, transaction, addr, mode)
     }
 
     /// Whether the transaction has taken the address.
     pub fn is_held_by(&self, transaction: u64, addr: Addr) -> bool
         ensures { result ≡ is_some (hold_of self.now transaction addr) }
     {
-        is_held_by(&self.holds, transaction, addr)
+        is_held_by(&self.holds, &self.index, transaction, addr)
     }
 
     /// Whether the transaction holds the address for reading.
     pub fn is_read_by(&self, transaction: u64, addr: Addr) -> bool
         ensures { result ≡ is_read (hold_of self.now transaction addr) }
     {
-        is_read_by(&self.holds, transaction, addr)
+        is_read_by(&self.holds, &self.index, transaction, addr)
     }
 
     /// Whether the transaction holds the address for writing: alone, and read or claimed.
     pub fn is_written_by(&self, transaction: u64, addr: Addr) -> bool
         ensures { result ≡ is_written (hold_of self.now transaction addr) }
     {
-        is_written_by(&self.holds, transaction, addr)
+        is_written_by(&self.holds, &self.index, transaction, addr)
     }
 }

@@ -1,5 +1,6 @@
 pub mod Filled
 pub mod Found
+pub mod Indexed
 pub mod Kept
 pub mod Residents
 pub mod Splices

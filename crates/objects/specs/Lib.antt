@@ -4,3 +4,4 @@ pub mod Spliced
 pub mod Object
 pub mod Present
 pub mod Pins
+pub mod Indexed

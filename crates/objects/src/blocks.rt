@@ -1,102 +1,198 @@
-//! The list of the blocks in memory.
-ghost use Rattle.std.specs.Prelude.{◌≡◌, ◌<◌, ◌++◌, ◌∷◌, [], option_map, vec_len, vec_capacity};
+//! The blocks in memory, found by their numbers.
+ghost use Rattle.std.specs.Prelude.{◌≡◌, ◌<◌, ◌≤◌, ℕ, [], OnErr, OnOk, length, option_map, slice_index};
 ghost use Rattle.std.specs.Prelude.{is_some, nat_eq, position};
-ghost use Rattle.objects.specs.Present.{present_of, filled, without_pending, without_clean};
+ghost use Rattle.objects.specs.Indexed.{AreHomed, IsIndex, numbers};
+ghost use Rattle.objects.specs.Present.{present_of, filled, without_pending, without_clean, with_block, IsOnce};
 ghost use Rattle.objects.specs.Present.{renewed_resident, renewed, without_block};
 
 use crate::Present;
 use disk::{Block, BlockNo};
+use std::alloc::{AllocError, Global};
+use std::marker::Model;
+
+/// The blocks in memory, each with its content or with its fetch pending. Its type keeps that a block has one resident.
+#[derive(Drop)]
+pub(crate) struct Blocks {
+    list: Vec<Present>,
+    // Of the number of each of them its index in the list. What stands at another number means nothing, and there are as
+    // many as there had to be.
+    indices: Vec<usize>,
+}
+
+impl Model for Blocks {
+    ghost use Rattle.std.specs.Prelude.{List};
+    ghost use Rattle.objects.specs.declared.present.Present.{Present};
+
+    ghost Value = { List Present };
+
+    ghost view = { λ blocks. blocks.list.items };
+
+    ghost use Rattle.objects.specs.Indexed.{IsSound};
+
+    ghost invariant = { IsSound };
+}
+
+impl Blocks {
+    /// None.
+    pub(crate) fn new(alloc: Global) -> Blocks
+        ensures { result ≡ [] }
+    {
+        Blocks {
+            list: Vec::new(alloc),
+            indices: Vec::new(alloc),
+        }
+    }
+
+    /// A block has one resident.
+    pub(crate) fn lawful(&self)
+        ensures { IsOnce self.now }
+    {
+        let _ = &self.list;
+    }
+
+    /// The block's resident, if it has one.
+    pub(crate) fn get(&self, block: BlockNo) -> Option<&Present>
+        ensures { option_map (λ resident. resident.now) result ≡ present_of self.now block }
+    {
+        let Some(i) = index_of(&self.list, &self.indices, block) else {
+            return None;
+        };
+        Some(&self.list[i])
+    }
+
+    /// Brings a block with this content, or with a fetch pending where there is none. One that is there stays as it is.
+    /// Where there is no room nothing changes.
+    pub(crate) fn bring(&mut self, block: BlockNo, content: Option<Block>) -> Result<(), AllocError>
+        ensures brought { OnOk result (self.new ≡ with_block self.old block content) }
+        ensures refused { OnErr result (self.new ≡ self.old) }
+    {
+        if self.has(block) {
+            return Ok(());
+        }
+        let at = block.0 as usize;
+        reach(&mut self.indices, at)?;
+        let i = self.list.len();
+        self.list.push(Present { block, content })?;
+        self.indices[at] = i;
+        Ok(())
+    }
+
+    // Whether the block has a resident.
+    fn has(&self, block: BlockNo) -> bool
+        ensures { result ≡ is_some (present_of self.now block) }
+    {
+        match self.get(block) {
+            Some(_) => true,
+            None => false,
+        }
+    }
+
+    /// Puts the content of a block in its place, where its fetch is pending.
+    pub(crate) fn fill(&mut self, block: BlockNo, content: Block)
+        ensures { self.new ≡ filled self.old block content }
+    {
+        fill_in(&mut self.list, &self.indices, block, content);
+    }
+
+    /// Makes the content of a block this one, where it is in memory.
+    pub(crate) fn renew(&mut self, block: BlockNo, content: &Block)
+        ensures { self.new ≡ renewed self.old block content.now }
+    {
+        renew_in(&mut self.list, &self.indices, block, content);
+    }
+
+    /// Lets go of the block where its fetch is pending.
+    pub(crate) fn let_go(&mut self, block: BlockNo)
+        ensures { self.new ≡ without_pending self.old block }
+    {
+        self.list.retain(|resident| resident.block != block || resident.content.is_some());
+        renumber(&self.list, &mut self.indices);
+    }
+
+    /// Lets go of the block where no fetch of it is pending.
+    pub(crate) fn unpin(&mut self, block: BlockNo)
+        ensures { self.new ≡ without_clean self.old block }
+    {
+        self.list.retain(|resident| resident.block != block || resident.content.is_none());
+        renumber(&self.list, &mut self.indices);
+    }
+
+    /// Lets go of the block.
+    pub(crate) fn take_back(&mut self, block: BlockNo)
+        ensures { self.new ≡ without_block self.old block }
+    {
+        self.list.retain(|resident| resident.block != block);
+        renumber(&self.list, &mut self.indices);
+    }
+}
+
+// What stands at the number of the block.
+fn noted(indices: &[usize], block: BlockNo) -> usize
+    ensures { result ≡ slice_index indices.now block.0 }
+{
+    let at = block.0 as usize;
+    if at < indices.len() { indices[at] } else { 0 }
+}
 
 // Where the block stands, if it is there.
-fn index_of(present: &[Present], block: BlockNo) -> Option<usize>
-    ensures { result ≡ position (λ resident. nat_eq resident.block.0 block.0) present.now }
+fn index_of(list: &[Present], indices: &[usize], block: BlockNo) -> Option<usize>
+    requires { IsIndex (numbers list.now) indices.now }
+    ensures { result ≡ position (λ resident. nat_eq resident.block.0 block.0) list.now }
 {
-    present.iter().position(|resident| resident.block == block)
+    let i = noted(indices, block);
+    if i < list.len() && list[i].block == block {
+        return Some(i);
+    }
+    None
 }
 
-/// The block's resident, if it has one.
-pub(crate) fn present_of(present: &[Present], block: BlockNo) -> Option<&Present>
-    ensures { option_map (λ resident. resident.now) result ≡ present_of present.now block }
+// Makes the indices so many that one stands at this number.
+fn reach(indices: &mut Vec<usize>, at: usize) -> Result<(), AllocError>
+    ensures same { (number : ℕ) → slice_index indices.new.items number ≡ slice_index indices.old.items number }
+    ensures more { length indices.old.items ≤ length indices.new.items }
+    ensures long { OnOk result (at < length indices.new.items) }
 {
-    present.iter().find(|resident| resident.block == block)
+    while indices.len() <= at {
+        indices.push(0)?;
+    }
+    Ok(())
 }
 
-/// Whether the block has a resident.
-pub(crate) fn is_there(present: &[Present], block: BlockNo) -> bool
-    ensures { result ≡ is_some (present_of present.now block) }
+// Notes anew where each of them stands.
+fn renumber(list: &[Present], indices: &mut [usize])
+    requires once { IsOnce list.now }
+    requires homed { AreHomed (length indices.old) (numbers list.now) }
+    ensures { IsIndex (numbers list.now) indices.new }
 {
-    match present_of(present, block) {
-        Some(_) => true,
-        None => false,
+    for i in 0..list.len() {
+        indices[list[i].block.0 as usize] = i;
     }
 }
 
-/// Adds a block, for which there is room.
-pub(crate) fn add(present: &mut Vec<Present>, block: BlockNo, content: Option<Block>)
-    requires { vec_len present.old < vec_capacity present.old }
-    ensures { present.new.items ≡ present.old.items ++ record { block = block; content = content } ∷ [] }
+// Puts the content of a block in its place, where its fetch is pending.
+fn fill_in(list: &mut [Present], indices: &[usize], block: BlockNo, content: Block)
+    requires { IsIndex (numbers list.old) indices.now }
+    ensures { list.new ≡ filled list.old block content }
 {
-    match present.push(Present { block, content }) {
-        Ok(()) => {}
-        Err(_) => unreachable!(),
-    }
-}
-
-/// Puts the content of a block in its place, where its fetch is pending.
-pub(crate) fn fill(present: &mut Vec<Present>, block: BlockNo, content: Block)
-    ensures { present.new.items ≡ filled present.old.items block content }
-{
-    fill_in(present, block, content);
-}
-
-// The same of the list alone.
-fn fill_in(present: &mut [Present], block: BlockNo, content: Block)
-    ensures { present.new ≡ filled present.old block content }
-{
-    let Some(i) = index_of(present, block) else {
+    let Some(i) = index_of(list, indices, block) else {
         return;
     };
-    let resident = &mut present[i];
+    let resident = &mut list[i];
     if resident.content.is_none() {
         resident.content = Some(content);
     }
 }
 
-/// Lets go of the block where its fetch is pending.
-pub(crate) fn let_go(present: &mut Vec<Present>, block: BlockNo)
-    ensures { present.new.items ≡ without_pending present.old.items block }
+// Makes the content of a block this one, where it is there.
+fn renew_in(list: &mut [Present], indices: &[usize], block: BlockNo, content: &Block)
+    requires once { IsOnce list.old }
+    requires index { IsIndex (numbers list.old) indices.now }
+    ensures { list.new ≡ renewed list.old block content.now }
 {
-    present.retain(|resident| resident.block != block || resident.content.is_some());
-}
-
-/// Lets go of the block where no fetch of it is pending.
-pub(crate) fn unpin(present: &mut Vec<Present>, block: BlockNo)
-    ensures { present.new.items ≡ without_clean present.old.items block }
-{
-    present.retain(|resident| resident.block != block || resident.content.is_none());
-}
-
-/// Lets go of the block.
-pub(crate) fn take_back(present: &mut Vec<Present>, block: BlockNo)
-    ensures { present.new.items ≡ without_block present.old.items block }
-{
-    present.retain(|resident| resident.block != block);
-}
-
-/// Makes the content of a block this one, where it is in memory.
-pub(crate) fn renew_each(present: &mut Vec<Present>, block: BlockNo, content: &Block)
-    ensures { present.new.items ≡ renewed present.old.items block content.now }
-{
-    renew_list(present, block, content);
-}
-
-// The same of the list alone.
-fn renew_list(present: &mut [Present], block: BlockNo, content: &Block)
-    ensures { present.new ≡ renewed present.old block content.now }
-{
-    for resident in present.iter_mut() {
-        renew(resident, block, content);
-    }
+    let Some(i) = index_of(list, indices, block) else {
+        return;
+    };
+    renew(&mut list[i], block, content);
 }
 
 // The same of one resident.

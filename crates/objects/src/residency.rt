@@ -6,10 +6,10 @@ ghost use Rattle.objects.specs.Present.{present_of, content_in, is_pending, IsOn
 ghost use Rattle.objects.specs.Present.{without_pending, without_block, renewed};
 ghost use Rattle.objects.specs.declared.present.Present.{Present as Resident};
 
-use crate::blocks::{add, fill, is_there, let_go, present_of, renew_each, take_back};
+use crate::blocks::Blocks;
 use crate::clean::keep_clean;
+use crate::pins;
 use crate::recent::Recent;
-use crate::{Present, pins};
 use disk::{Block, BlockNo};
 use std::alloc::{AllocError, Global};
 use std::collections::HashMap;
@@ -20,7 +20,7 @@ use std::marker::Model;
 /// pending. A block may be pinned while it isn't in memory, and may be in memory while nobody has pinned it.
 #[derive(Drop)]
 pub struct Residency {
-    blocks: Vec<Present>,
+    blocks: Blocks,
     // How often a block is pinned, by its number.
     pins: HashMap<u32, u64>,
     // Which of those that nobody has pinned go first.
@@ -33,13 +33,9 @@ impl Model for Residency {
     ghost Value = { Residents };
 
     ghost view = { λ residency. record {
-      blocks = residency.blocks.items;
+      blocks = residency.blocks;
       counts = residency.pins.entries;
     } };
-
-    ghost use Rattle.objects.specs.Present.{IsOnce};
-
-    ghost invariant = { λ residency. IsOnce residency.blocks.items };
 }
 
 impl Residency {
@@ -49,7 +45,7 @@ impl Residency {
         ensures pins { (at : BlockNo) → pins_of result at ≡ 0 }
     {
         Residency {
-            blocks: Vec::new(alloc),
+            blocks: Blocks::new(alloc),
             pins: HashMap::new(alloc),
             recent: Recent::new(alloc),
         }
@@ -59,14 +55,14 @@ impl Residency {
     pub fn lawful(&self)
         ensures { IsOnce self.now.blocks }
     {
-        let _ = &self.blocks;
+        self.blocks.lawful();
     }
 
     /// The block's content, if it is there and its fetch isn't pending.
     pub fn content_of(&self, block: BlockNo) -> Option<&Block>
         ensures { option_map (λ content. content.now) result ≡ content_in (present_of self.now.blocks block) }
     {
-        match present_of(&self.blocks, block) {
+        match self.blocks.get(block) {
             Some(resident) => resident.content.as_ref(),
             None => None,
         }
@@ -76,7 +72,7 @@ impl Residency {
     pub fn is_pending(&self, block: BlockNo) -> bool
         ensures { result ≡ is_pending (present_of self.now.blocks block) }
     {
-        match present_of(&self.blocks, block) {
+        match self.blocks.get(block) {
             Some(resident) => resident.content.is_none(),
             None => false,
         }
@@ -118,10 +114,10 @@ impl Residency {
         ensures refused { OnErr result (PinsStay self.old self.new) }
         ensures same { OnErr result (self.new.blocks ≡ self.old.blocks) }
     {
-        self.blocks.reserve(1)?;
         pins::add(&mut self.pins, block)?;
-        if !is_there(&self.blocks, block) {
-            add(&mut self.blocks, block, content);
+        if let Err(none) = self.blocks.bring(block, content) {
+            let _ = pins::take(&mut self.pins, block);
+            return Err(none);
         }
         Ok(())
     }
@@ -151,7 +147,7 @@ impl Residency {
         ensures pins { (at : BlockNo) → pins_of self.new at ≡ pins_of self.old at - once_at block at }
     {
         let _ = pins::take(&mut self.pins, block);
-        take_back(&mut self.blocks, block);
+        self.blocks.take_back(block);
     }
 
     /// Puts the content of a block in its place, where its fetch is pending. Where nobody has pinned it, it may stay
@@ -161,7 +157,7 @@ impl Residency {
           blocks = spared spare (pins_of self.old) (filled self.old.blocks block content);
         }) }
     {
-        fill(&mut self.blocks, block, content);
+        self.blocks.fill(block, content);
         if pins::count_of(&self.pins, block) == 0 {
             keep_clean(&mut self.blocks, &self.pins, &mut self.recent, block);
         }
@@ -171,13 +167,13 @@ impl Residency {
     pub fn fetch_failed(&mut self, block: BlockNo)
         ensures { self.new ≡ record self.old { blocks = without_pending self.old.blocks block } }
     {
-        let_go(&mut self.blocks, block);
+        self.blocks.let_go(block);
     }
 
     /// Makes the content of a block this one, where it is in memory.
     pub fn renew(&mut self, block: BlockNo, content: &Block)
         ensures { self.new ≡ record self.old { blocks = renewed self.old.blocks block content.now } }
     {
-        renew_each(&mut self.blocks, block, content);
+        self.blocks.renew(block, content);
     }
 }

@@ -20,7 +20,7 @@ use crate::outcomes::{Claim, Want};
 use crate::state::State;
 use crate::{Change, FetchIo, Tx};
 use disk::{Block, BlockNo};
-use locks::{Hold, Table, Take, for_fetching, for_reading, for_writing};
+use locks::{Hold, Table, for_fetching, for_reading, for_writing};
 use objects::{Addr, Mode, Residency, SharedBytes, extract};
 use std::alloc::{AllocError, Global};
 
@@ -201,9 +201,5 @@ fn note(holds: &mut Table, hold: Hold) -> Result<(), AllocError>
     ensures taken { OnOk result (holds.new ≡ with_hold holds.old hold) }
     ensures refused { OnErr result (holds.new ≡ holds.old) }
 {
-    match holds.take(hold) {
-        Take::Held => Ok(()),
-        Take::NoMemory => Err(AllocError),
-        Take::Busy => unreachable!(),
-    }
+    holds.take_free(hold)
 }

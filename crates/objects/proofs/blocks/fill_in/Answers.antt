@@ -8,7 +8,7 @@ use Rattle.objects.proofs.Filled.{filled_none, filled_at}
 use Rattle.objects.proofs.blocks.fill_in.Goals as goal
 
 pub returns-in_default : goal.returns-in_default
-returns-in_default c = filled_none c.args.block c.args.content c.args.present.now (c.in_default.ensures)
+returns-in_default c = filled_none c.args.block c.args.content c.args.list.now (c.in_default.ensures)
 
 put : (there : Option Content) (content : Content) → is_some there ≡ false
     → Some content ≡ filled_in there content
@@ -22,20 +22,20 @@ kept None content e = absurd (cc)
 
 pub returns-then-is_none : goal.returns-then-is_none
 returns-then-is_none c =
-    let d : Present = c.index-present-i.result in
+    let d : Present = c.index-list-i.result in
     let it = c.if-is_none.ensures in
-    ap (λ (content : Option Content). set c.args.present.now c.in-Some.i (record {
-      block = (slice_index_or c.args.present.now c.in-Some.i d).block;
+    ap (λ (content : Option Content). set c.args.list.now c.in-Some.i (record {
+      block = (slice_index_or c.args.list.now c.in-Some.i d).block;
       content = content;
     })) (put _ c.args.content it)
-    ∙ filled_at c.args.block c.args.content c.args.present.now c.in-Some.i d (c.in-Some.ensures)
+    ∙ filled_at c.args.block c.args.content c.args.list.now c.in-Some.i d (c.in-Some.ensures)
 
 pub returns-else-is_none : goal.returns-else-is_none
 returns-else-is_none c =
-    let d : Present = c.index-present-i.result in
+    let d : Present = c.index-list-i.result in
     let it = c.if-is_none.ensures in
-    ap (λ (content : Option Content). set c.args.present.now c.in-Some.i (record {
-      block = (slice_index_or c.args.present.now c.in-Some.i d).block;
+    ap (λ (content : Option Content). set c.args.list.now c.in-Some.i (record {
+      block = (slice_index_or c.args.list.now c.in-Some.i d).block;
       content = content;
     })) (kept _ c.args.content it)
-    ∙ filled_at c.args.block c.args.content c.args.present.now c.in-Some.i d (c.in-Some.ensures)
+    ∙ filled_at c.args.block c.args.content c.args.list.now c.in-Some.i d (c.in-Some.ensures)

@@ -5,4 +5,4 @@ use Rattle.locks.proofs.table.Table.lawful.Goals as goal
 
 pub returns-clause-one : goal.returns-clause-one
 returns-clause-one c = λ one other here there same alone.
-    one_holder c.args.self.now one other (subst AreApart c.self.view_is c.self.invariant) here there same alone
+    one_holder c.args.self.now one other (subst AreApart c.self.view_is c.self.invariant.apart) here there same alone

@@ -5,7 +5,9 @@ use Rattle.txn_law.proofs.Tidied.{apart_filter}
 use Rattle.locks.proofs.table.Table.release_all.Goals as goal
 
 pub invariant_of-self : goal.invariant_of-self
-invariant_of-self c =
-    subst AreApart (sym c.release.ensures)
-    (apart_filter (λ (hold : Hold). not (nat_eq hold.transaction c.args.transaction)) c.self.inside.holds.items
-    c.self.invariant)
+invariant_of-self c = record {
+  apart = subst AreApart (sym c.release.ensures.holds)
+      (apart_filter (λ (hold : Hold). not (nat_eq hold.transaction c.args.transaction)) c.self.inside.holds.items
+      c.self.invariant.apart);
+  index = c.release.ensures.index;
+}

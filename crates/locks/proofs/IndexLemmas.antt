@@ -1,0 +1,194 @@
+-- Lemmas on the index over holds.
+use Rattle.std.proofs.Common.{◌≡◌, ◌≢◌, ℕ, zero, suc, ◌+◌, ◌-◌, ◌<◌, ◌≤◌, List, [], ◌∷◌, ◌++◌, length, inl, inr}
+use Rattle.std.proofs.Common.{refl, sym, ap, ◌∙◌, arith, subst, slice_index, get_or, take, cond, Bool, true, false}
+use Rattle.std.specs.Prelude.{slice_set}
+use Rattle.std.specs.List.{filter}
+use Rattle.std.proofs.lemmas.Bool.{cases_eq, cases_lt}
+use Rattle.std.proofs.lemmas.List.{get_or_append_left, get_or_push, length_push, length-map, get_or-set_same}
+use Rattle.std.proofs.lemmas.List.{get_or-set_other, map-append, length-set, take_more}
+use Rattle.txn_law.specs.declared.hold.Hold.{Hold}
+use Rattle.locks.specs.Index.{AreHomed, IsBefore, IsIndex, IsLast, IsSame, numbers}
+
+pub numbers-length : (holds : List Hold) → length (numbers holds) ≡ length holds
+numbers-length holds = length-map holds (λ (hold : Hold). hold.addr.block.0)
+
+pub numbers-push : (holds : List Hold) (hold : Hold) → numbers (holds ++ hold ∷ []) ≡ numbers holds ++ hold.addr.block.0 ∷ []
+numbers-push holds hold = map-append (λ (one : Hold). one.addr.block.0) holds (hold ∷ [])
+
+pub numbers-at : (holds : List Hold) (k : ℕ) (d : Hold) → k < length holds
+    → slice_index (numbers holds) k ≡ (get_or holds k d).addr.block.0
+numbers-at [] k d lt = absurd (omega (arith, lt))
+numbers-at (x ∷ xs) zero d lt = refl
+numbers-at (x ∷ xs) (suc k) d lt = numbers-at xs k d (omega (arith, lt))
+
+-- no hold, no names
+pub none_yet : (last : List ℕ) → IsIndex [] last []
+none_yet last = record {
+  homed = λ k lt. absurd (omega (arith, lt));
+  each = refl;
+  of_block = λ k lt. absurd (omega (arith, lt));
+  of_hold = λ k lt. absurd (omega (arith, lt));
+}
+
+-- what stands at a block, where a hold of it stands there
+pub is_last : (list last before : List ℕ) (block name : ℕ) → IsIndex list last before
+    → name ≡ slice_index last block → 0 < name → name ≤ length list → slice_index list (name - 1) ≡ block
+    → IsLast list block name
+is_last list last before block name index noted some within there = record {
+  within = within;
+  there = λ _. there;
+  last = λ k from lt e. (
+      let same = index.of_block k lt in
+      let later : k < slice_index last block = subst (λ (b : ℕ). k < slice_index last b) e same.later in
+      absurd (omega (arith, later, noted, from)));
+}
+
+-- and where none does
+pub is_none : (list last before : List ℕ) (block name : ℕ) → IsIndex list last before
+    → name ≡ slice_index last block
+    → (0 < name → name ≤ length list → slice_index list (name - 1) ≡ block → ⊥) → IsLast list block 0
+is_none list last before block name index noted never = record {
+  within = omega arith;
+  there = λ some. absurd (omega (arith, some));
+  last = λ k from lt e. (
+      let same = index.of_block k lt in
+      let at : slice_index last (slice_index list k) ≡ name = ap (λ (b : ℕ). slice_index last b) e ∙ sym noted in
+      let later = same.later in
+      let within = same.within in
+      never (omega (arith, later, at)) (omega (arith, within, at))
+      (subst (λ (n : ℕ). slice_index list (n - 1) ≡ block) at (same.there ∙ e)));
+}
+
+-- more names, of which those that there were are the same
+pub reached : (list last other before : List ℕ) → IsIndex list last before
+    → ((number : ℕ) → slice_index other number ≡ slice_index last number) → length last ≤ length other
+    → IsIndex list other before
+reached list last other before index same more = record {
+  homed = λ k lt. (let h = index.homed k lt in omega (arith, h, more));
+  each = index.each;
+  of_block = λ k lt.
+      subst (λ (n : ℕ). IsSame list k n) (sym (same (slice_index list k))) (index.of_block k lt);
+  of_hold = index.of_hold;
+}
+
+-- one hold more
+pub pushed : (list last before : List ℕ) (block name : ℕ) → IsIndex list last before → IsLast list block name
+    → block < length last
+    → IsIndex (list ++ block ∷ []) (slice_set last block (length list + 1)) (before ++ name ∷ [])
+pushed list last before block name index is home =
+    let len : length (list ++ block ∷ []) ≡ length list + 1 = length_push list block in
+    let long : length (slice_set last block (length list + 1)) ≡ length last = length-set last block (length list + 1) in
+    let names : length (before ++ name ∷ []) ≡ length before + 1 = length_push before name in
+    let each = index.each in
+    let old : (k : ℕ) → k < length list → slice_index (list ++ block ∷ []) k ≡ slice_index list k =
+    λ k lt. get_or_append_left list (block ∷ []) 0 k lt in
+    let new : (k : ℕ) → k < length (list ++ block ∷ []) → length list ≤ k → slice_index (list ++ block ∷ []) k ≡ block =
+    λ k lt le. get_or_push list block 0 k (omega (arith, lt, le, len)) in
+    let end : slice_index (list ++ block ∷ []) (length list) ≡ block =
+    get_or_push list block 0 (length list) refl in
+    let here : slice_index (slice_set last block (length list + 1)) block ≡ length list + 1 =
+    get_or-set_same last block (length list + 1) 0 home in
+    let comes : (k : ℕ) → k < length (list ++ block ∷ []) → slice_index (list ++ block ∷ []) k ≡ block
+    → IsSame (list ++ block ∷ []) k (length list + 1) = λ k lt e. record {
+      later = omega (arith, lt, len);
+      within = omega (arith, len);
+      there = (let one : length list + 1 - 1 ≡ length list = omega arith in rw one (end ∙ sym e));
+    } in
+    record {
+      homed = λ k lt.
+          elim (cases_lt k (length list)) as (λ _. slice_index (list ++ block ∷ []) k
+          < length (slice_set last block (length list + 1))) [
+            | inl less ↦ (let h = index.homed k less in let e = old k less in omega (arith, h, e, long))
+            | inr more ↦ (let e = new k lt more in omega (arith, home, e, long))
+          ];
+      each = omega (arith, len, names, each);
+      of_block = λ k lt.
+          elim (cases_eq (slice_index (list ++ block ∷ []) k) block) as (λ _. IsSame (list ++ block ∷ []) k
+          (slice_index (slice_set last block (length list + 1)) (slice_index (list ++ block ∷ []) k))) [
+            | inl e ↦
+                subst (λ (n : ℕ). IsSame (list ++ block ∷ []) k n)
+                (sym (ap (λ (b : ℕ). slice_index (slice_set last block (length list + 1)) b) e ∙ here)) (comes k lt e)
+            | inr ne ↦
+                let less : k < length list =
+                elim (cases_lt k (length list)) as (λ _. k < length list) [
+                  | inl less ↦ less
+                  | inr more ↦ absurd (ne (new k lt more))
+                ] in
+                let is_old = old k less in
+                let same = index.of_block k less in
+                let later = same.later in
+                let within = same.within in
+                let at : slice_index (slice_set last block (length list + 1)) (slice_index (list ++ block ∷ []) k)
+                ≡ slice_index last (slice_index list k) =
+                get_or-set_other last block (slice_index (list ++ block ∷ []) k) (length list + 1) 0 ne
+                ∙ ap (λ (b : ℕ). slice_index last b) is_old in
+                subst (λ (n : ℕ). IsSame (list ++ block ∷ []) k n) (sym at)
+                (record {
+                  later = later;
+                  within = omega (arith, within, len);
+                  there = old (slice_index last (slice_index list k) - 1) (omega (arith, later, within)) ∙ same.there
+                      ∙ sym is_old;
+                })
+          ];
+      of_hold = λ k lt.
+          elim (cases_lt k (length list)) as (λ _. IsBefore (list ++ block ∷ []) k (slice_index (before ++ name ∷ []) k)) [
+            | inl less ↦
+                let there = index.of_hold k less in
+                let within = there.within in
+                let is_old = old k less in
+                subst (λ (n : ℕ). IsBefore (list ++ block ∷ []) k n)
+                (sym (get_or_append_left before (name ∷ []) 0 k (omega (arith, less, each))))
+                (record {
+                  within = within;
+                  there = λ some. old (slice_index before k - 1) (omega (arith, within, less, some)) ∙ there.there some
+                      ∙ sym is_old;
+                  between = λ j from lt e.
+                      there.between j from lt (sym (old j (omega (arith, lt, less))) ∙ e ∙ is_old);
+                })
+            | inr more ↦
+                let within = is.within in
+                let k_is : k ≡ length list = omega (arith, lt, more, len) in
+                let is_new = new k lt more in
+                subst (λ (n : ℕ). IsBefore (list ++ block ∷ []) k n)
+                (sym (get_or_push before name 0 k (omega (arith, k_is, each))))
+                (record {
+                  within = omega (arith, within, more);
+                  there = λ some. old (name - 1) (omega (arith, within, some)) ∙ is.there some ∙ sym is_new;
+                  between = λ j from less e.
+                      is.last j from (omega (arith, less, k_is)) (sym (old j (omega (arith, less, k_is))) ∙ e ∙ is_new);
+                })
+          ];
+    }
+
+-- the hold before one that is the last but what was passed
+pub passed_on : (list last before : List ℕ) (block name : ℕ) → IsIndex list last before → 0 < name
+    → name ≤ length list → slice_index list (name - 1) ≡ block
+    → (slice_index before (name - 1) < name)
+    × (0 < slice_index before (name - 1) → slice_index list (slice_index before (name - 1) - 1) ≡ block)
+    × ((j : ℕ) → slice_index before (name - 1) ≤ j → j < name - 1 → slice_index list j ≢ block)
+passed_on list last before block name index some within there =
+    let is = index.of_hold (name - 1) (omega (arith, some, within)) in
+    let le = is.within in (
+      omega (arith, le, some),
+      (λ more. is.there more ∙ there),
+      λ j from lt e. is.between j from lt (e ∙ sym there),
+    )
+
+-- fewer holds
+pub homed_filter : (q : Hold → Bool) (count : ℕ) (xs : List Hold) → AreHomed count (numbers xs)
+    → AreHomed count (numbers (filter q xs))
+homed_filter q count [] h k lt = absurd (omega (arith, lt))
+homed_filter q count (x ∷ xs) h k lt =
+    go (homed_filter q count xs (λ j l. h (suc j) (omega (arith, l)))) (q x) k lt
+  where
+    go : AreHomed count (numbers (filter q xs)) → (t : Bool)
+        → AreHomed count (numbers (cond t (x ∷ filter q xs) (filter q xs)))
+    go rest false k lt = rest k lt
+    go rest true zero lt = h zero (omega arith)
+    go rest true (suc k) lt = rest k (omega (arith, lt))
+
+-- the holds up to one, and that one
+pub numbers-take : (holds : List Hold) (i : ℕ) (d : Hold) → i < length holds
+    → numbers (take (i + 1) holds) ≡ numbers (take i holds) ++ (get_or holds i d).addr.block.0 ∷ []
+numbers-take holds i d lt =
+    ap numbers (take_more holds i d lt) ∙ numbers-push (take i holds) (get_or holds i d)
