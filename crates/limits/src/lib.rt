@@ -95,7 +95,7 @@ pub const NANOSECONDS: u32 = 1_000_000_000;
 // The sizes of calls.
 
 /// The most bytes of a record.
-pub const RECORD_BYTES: usize = 40_960;
+pub const RECORD_BYTES: usize = 139_264;
 /// The bytes of a handle of this server.
 pub const HANDLE_BYTES: usize = 20;
 /// The most bytes of a handle on the wire.
@@ -109,7 +109,7 @@ pub const MOST_GIDS: usize = 16;
 /// The user and the group of a call without credential.
 pub const NOBODY: u32 = 65_534;
 /// The most bytes that one READ or WRITE moves.
-pub const TRANSFER_BYTES: u32 = 32_768;
+pub const TRANSFER_BYTES: u32 = 131_072;
 /// Of what the sizes of READ and WRITE are best a multiple.
 pub const TRANSFER_MULTIPLE: u32 = 4096;
 /// The most bytes of a listing of a directory that its call may ask for.
@@ -135,7 +135,7 @@ pub const PIECE_BYTES: usize = 4096;
 // The sizes of transactions and runs.
 
 /// The most blocks that a transaction changes.
-pub const CHANGED_BLOCKS: usize = 64;
+pub const CHANGED_BLOCKS: usize = 128;
 /// The most commits that an open store keeps in memory once it has settled: where there are more, what is
 /// logged is brought home.
 pub const MOST_KEPT_COMMITS: usize = 64;

@@ -4,8 +4,8 @@
 pub const MOST_CONNECTIONS: usize = 64;
 /// A connection that has been silent for longer gives its place to a new one.
 pub const SILENT_SECONDS: u64 = 60;
-/// The most jobs that wait for a worker.
-pub const MOST_JOBS: usize = 256;
+/// The most jobs that wait for a worker: each has a record of up to 136 KB.
+pub const MOST_JOBS: usize = 64;
 /// The most threads that take jobs off their queue.
 pub const MOST_JOB_THREADS: usize = 4;
 /// The bytes that are read of a stream at once.
@@ -24,8 +24,8 @@ pub const IDLE_SECONDS: u64 = 900;
 pub const INSTALL_MILLISECONDS: u64 = 50;
 /// Of how many kept commits on the installer doesn't wait.
 pub const URGENT_COMMITS: usize = 256;
-/// Of how many kept commits on who has committed waits until some are home: each keeps what it has read, up to 32 KB.
-pub const CROWDING_COMMITS: usize = 2048;
+/// Of how many kept commits on who has committed waits until some are home: each keeps what it has read, up to 128 KB.
+pub const CROWDING_COMMITS: usize = 512;
 /// How often a thread that is kept off yields before it sleeps.
 pub const YIELDS: u32 = 8;
 /// How long it sleeps first, and at most.
