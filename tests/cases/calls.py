@@ -32,7 +32,7 @@ def test_an_input_that_ends_in_a_record_is_truncated(place):
 
 def test_a_record_that_can_not_be_answered_ends_the_session(place):
     closing = {
-        "a mark that announces a byte too much": wire.words(0x80000000 | 40961),
+        "a mark that announces a byte too much": wire.words(0x80000000 | 139_265),
         "a reply": wire.null_reply(1),
         "a message that is neither call nor reply": wire.record(wire.words(1, 2, 2, wire.PROGRAM, 3, 0) + NOBODY),
         "a call that ends before the version of RPC": wire.record(wire.words(1, 0)),

@@ -100,7 +100,7 @@ def row_what_a_write_answers(client):
     same("the verifier", client.do(nfs.COMMIT, file, 0, 0).verifier, wrote.verifier)
     client.refuse(INVAL, nfs.WRITE, file, 0, 2, nfs.UNSTABLE, b"abc")
     client.refuse(INVAL, nfs.WRITE, file, 0, 4, nfs.UNSTABLE, b"abc")
-    client.refuse(INVAL, nfs.WRITE, file, 0, 32769, nfs.UNSTABLE, bytes(32769))
+    client.refuse(INVAL, nfs.WRITE, file, 0, 131_073, nfs.UNSTABLE, bytes(131_073))
     client.refuse(INVAL, nfs.WRITE, ROOT, 0, 1, nfs.UNSTABLE, b"a")
     same("its bytes", client.read(file), b"abc")
 

@@ -45,8 +45,8 @@ NANOSECONDS = [0, 0, 1, 999_999_999, 10**9, 2**32 - 1]
 # Files stay short, since the plain program copies them at each call; what lies far out is refused.
 OFFSETS = [0, 0, 0, 1, 5, 100, BLOCK - 1, BLOCK, BLOCK + 1, 2 * BLOCK, 7 * BLOCK + 4000, 8 * BLOCK, 9 * BLOCK]
 FAR_OFFSETS = [LARGEST, LARGEST + 1, 2**32, 2**63, 2**64 - 1]
-COUNTS = [0, 1, 2, 5, 100, BLOCK, BLOCK + 1, 10_000, 32767, 32768]
-FAR_COUNTS = [32769, 40_000, 2**31, 2**32 - 1]
+COUNTS = [0, 1, 2, 5, 100, BLOCK, BLOCK + 1, 10_000, 32_768, 131_071, 131_072]
+FAR_COUNTS = [131_073, 138_000, 2**31, 2**32 - 1]
 LIST_COUNTS = [0, 103, 104, 127, 128, 132, 200, 300, 400, 600, 1000, 4096, 32768, 2**32 - 1]
 SIZES = [0, 0, 1, 5, 100, BLOCK - 1, BLOCK, BLOCK + 1, 5 * BLOCK, 8 * BLOCK, 8 * BLOCK + 1, 10 * BLOCK]
 FAR_SIZES = [LARGEST + 1, 2**32, 2**64 - 1]
@@ -165,7 +165,7 @@ class Stream:
         return which, self.attributes() if which in (nfs.SOCKET, nfs.FIFO) else None
 
     def data(self):
-        count = self.drawn.choice(COUNTS if self.is_likely(0.98) else [32769, 40_000])
+        count = self.drawn.choice(COUNTS if self.is_likely(0.98) else [131_073, 138_000])
         return bytes([self.drawn.randrange(256)]) * count
 
     def target(self):

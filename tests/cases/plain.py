@@ -6,7 +6,7 @@ from cases import changing, conversing, wire
 from cases.running import BLOCKS, INODES, MADE, Skipped, expect, same
 
 # A mark of a record's last fragment that announces one byte more than a record may have.
-TOO_LONG = wire.words(0x80000000 | 40961)
+TOO_LONG = wire.words(0x80000000 | 139_265)
 COUNTS = [str(it) for it in (BLOCKS, INODES, MADE, 2000)]
 
 

@@ -319,7 +319,7 @@ def test_calls_are_answered_behind_the_end_of_what_is_sent(place):
 
 def test_what_closes_a_connection_closes_it_alone(place):
     wrongs = {
-        "a mark of 40961 bytes": wire.words(0x80000000 | 40961),
+        "a mark of 139,265 bytes": wire.words(0x80000000 | 139_265),
         "a reply": wire.record(wire.words(9, 1, 0)),
         "no header": wire.record(wire.words(9, 0)),
         "a body of 401 bytes": wire.record(

@@ -381,6 +381,26 @@ def test_a_write_over_the_indirect_border(place):
         same(f"{calls} calls", nfs.GETATTR.read_result(nfs.result_of(found[-1][1]))[1].attributes.size, size)
 
 
+def test_the_longest_write_is_left_whole_or_not_at_all(place):
+    data = os.urandom(131_072)
+    made = [*at_home(create(b"a")), *asked(write(FIRST_FILE, 1, data, nfs.DATA_SYNC))]
+    told = asked(call(nfs.GETATTR, FIRST_FILE))
+    # The body has 33 blocks of data and the indirect one, with the inode and the bitmap: 36 writes, a barrier, the header
+    # and a barrier. It is answered behind the last of them.
+    for calls in range(40):
+        for left, size in ("old", 131_073 if calls > 38 else 0), ("new", 131_073 if calls > 37 else 0):
+            lines = image(*made, f"log {calls}", "drive 0", f"crash {left}", "open", *told)
+            found = answers(place, lines, nfs.CREATE, *([nfs.WRITE] if calls > 38 else []), nfs.GETATTR)
+            same(f"{calls} calls, {left}: its size", found[-1][1].attributes.size, size)
+            if calls > 38:
+                after = found[1][1].change.after
+                same("its size and blocks", (found[1][0], after.size, after.used), (nfs.OK, 131_073, 139_264))
+    probes = [*asked(read(FIRST_FILE, 0, 131_072)), *asked(read(FIRST_FILE, 131_072, 131_072))]
+    lines = image(*made, "log 40", "drive 0", "crash old", "open", *probes)
+    found = answers(place, lines, nfs.CREATE, nfs.WRITE, nfs.READ, nfs.READ)
+    same("its bytes", found[2][1].data + found[3][1].data, b"\0" + data)
+
+
 def test_the_first_object_of_the_bitmap_is_full(place):
     # Each object of the bitmap has the bits of 4,096 blocks. Those of the first are set, as if files had the blocks.
     made = [*at_home(create(b"a")), "crash old", poke(BLOCK_BITMAP, 0, b"\xff" * 512), "open"]

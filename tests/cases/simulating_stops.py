@@ -1,7 +1,9 @@
 """Each stop of a script (`nfsd sim --stops`): how many there are, and how many images they may leave. The numbers are counted by
 hand: a group of B blocks is B writes of log slots, a barrier, the header and a barrier, and bringing it home B writes, a barrier,
-`start` and a barrier. Behind B writes without a barrier a crash leaves each block old or new: 2^B images."""
+`start` and a barrier. Behind B writes without a barrier a crash leaves each block old or new: 2^B images. Of more than ten blocks
+B + 2 are tried: all old, all new, and each block alone new."""
 
+import os
 import re
 
 from cases import nfs
@@ -14,7 +16,7 @@ LINE = re.compile(rb"nfsd: (\d+) of (\d+) stops tried\r\n")
 
 def of_group(blocks):
     """The device calls and the images of a group of so many blocks that is logged, or brought home."""
-    writes = sum(2**it for it in range(1, blocks + 1))
+    writes = sum(2**it if it <= 10 else it + 2 for it in range(1, blocks + 1))
     return blocks + 3, writes + 1 + 2 + 1
 
 
@@ -49,6 +51,15 @@ def test_the_stops_of_a_commit(place):
     lines = [*at_home(create(b"a")), *asked(write(FIRST_FILE, 10_000, b"hello", nfs.UNSTABLE))]
     lines += [*settled(call(nfs.COMMIT, FIRST_FILE, 0, 0)), "install 40"]
     tried(place, "a COMMIT", image(*lines), counted(4, 3))
+
+
+def test_the_stops_of_the_longest_write(place):
+    # A file: four blocks, as above. A WRITE: the inode, the bitmap of blocks, the indirect block, and 33 blocks of data.
+    lines = [*at_home(create(b"a")), *settled(write(FIRST_FILE, 1, os.urandom(131_072), nfs.DATA_SYNC))]
+    made, images = of_group(4)
+    group, more = of_group(36)
+    wanted = f"stops {1 + 2 * made + group} images {1 + 2 * images + more}\n".encode()
+    tried(place, "a WRITE of 131,072 bytes", image(*lines), wanted)
 
 
 def test_the_stops_of_changes_of_names(place):

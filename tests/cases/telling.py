@@ -14,7 +14,7 @@ from cases.running import Skipped, expect, is_so, same
 
 # Who calls: a user, its group, and further groups. None is AUTH_NONE, which acts as `NOBODY`.
 ROOT, NOBODY = (0, 0, ()), (65534, 65534, ())
-MOST_BYTES = 32768
+MOST_BYTES, LISTING_BYTES = 131_072, 32_768
 NO_VERIFIER, OTHER_VERIFIER = bytes(8), b"\0\0\0\0\0\0\0\1"
 OWNER, GROUP = 5, 6
 # The owner, who is in the group too; one in the group by the first of its groups, and by a further one; and others.
@@ -78,7 +78,7 @@ def holder():
 def long_files(largest):
     """Files with bytes and holes, on both sides of the border of the indirect block, and one that ends at `largest`."""
     border = DIRECT * BLOCK_BYTES
-    long = bytes((at * 7 + at // 251) % 256 for at in range(40_000))
+    long = bytes((at * 7 + at // 251) % 256 for at in range(140_000))
     return directory({
         b"long": regular((0, long)),
         b"border": regular((border - 6, b"before" + b"behind")),
@@ -356,7 +356,7 @@ def name_bytes(it):
 def fitting(procedure, place, left, counts):
     """The longest beginning of what is left whose result has at most so many bytes; none where no result has. The
     counts are that of the result, and for READDIRPLUS that of the names before it."""
-    room = min(counts[-1], MOST_BYTES) - bytes_of(procedure, told(procedure, place, [], []))
+    room = min(counts[-1], LISTING_BYTES) - bytes_of(procedure, told(procedure, place, [], []))
     if room < 0:
         return None
     names_room, given = counts[0], []
@@ -390,7 +390,7 @@ def ask_for_lists(world):
         place = world.root.below(b"crowd", name)
         # A large directory once: each file that READDIRPLUS tells of is read by a plan that begins anew.
         few = len(place.slots) < 100
-        for count in (600, 4096, 32768, 2**32 - 1) if few else (8192,):
+        for count in (600, 4096, LISTING_BYTES, 2**32 - 1) if few else (8192,):
             plus = ((nfs.READDIRPLUS, [names, count]) for names in ((count, 400) if few else (count,)))
             for procedure, counts in (nfs.READDIR, [count]), *plus:
                 cookie = 0

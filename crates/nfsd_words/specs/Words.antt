@@ -6,6 +6,7 @@ use Rattle.clap.specs.Words.{App, Row, Rule, Text, fault_of, first_of, new_app, 
 use Rattle.clap.specs.Words.{subcommand_of, with_rule, with_subcommand}
 use Rattle.clap.specs.declared.builder.ValueParser.TheVariants as value_parser
 use Rattle.clap.specs.declared.builder.action.ArgAction.TheVariants.{SetTrue}
+use Rattle.limits.specs.declared.TheConstants.{MOST_WORKERS}
 use Rattle.nfsd_words.specs.declared.Args.{Args}
 use Rattle.nfsd_words.specs.declared.Args.TheVariants.{Check, Format, Once, Serve, Show, Sim}
 
@@ -47,10 +48,10 @@ abbrev pub once_command : App
 once_command = with_rule (with_rule (new_app (codes "once")) image_rule)
     (required_rule (codes "time"))
 
--- an option with a number from 1 to 64 that may be left out
+-- an option with a number from 1 to MOST_WORKERS that may be left out
 abbrev pub workers_rule : Text → Text → Rule
 workers_rule name default = record (default_rule name default) {
-  parser = Some (value_parser.Signed (pos 1) (pos 64));
+  parser = Some (value_parser.Signed (pos 1) MOST_WORKERS);
 }
 
 -- `serve IMAGE --listen ADDR`

@@ -17,6 +17,7 @@ mod scripts;
 use crate::scripts::{asked_sim, sim_words};
 use clap::error::ErrorKind;
 use clap::{Arg, ArgMatches, Command, Error, value_parser};
+use limits::MOST_WORKERS;
 use std::alloc::{AllocError, Global};
 
 // What `--version` tells.
@@ -256,7 +257,7 @@ fn serve_words<'a>(alloc: Global) -> Result<Command<'a>, AllocError>
 {
     serve_up_to_listen(alloc)?
         .arg(number_or(alloc, "workers", "4", WORKERS).value_parser(value_parser!(u32).range(
-            1..=64,
+            1..=MOST_WORKERS,
         )))?
         .arg(number_or(alloc, "connections", "0", CONNECTIONS))
 }

@@ -1,15 +1,13 @@
 //! Which blocks were unpinned last.
 
 use disk::BlockNo;
+use limits::CLEAN_BLOCKS;
 use lru::LruCache;
 use std::alloc::Global;
 use std::num::NonZeroUsize;
 
-/// How many blocks that nobody needs may stay in memory.
-const CLEAN_BLOCKS: usize = 128;
-
-/// The numbers of the blocks that were unpinned for the last time, in the order in which that was, no more than so
-/// many; none at all where there was no memory for it. Some of them may be pinned again.
+/// The numbers of the blocks that were unpinned for the last time, in the order in which that was, no more than
+/// `CLEAN_BLOCKS`; none at all where there was no memory for it. Some of them may be pinned again.
 #[derive(Drop)]
 pub(crate) struct Recent {
     numbers: Option<LruCache<u32, ()>>,

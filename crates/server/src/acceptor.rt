@@ -2,7 +2,7 @@
 ghost use Rattle.std.specs.Thread.{IsSend, IsSync};
 
 use crate::reader::read_all;
-use crate::sizes::{
+use limits::{
     ACCEPT_SLEEP_MILLISECONDS, IDLE_SECONDS, MOST_CONNECTIONS, SILENT_SECONDS, WRITE_SECONDS,
 };
 use crate::state::ServerState;

@@ -1,5 +1,5 @@
 //! Calls of one connection that are driven one after another.
-use crate::sizes::BATCH_CALLS;
+use limits::BATCH_CALLS;
 use pool::{Answer, Job};
 use server_parts::{Parked, SeatKey};
 use std::alloc::{AllocError, Global};

@@ -1,6 +1,6 @@
 //! Driving a seat: locked steps and reads by turns.
 use crate::batch::Batch;
-use crate::sizes::{
+use limits::{
     BATCH_CALLS, FIRST_SLEEP_MICROSECONDS, FULL_MILLISECONDS, LONGEST_SLEEP_MICROSECONDS, YIELDS,
 };
 use crate::state::{ServerState, is_crowded};

@@ -1,5 +1,5 @@
 //! The thread that brings settled changes home.
-use crate::sizes::INSTALL_MILLISECONDS;
+use limits::INSTALL_MILLISECONDS;
 use crate::state::ServerState;
 use disk::Port;
 use pool::{Gate, Point, Turn, Whole, installer_io};

@@ -1,5 +1,5 @@
 //! The queue of calls that found no seat free.
-use crate::sizes::MOST_JOBS;
+use limits::MOST_JOBS;
 use crossbeam_channel::{Receiver, Sender, bounded};
 use pool::Job;
 use std::alloc::{AllocError, Global};

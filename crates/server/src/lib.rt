@@ -9,7 +9,6 @@ mod installer;
 mod jobs;
 mod logger;
 mod reader;
-mod sizes;
 mod startup;
 mod state;
 mod threads;

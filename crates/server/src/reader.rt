@@ -1,7 +1,7 @@
 //! The thread that reads a connection.
 use crate::batch::Batch;
 use crate::driver::{Seen, drive_batch, see_through, wait_while_crowded};
-use crate::sizes::{MOST_WAITING_BYTES, REPLY_BATCH_BYTES, STREAM_PIECE_BYTES};
+use limits::{MOST_WAITING_BYTES, REPLY_BATCH_BYTES, STREAM_PIECE_BYTES};
 use crate::state::ServerState;
 use disk::{Port, Source};
 use pool::{Answer, ConnectionKey, Put, Received, ReplyBytes, Stream, Whole};

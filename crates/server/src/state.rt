@@ -2,7 +2,7 @@
 ghost use Rattle.model.specs.Sound.{SoundTime};
 
 use crate::jobs::Jobs;
-use crate::sizes::{CROWDING_COMMITS, URGENT_COMMITS};
+use limits::{CROWDING_COMMITS, URGENT_COMMITS};
 use disk::Port;
 use nfs_types::Moment;
 use pool::{Answer, Connections, IoSeat, Look, Pool, Put, ReplyBytes, Seat, Shared, Whole};

@@ -7,7 +7,7 @@ use crate::acceptor::accept_all;
 use crate::announcer::Announcer;
 use crate::installer::install_all;
 use crate::logger::log_all;
-use crate::sizes::MOST_JOB_THREADS;
+use limits::MOST_JOB_THREADS;
 use crate::state::{ServerState, Synchronization};
 use crate::workers::{finish_all, work_all};
 use disk::{Port, Source};

@@ -74,7 +74,7 @@ use Rattle.session.proofs.ShortMade.{create_short, made_short, with_room, writte
 use Rattle.session.proofs.ShortListings.{listing_short, listing_plus_short}
 
 pub record IsShortReply (reply : Reply) : Type 0 where
-  pub short : length (nfs_result_bytes reply) ≤ 40000
+  pub short : length (nfs_result_bytes reply) ≤ 139000
   pub counts : nfs_too_long reply ≡ false
 
 -- ---- what comes after OK, if it does
@@ -109,29 +109,29 @@ answers P outcome told is short = subst (λ one. IfOk one P) (sym is) short
 
 -- ---- replies
 
-reply_of : (reply : Reply) → (length (nfs_result_bytes reply) ≤ 40000) × (nfs_too_long reply ≡ false)
+reply_of : (reply : Reply) → (length (nfs_result_bytes reply) ≤ 139000) × (nfs_too_long reply ≡ false)
     → IsShortReply reply
 reply_of reply is = record { short = is.0; counts = is.1 }
 
-alone_short : {A : Type 0} (m : ℕ) (F : Code A) (outcome : Result A Status) → 4 + m ≤ 40000
+alone_short : {A : Type 0} (m : ℕ) (F : Code A) (outcome : Result A Status) → 4 + m ≤ 139000
     → IfOk outcome (IsShort m F)
-    → (length ((alone F).spell outcome) ≤ 40000) × ((alone F).too_long outcome ≡ false)
+    → (length ((alone F).spell outcome) ≤ 139000) × ((alone F).too_long outcome ≡ false)
 alone_short m F outcome few is =
     let all = alones m F outcome is in
     let short = all.short in
     (omega (arith, short, few), all.counts)
 
 behind_short : {A B : Type 0} (n m : ℕ) (F : Code B) (G : Code A) (outcome : Result A Status) (both : B)
-    → 4 + n + m ≤ 40000 → IsShort n F both → IfOk outcome (IsShort m G)
-    → (length ((behind F G).spell (outcome, both)) ≤ 40000) × ((behind F G).too_long (outcome, both) ≡ false)
+    → 4 + n + m ≤ 139000 → IsShort n F both → IfOk outcome (IsShort m G)
+    → (length ((behind F G).spell (outcome, both)) ≤ 139000) × ((behind F G).too_long (outcome, both) ≡ false)
 behind_short n m F G outcome both few f g =
     let all = behinds n m F G outcome both f g in
     let short = all.short in
     (omega (arith, short, few), all.counts)
 
 before_short : {A B : Type 0} (n m : ℕ) (F : Code A) (G : Code B) (outcome : Result A Status) (both : B)
-    → 4 + n + m ≤ 40000 → IfOk outcome (IsShort n F) → IsShort m G both
-    → (length ((before F G).spell (outcome, both)) ≤ 40000) × ((before F G).too_long (outcome, both) ≡ false)
+    → 4 + n + m ≤ 139000 → IfOk outcome (IsShort n F) → IsShort m G both
+    → (length ((before F G).spell (outcome, both)) ≤ 139000) × ((before F G).too_long (outcome, both) ≡ false)
 before_short n m F G outcome both few f g =
     let all = befores n m F G outcome both f g in
     let short = all.short in
@@ -211,7 +211,7 @@ piece_few offset count bytes =
     omega (arith, few, most)
 
 read_short : (offset count : ℕ) (bytes : List ℕ)
-    → IsShort 32783 read_bytes (reads.read_bytes offset bytes (reads.piece offset count bytes))
+    → IsShort (TRANSFER_BYTES + 15) read_bytes (reads.read_bytes offset bytes (reads.piece offset count bytes))
 unfolding read_bytes
 read_short offset count bytes =
     let given = reads.piece offset count bytes in
@@ -288,11 +288,11 @@ module _ (tree : Tree) (ctx : Ctx) (new : Option ℕ) (next : Tree) (sound : Sou
       (of_found (IsShort (TARGET_BYTES + 7) text) tree link.bytes _ (λ number node at.
       target_short node.body (sound.files number node (found-stands tree link.bytes (number, node) at)).itself.body))))
   numbered_is_short (call.Read file offset count) (replies.Read outcome told) rules is =
-      reply_of _ (behind_short 88 32783 optional_attributes read_bytes outcome told (omega arith)
+      reply_of _ (behind_short 88 (TRANSFER_BYTES + 15) optional_attributes read_bytes outcome told (omega arith)
       (attributes_told told)
-      (answers (IsShort 32783 read_bytes) outcome _ is.answered
-      (of_found (IsShort 32783 read_bytes) tree file.bytes _ (λ number node at.
-      of_unless (IsShort 32783 read_bytes) (reads.read_refusal ctx.credential node)
+      (answers (IsShort (TRANSFER_BYTES + 15) read_bytes) outcome _ is.answered
+      (of_found (IsShort (TRANSFER_BYTES + 15) read_bytes) tree file.bytes _ (λ number node at.
+      of_unless (IsShort (TRANSFER_BYTES + 15) read_bytes) (reads.read_refusal ctx.credential node)
       (Ok (reads.read_bytes offset (reads.bytes_of node.body) (reads.piece offset count (reads.bytes_of node.body))))
       (read_short offset count (reads.bytes_of node.body))))))
   numbered_is_short (call.Write file offset count how text_given) (replies.Write outcome told) rules is =

@@ -7,6 +7,7 @@ mod rows;
 mod sizes;
 mod sums;
 mod toys;
+mod whole;
 
 use crate::tests::bench::{Bench, Ended, Seen, Step};
 use crate::tests::toys::{At, change_of, home};

@@ -103,5 +103,5 @@ pub const BAD_CREDENTIAL: [u32; 6] = [0x8000_0014, 1, 1, 1, 1, 1];
 /// Denied: AUTH_REJECTEDCRED.
 pub const REJECTED_CREDENTIAL: [u32; 6] = [0x8000_0014, 1, 1, 1, 1, 2];
 
-/// A mark that announces 40,961 bytes.
-pub const TOO_LONG: [u32; 1] = [0x8000_a001];
+/// A mark that announces 139,265 bytes.
+pub const TOO_LONG: [u32; 1] = [0x8002_2001];

@@ -24,6 +24,8 @@ pub(crate) enum Wanted<'a> {
     NotWritten(Status, u64, u64),
     /// A READ gives these bytes, and the file ends behind them.
     Ends(&'a [u8]),
+    /// A READ gives so many bytes, and whether the file ends behind them.
+    Moves(usize, bool),
     /// A READLINK gives these bytes.
     Target(&'a [u8]),
     /// A LOOKUP finds the file of this number.
@@ -49,6 +51,16 @@ fn reads(reply: &Reply, wanted: &[u8]) -> bool {
             outcome: Ok(given),
             ..
         } => given.eof && given.bytes.as_slice() == wanted,
+        _ => false,
+    }
+}
+
+fn moves(reply: &Reply, count: usize, eof: bool) -> bool {
+    match reply {
+        Reply::Read {
+            outcome: Ok(given),
+            ..
+        } => given.eof == eof && given.bytes.as_slice().len() == count,
         _ => false,
     }
 }
@@ -109,6 +121,7 @@ pub(crate) fn is_wanted(reply: &Reply, wanted: &Wanted) -> bool {
             status == Some(why) && sizes_told(reply) == Some((size, used))
         }
         Wanted::Ends(bytes) => reads(reply, bytes),
+        Wanted::Moves(count, eof) => moves(reply, count, eof),
         Wanted::Target(bytes) => has_target(reply, bytes),
         Wanted::LeadsTo(number) => leads_to(reply, number),
         Wanted::Grants(bits) => grants(reply, bits),

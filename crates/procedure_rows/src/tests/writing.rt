@@ -96,9 +96,30 @@ const BORDER: Rows = Rows {
         ),
         Step::By(
             7,
-            Asked::WriteMany(A, 0, 32_769),
+            Asked::WriteMany(A, 0, 131_073),
             Wanted::NotWritten(Status::Inval, 61_441, 40_960),
         ),
+    ],
+};
+
+const MOST_BYTES: Rows = Rows {
+    says: "the most bytes that a call moves",
+    planted: Planted::Small(64),
+    apart: false,
+    steps: &[
+        Step::By(
+            7,
+            Asked::WriteMany(A, 1, 131_072),
+            Wanted::Sizes(131_073, 139_264),
+        ),
+        Step::By(
+            7,
+            Asked::WriteMany(A, 1, 131_073),
+            Wanted::NotWritten(Status::Inval, 131_073, 139_264),
+        ),
+        Step::By(7, Asked::Read(A, 0, 131_072), Wanted::Moves(131_072, false)),
+        Step::By(7, Asked::Read(A, 0, 131_073), Wanted::Moves(131_072, false)),
+        Step::By(7, Asked::Read(A, 1, 131_073), Wanted::Moves(131_072, true)),
     ],
 };
 
@@ -139,12 +160,13 @@ const COMMITTED: Rows = Rows {
     steps: &[Step::By(7, Asked::Commit(A, 0, 0), Wanted::Commits(BOOT))],
 };
 
-const ALL: [Rows; 8] = [
+const ALL: [Rows; 9] = [
     LAST_BYTE,
     HOLE,
     SHRUNK,
     ONE_FREE_BLOCK,
     BORDER,
+    MOST_BYTES,
     LOOKED_UP,
     GRANTED,
     COMMITTED,

@@ -5,7 +5,7 @@ use crate::tests::tape::Tape;
 // A handle has at most 64 bytes; a string has no bound but the record's.
 const HANDLE_BYTES: u32 = 64;
 
-const RECORD_BYTES: u32 = 40_960;
+const RECORD_BYTES: u32 = 139_264;
 
 pub fn handle(tape: &mut Tape) -> Result<(), u32> {
     tape.text(HANDLE_BYTES)

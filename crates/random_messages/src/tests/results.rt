@@ -12,7 +12,7 @@ const STATUSES: [u32; 40] = [
     28, 31, 63, 66, 70, 10_001, 10_002, 10_003, 10_004, 10_005, 10_006,
 ];
 
-const MOST_FLAVORS: u32 = 40_960;
+const MOST_FLAVORS: u32 = 139_264;
 
 // More links than a record has room for.
 const LINKS: u32 = 20_000;

@@ -62,9 +62,9 @@ fn summed(alloc: Global, first: u32, last: u32) -> Result<Records, AllocError> {
 
 #[test]
 fn fragments_that_announce_too_much_together(rt: HostRuntime) -> Result<(), Fail> {
-    let mut most = summed(rt.alloc(), 40_000, 960)?;
+    let mut most = summed(rt.alloc(), 139_000, 264)?;
     assert!(rt; is_unfinished(&mut most));
-    let mut more = summed(rt.alloc(), 40_000, 961)?;
+    let mut more = summed(rt.alloc(), 139_000, 265)?;
     assert!(rt; is_too_long(&mut more));
     Ok(())
 }

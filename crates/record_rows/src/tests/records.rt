@@ -44,7 +44,7 @@ fn a_mark_and_then_its_record(rt: HostRuntime) -> Result<(), Fail> {
 
 #[test]
 fn a_mark_that_announces_too_much(rt: HostRuntime) -> Result<(), Fail> {
-    let mut records = begun(rt.alloc(), &[0x80, 0, 0xa0])?;
+    let mut records = begun(rt.alloc(), &[0x80, 2, 0x20])?;
     assert!(rt; is_unfinished(&mut records));
     records.feed(&[1])?;
     assert!(rt; is_too_long(&mut records));

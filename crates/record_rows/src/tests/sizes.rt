@@ -6,11 +6,11 @@ use rpc::Records;
 use std::alloc::{AllocError, Global};
 use std::test::Fail;
 
-// The largest record: its mark, and 40,960 bytes, each the lowest of its offset.
+// The largest record: its mark, and 139,264 bytes, each the lowest of its offset.
 fn largest(alloc: Global) -> Result<Vec<u8>, AllocError> {
     let mut bytes = Vec::new(alloc);
-    bytes.extend_from_slice(&0x8000_a000_u32.to_be_bytes())?;
-    for offset in 0..40960_u32 {
+    bytes.extend_from_slice(&0x8002_2000_u32.to_be_bytes())?;
+    for offset in 0..139_264_u32 {
         bytes.push((offset % 256) as u8)?;
     }
     Ok(bytes)
@@ -51,7 +51,7 @@ fn the_largest_record_in_pieces(rt: HostRuntime) -> Result<(), Fail> {
     Ok(())
 }
 
-// A cutter that looked at the whole record at each byte would look at 800 million bytes.
+// A cutter that looked at the whole record at each byte would look at 9,700 million bytes.
 #[test]
 fn the_largest_record_byte_by_byte(rt: HostRuntime) -> Result<(), Fail> {
     assert!(rt; is_cut_out(rt.alloc(), 1)?);

@@ -3,6 +3,7 @@
 use crate::tests::bench::{Bench, Ended, Seen, Step};
 use crate::tests::claim_and_write;
 use crate::tests::toys::{At, change_of, home};
+use crate::tests::whole::claim_and_write_many;
 use disk::{CrashDisk, MemDisk};
 use std::alloc::Global;
 use std::test::Fail;
@@ -19,6 +20,8 @@ pub enum Deed<'a> {
     Fills(u32),
     // The next one is claimed, and its change comes to this.
     FillsOneMore(u32, Ended),
+    // So many blocks from one on are claimed, and a change that writes them whole comes to this.
+    FillsMany(u32, u8, Ended),
     // The first home block is claimed and fetched, and written before the fetch is given back.
     WritesWhileFetched(Ended),
     // While it is fetched for a transaction, this wants bytes of it by another address, and others.
@@ -111,6 +114,9 @@ fn is_done(bench: &mut Bench<MemDisk>, deed: &Deed) -> Result<bool, Fail> {
         }
         Deed::Fills(blocks) => fills(bench, blocks),
         Deed::FillsOneMore(index, wanted) => Ok(claim_and_write(bench, index)? == wanted),
+        Deed::FillsMany(first, count, wanted) => {
+            Ok(claim_and_write_many(bench, first, count)? == wanted)
+        }
         Deed::WritesWhileFetched(wanted) => Ok(write_while_it_is_fetched(bench)? == wanted),
         Deed::SeesBeside(wanted) => Ok(sees_beside(bench, wanted)),
         Deed::WantsBehind(wanted) => Ok(want_behind(bench) == Some(wanted)),

@@ -27,7 +27,7 @@ const READ_8: [Step; 1] = [Step::Read(AT_8)];
 
 const THRICE: [Step; 3] = [Step::Want(AT_0), Step::Want(AT_0), Step::Want(AT_0)];
 
-const ROWS: [Rows; 14] = [
+const ROWS: [Rows; 15] = [
     Rows {
         says: "a change is settled and brought home",
         start: 0,
@@ -129,6 +129,27 @@ const ROWS: [Rows; 14] = [
             Deed::FillsOneMore(511, Ended::Full),
             // a block that wasn't claimed
             Deed::Commits(&[], INODES, &[], &[(At::Whole(0), 3)], Ended::Foreign),
+        ],
+    },
+    Rows {
+        says: "the log has room for three changes of 128 blocks at once",
+        start: 0,
+        failing: &[],
+        deeds: &[
+            Deed::FillsMany(0, 128, Ended::Place(Seq(1))),
+            Deed::FillsMany(128, 128, Ended::Place(Seq(2))),
+            Deed::FillsMany(256, 128, Ended::Place(Seq(3))),
+            Deed::FillsMany(384, 128, Ended::Full),
+            // the three are one group
+            Deed::Logs(387),
+            Deed::Stable(3, true),
+            Deed::FillsMany(384, 128, Ended::Place(Seq(4))),
+            // it waits until the slots of the three are free
+            Deed::Logs(0),
+            Deed::Stable(4, false),
+            Deed::Installs(387),
+            Deed::Logs(131),
+            Deed::Stable(4, true),
         ],
     },
     Rows {

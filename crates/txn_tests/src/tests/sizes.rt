@@ -2,7 +2,8 @@
 //! that nobody needs.
 
 use crate::tests::bench::{Bench, Ended, Seen, Step};
-use crate::tests::toys::{At, Toy, change_of, home};
+use crate::tests::toys::{At, change_of};
+use crate::tests::whole::{claims, writes};
 use std::alloc::{AllocError, Global};
 use std::test::Fail;
 use txn::Change;
@@ -41,36 +42,14 @@ fn the_blocks_that_were_needed_last_stay(rt: HostRuntime) -> Result<(), Fail> {
     Ok(())
 }
 
-// So many whole blocks from the first home block on, each with its byte.
-fn whole_blocks(alloc: Global, count: u8) -> Result<Vec<(At, u8)>, AllocError> {
-    let mut told = Vec::new(alloc);
-    for index in 0..u32::from(count) {
-        told.push((At::Whole(index), 3))?;
-    }
-    Ok(told)
-}
-
-fn claims(alloc: Global, count: u8) -> Result<Vec<Step>, AllocError> {
-    let mut steps = Vec::new(alloc);
-    for index in 0..u32::from(count) {
-        steps.push(Step::Claim(home(index)))?;
-    }
-    Ok(steps)
-}
-
-// A change that writes so many whole blocks.
-fn writes(alloc: Global, count: u8) -> Result<Toy, Fail> {
-    change_of(alloc, &[], whole_blocks(alloc, count)?.as_slice())
-}
-
 #[test]
-fn a_change_of_64_blocks_is_committed(rt: HostRuntime) -> Result<(), Fail> {
+fn a_change_of_128_blocks_is_committed(rt: HostRuntime) -> Result<(), Fail> {
     let mut bench = Bench::new(rt.alloc(), 0, &[])?;
-    let toy = writes(rt.alloc(), 64)?;
-    let steps = claims(rt.alloc(), 64)?;
-    assert_eq!(rt; bench.core.added_blocks(toy.written()), 64);
+    let toy = writes(rt.alloc(), 0, 128)?;
+    let steps = claims(rt.alloc(), 0, 128)?;
+    assert_eq!(rt; bench.core.added_blocks(toy.written()), 128);
     assert_eq!(rt; bench.commit(steps.as_slice(), toy), Ended::Place(Seq(1)));
-    assert_eq!(rt; bench.core.tail(), 64);
+    assert_eq!(rt; bench.core.tail(), 128);
     assert_eq!(rt; bench.core.kept(), 1);
     assert!(rt; !bench.core.is_settled());
     Ok(())
