@@ -44,12 +44,12 @@ found_of : (before later : Device) (tree : Tree) (boot workers : ℕ) (events : 
     → (image : Image) × IsCrashImage before before.clock image
 found_of before later tree boot workers events (Ok report) came =
     let keeps = came.keeps in
-    let first = keeps.opens.past.clock in
-    let second = keeps.past.clock in
-    let left = keeps.left before.clock (omega arith) (omega (arith, first, second)) in (
+    let first = keeps.opens.is.past.clock in
+    let second = keeps.opens.past.clock in
+    let left = keeps.stops.some before.clock (omega arith) (omega (arith, first, second)) in (
       left.0,
-      still_left before keeps.opened keeps.opens.past before.clock (omega arith) left.0
-          (still_left keeps.opened later keeps.past before.clock first left.0 left.1),
+      still_left before keeps.opened keeps.opens.is.past before.clock (omega arith) left.0
+          (still_left keeps.opened later keeps.opens.past before.clock first left.0 left.1),
     )
 found_of before later tree boot workers events (Err cause) came =
     let clock = came.past.clock in
@@ -66,7 +66,7 @@ own_of : (before later : Device) (tree : Tree) (boot workers crash : ℕ) (event
     → IsOfOneBoot (boot + 1) (committed_by later.clock crash answer)
 own_of before later tree boot workers crash events (Ok report) came =
     beginning (boot + 1) _ (entries_of report.told)
-    (of_one_boot events report.told (boot + 1) came.keeps.boot came.keeps.history)
+    (of_one_boot events report.told (boot + 1) came.keeps.replies.boot came.keeps.replies.history)
 own_of before later tree boot workers crash events (Err cause) came = record {
   boots = tt;
   numbers = λ one other a b is so same. cc;
@@ -94,11 +94,11 @@ left_of : (before later : Device) (tree : Tree) (boot workers crash : ℕ) (even
     → LeftGood later.size image tree boot (committed_by later.clock crash answer)
 left_of before later tree boot workers crash events (Ok report) image came from to there =
     let keeps = came.keeps in
-    let stop = keeps.stops crash image from to there in
+    let stop = keeps.stops.each crash image from to there in
     let p = stop.prefix in
     let t = report.told in
     let start = keeps.opened.clock in
-    let calls = keeps.calls in
+    let calls = keeps.calls.clock in
     let began : later.clock - device_calls t (length t.steps) ≡ start = omega (arith, calls) in
     by t start _ (sym began) p.boot p.left p.count p.good p.boot_is.either p.boot_is.raised p.few p.prefix
   where

@@ -25,14 +25,14 @@ module _ (before later : Device) (tree : Tree) (first workers start index : ℕ)
   at = start + device_calls t index
 
   start_is : kept.opened.clock ≡ start
-  start_is = let calls = kept.calls in omega (arith, calls, clock)
+  start_is = let calls = kept.calls.clock in omega (arith, calls, clock)
 
   pub did : DoesStepBy (told_before events t.steps index).log made (later.contents at)
       (later.contents (at + one_if (calls_device made)))
   did = subst (λ (n : ℕ). DoesStepBy (told_before events t.steps index).log made
       (later.contents (n + device_calls t index))
       (later.contents (n + device_calls t index + one_if (calls_device made)))) start_is
-      (kept.did index made is)
+      (kept.calls.did index made is)
 
   module _ (call : IoCall) (ok : Bool) (made_is : made ≡ Some (step.LogIo ok))
       (out_is : (told_before events t.steps index).log.log_call ≡ out call) where

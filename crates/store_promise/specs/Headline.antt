@@ -64,28 +64,32 @@ pub record StandsAfter (g : Geometry) (tree : Tree) (entries : List Entry) (bloc
   pub leads : after tree entries left
   pub stands : Stands g blocks left
 
--- The promise of a run with so many workers, which took events on a device whose image had this tree and this
--- boot number, and left the device as it became:
-pub record KeepsPromise (before later : Device) (tree : Tree) (first workers : ℕ) (events : Schedule)
-    (t : Transcript) : Type 0 where
-  -- an opening comes first, and then the device calls that the steps tell, and no others
-  pub opened : Device
-  pub setting : Setting
-  pub opens : IsOpened before opened tree first setting.position
+-- An opening comes first: it went over this device, and nothing of it was taken back behind it.
+pub record ComesFirst (before opened later : Device) (tree : Tree) (first : ℕ) (setting : Setting) : Type 0 where
+  pub is : IsOpened before opened tree first setting.position
   pub geometry : IsGeometryOf later.size tree setting.geometry
   pub past : IsLater opened later
-  pub calls : later.clock ≡ opened.clock + device_calls t (length t.steps)
+
+-- Behind it the device made the calls that the steps tell, and no others.
+pub record MakesItsCalls (opened later : Device) (events : Schedule) (t : Transcript) : Type 0 where
+  pub clock : later.clock ≡ opened.clock + device_calls t (length t.steps)
   pub failures : later.failures ≡ opened.failures + count_by fails t.steps
   -- each of them is told to have failed just where that very call did
   pub told : TellEachFailure later.failed opened.clock t.steps
   -- and does what its step names
   pub did : DoEachStep later.contents events opened.clock t.steps
-  -- a stop leaves some image, and whatever it leaves has the tree of a prefix, which holds what was promised to
-  -- last
-  pub left : LeavesImages before later
-  pub stops : AtEachStop before later
+
+-- A stop leaves some image, and whatever it leaves has the tree of a prefix, which holds what was promised to
+-- last.
+pub record LeavesAPrefix (before opened later : Device) (tree : Tree) (first : ℕ) (events : Schedule)
+    (t : Transcript) (setting : Setting) : Type 0 where
+  pub some : LeavesImages before later
+  pub each : AtEachStop before later
       (LeavesFiles later.size first tree events opened.clock t setting.blocks)
-  -- the replies are the sequential server's
+
+-- The replies are the sequential server's, in the order of the commits.
+pub record AnswersInOrder (size : ℕ) (tree : Tree) (first workers : ℕ) (events : Schedule) (t : Transcript)
+    (setting : Setting) : Type 0 where
   pub last : Tree
   pub leads : after tree (entries_of t) last
   pub boot : t.boot ≡ first + 1
@@ -96,7 +100,18 @@ pub record KeepsPromise (before later : Device) (tree : Tree) (first workers : �
   -- there are blocks that stand for the files after each procedure, which changed only what its transaction had
   -- taken
   pub files : (place : ℕ) → StandsAfter setting.geometry tree (take place (entries_of t)) (setting.blocks place)
-  pub changes : ChangeTheirOwn later.size events t setting.blocks
+  pub changes : ChangeTheirOwn size events t setting.blocks
+
+-- The promise of a run with so many workers, which took events on a device whose image had this tree and this
+-- boot number, and left the device as it became.
+pub record KeepsPromise (before later : Device) (tree : Tree) (first workers : ℕ) (events : Schedule)
+    (t : Transcript) : Type 0 where
+  pub opened : Device
+  pub setting : Setting
+  pub opens : ComesFirst before opened later tree first setting
+  pub calls : MakesItsCalls opened later events t
+  pub stops : LeavesAPrefix before opened later tree first events t setting
+  pub replies : AnswersInOrder later.size tree first workers events t setting
 
 -- What a run stands on: the device keeps its model, is at rest, and holds a good image with this tree and this
 -- boot number; and the calls that are handed over can be spelled.

@@ -72,26 +72,34 @@ returns c = λ b o t base side fetches last run left.
     record {
       opened = b.opened;
       setting = o;
-      opens = run.opens;
-      geometry = subst (λ (size : ℕ). IsGeometryOf size b.tree o.geometry)
-          (sym run.moved.past.size) run.geometry;
-      past = run.moved.past;
-      calls = run.moved.calls ∙ ap (λ (n : ℕ). b.opened.clock + n) (sym (clock_is t));
-      failures = run.moved.failures;
-      told = run.moved.told;
-      did = run.did;
-      left = left;
-      stops = each_stop b o t base side fetches last run settled_is now
-          (λ clock place was. was_told o b.workers b.events t b.tree last run.well.taken run.well.history
-          run.well.answers run.leads c.no_stable_answer_tells_a_failure.ensures.io b.opened.clock
-          clock place was);
-      last = last;
-      leads = run.leads;
-      boot = run.boot;
-      history = run.well.history;
-      answers = run.well.answers;
-      taken = run.well.taken;
-      files = run.files;
-      changes = subst (λ (size : ℕ). ChangeTheirOwn size b.events t o.blocks)
-          (sym run.moved.past.size) run.changes;
+      opens = record {
+        is = run.opens;
+        geometry = subst (λ (size : ℕ). IsGeometryOf size b.tree o.geometry)
+            (sym run.moved.past.size) run.geometry;
+        past = run.moved.past;
+      };
+      calls = record {
+        clock = run.moved.calls ∙ ap (λ (n : ℕ). b.opened.clock + n) (sym (clock_is t));
+        failures = run.moved.failures;
+        told = run.moved.told;
+        did = run.did;
+      };
+      stops = record {
+        some = left;
+        each = each_stop b o t base side fetches last run settled_is now
+            (λ clock place was. was_told o b.workers b.events t b.tree last run.well.taken run.well.history
+            run.well.answers run.leads c.no_stable_answer_tells_a_failure.ensures.io b.opened.clock
+            clock place was);
+      };
+      replies = record {
+        last = last;
+        leads = run.leads;
+        boot = run.boot;
+        history = run.well.history;
+        answers = run.well.answers;
+        taken = run.well.taken;
+        files = run.files;
+        changes = subst (λ (size : ℕ). ChangeTheirOwn size b.events t o.blocks)
+            (sym run.moved.past.size) run.changes;
+      };
     }

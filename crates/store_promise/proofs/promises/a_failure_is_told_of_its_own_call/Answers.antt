@@ -9,7 +9,7 @@ use Rattle.store_promise.proofs.promises.a_failure_is_told_of_its_own_call.Goals
 pub returns : goal.returns
 returns c = λ before later tree first workers start events t earlier rest made steps calls clock other kept.
     let told = subst (λ (all : List (Option Step)). TellEachFailure later.failed kept.opened.clock all) steps
-    kept.told in
+    kept.calls.told in
     let count : ℕ = count_by calls_device earlier in
-    let at : start + count ≡ kept.opened.clock + count = omega (arith, clock, kept.calls) in
+    let at : start + count ≡ kept.opened.clock + count = omega (arith, clock, kept.calls.clock) in
     other (ap later.failed at ∙ told_of_its_own later.failed kept.opened.clock earlier rest made told calls)

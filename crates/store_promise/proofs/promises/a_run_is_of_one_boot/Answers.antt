@@ -4,4 +4,4 @@ use Rattle.store_promise.proofs.promises.a_run_is_of_one_boot.Goals as goal
 
 pub returns : goal.returns
 returns c = λ before later tree first workers events t kept.
-    of_one_boot events t (first + 1) kept.boot kept.history
+    of_one_boot events t (first + 1) kept.replies.boot kept.replies.history

@@ -120,40 +120,48 @@ returns c = λ before later tree first position workers blocks opened whole.
         position = position;
         blocks = λ place. blocks;
       };
-      opens = opened;
-      geometry = geometry_of_image later.size (first + 1) tree there.0 good;
-      past = past_none later;
-      calls = omega arith;
-      failures = omega arith;
-      told = tt;
-      did = λ index made same. absurd (no-some made same);
-      left = opened.left;
-      stops = λ clock image from to crash. either before later tree first position clock image blocks
-          opened whole from to crash (cases_lt clock later.clock);
-      last = tree;
-      leads = refl;
-      boot = refl;
-      history = record {
-        each = λ index entry same. absurd (no-some entry same);
-        whole = λ at place tail same. absurd (no-some _ same);
-        ordered = λ one other a b same _ _. absurd (no-some a same);
-        numbers = λ one other a b same _ _. absurd (no-some a same);
+      opens = record {
+        is = opened;
+        geometry = geometry_of_image later.size (first + 1) tree there.0 good;
+        past = past_none later;
       };
-      answers = record {
-        each = λ index a same. absurd (no-some a same);
-        placed_once = λ one other place a b same _ _ _. absurd (no-some a same);
-        ordered = λ one other a b same _ _. absurd (no-some a same);
-        whole = λ index worker event same _ _ _ _. absurd (no-some event same);
+      calls = record {
+        clock = omega arith;
+        failures = omega arith;
+        told = tt;
+        did = λ index made same. absurd (no-some made same);
       };
-      taken = record {
-        fewer = omega arith;
-        each = λ index event made same _. absurd (no-some event same);
+      stops = record {
+        some = opened.left;
+        each = λ clock image from to crash. either before later tree first position clock image blocks
+            opened whole from to crash (cases_lt clock later.clock);
       };
-      changes = λ index c same. absurd (no-some c same);
-      files = λ place. record {
-        left = tree;
-        leads = no_entry_after tree place;
-        stands = subst (λ (image : Image). Stands good.super.geometry image tree)
-            (whole there.0 there.1) good.stands;
+      replies = record {
+        last = tree;
+        leads = refl;
+        boot = refl;
+        history = record {
+          each = λ index entry same. absurd (no-some entry same);
+          whole = λ at place tail same. absurd (no-some _ same);
+          ordered = λ one other a b same _ _. absurd (no-some a same);
+          numbers = λ one other a b same _ _. absurd (no-some a same);
+        };
+        answers = record {
+          each = λ index a same. absurd (no-some a same);
+          placed_once = λ one other place a b same _ _ _. absurd (no-some a same);
+          ordered = λ one other a b same _ _. absurd (no-some a same);
+          whole = λ index worker event same _ _ _ _. absurd (no-some event same);
+        };
+        taken = record {
+          fewer = omega arith;
+          each = λ index event made same _. absurd (no-some event same);
+        };
+        changes = λ index c same. absurd (no-some c same);
+        files = λ place. record {
+          left = tree;
+          leads = no_entry_after tree place;
+          stands = subst (λ (image : Image). Stands good.super.geometry image tree)
+              (whole there.0 there.1) good.stands;
+        };
       };
     }

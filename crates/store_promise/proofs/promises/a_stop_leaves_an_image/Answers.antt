@@ -2,5 +2,5 @@ use Rattle.store_promise.proofs.promises.a_stop_leaves_an_image.Goals as goal
 
 pub returns : goal.returns
 returns c = λ before later tree first workers clock events t from to none kept.
-    let found = kept.left clock from to in
+    let found = kept.stops.some clock from to in
     none found.0 found.1

@@ -20,14 +20,14 @@ did_fail later t begun index told so = by_cases (slice_get t.steps index) refl s
 
 pub returns : goal.returns
 returns c = λ before later tree first workers start index events t a reply given is io clock kept.
-    let failed = failed_before kept.setting workers events t a reply kept.taken
-    (kept.answers.each index a given)
-    (of_history c.no_step_tells_a_failure.ensures tree kept.last t kept.leads) is io in
-    let begins : start ≡ kept.opened.clock = let calls = kept.calls in omega (arith, clock, calls) in record {
+    let failed = failed_before kept.setting workers events t a reply kept.replies.taken
+    (kept.replies.answers.each index a given)
+    (of_history c.no_step_tells_a_failure.ensures tree kept.replies.last t kept.replies.leads) is io in
+    let begins : start ≡ kept.opened.clock = let calls = kept.calls.clock in omega (arith, clock, calls) in record {
       index = failed.index;
       earlier = failed.earlier;
       told = failed.told;
       so = ap (λ (n : ℕ). later.failed (n + device_calls t failed.index)) begins
-          ∙ did_fail later t kept.opened.clock failed.index kept.told failed.told;
+          ∙ did_fail later t kept.opened.clock failed.index kept.calls.told failed.told;
       whose = failed.whose;
     }

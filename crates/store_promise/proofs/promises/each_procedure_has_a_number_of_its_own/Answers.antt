@@ -2,4 +2,4 @@ use Rattle.store_promise.proofs.promises.each_procedure_has_a_number_of_its_own.
 
 pub returns : goal.returns
 returns c = λ before later tree first workers one other events t a b is so apart same kept.
-    apart (kept.history.numbers one other a b is so same)
+    apart (kept.replies.history.numbers one other a b is so same)

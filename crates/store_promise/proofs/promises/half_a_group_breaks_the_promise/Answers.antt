@@ -2,5 +2,5 @@ use Rattle.store_promise.proofs.promises.half_a_group_breaks_the_promise.Goals a
 
 pub returns : goal.returns
 returns c = λ before later tree first workers clock events t image from to crash none kept.
-    let found = (kept.stops clock image from to crash).prefix in
+    let found = (kept.stops.each clock image from to crash).prefix in
     none found.count found.boot found.left found.prefix found.good

@@ -3,4 +3,4 @@ use Rattle.store_promise.proofs.promises.the_history_is_in_order.Goals as goal
 
 pub returns : goal.returns
 returns c = λ before later tree first workers one other events t a b is so less late kept.
-    let before_it = kept.history.ordered one other a b is so less in omega (arith, before_it, late)
+    let before_it = kept.replies.history.ordered one other a b is so less in omega (arith, before_it, late)

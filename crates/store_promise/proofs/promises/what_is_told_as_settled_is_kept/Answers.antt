@@ -6,6 +6,6 @@ use Rattle.store_promise.proofs.promises.what_is_told_as_settled_is_kept.Goals a
 pub returns : goal.returns
 returns c = λ before later tree first workers clock place index events t image from to crash within by told
     none kept.
-    let found = (kept.stops clock image from to crash).prefix in
+    let found = (kept.stops.each clock image from to crash).prefix in
     none found.count found.boot found.left
-    (found.lasts place (by_steps index within (omega (arith, by, kept.calls)) told)) found.prefix found.good
+    (found.lasts place (by_steps index within (omega (arith, by, kept.calls.clock)) told)) found.prefix found.good

@@ -7,7 +7,7 @@ pub returns : goal.returns
 returns c =
     λ before later tree first workers index worker events t job begun blocks answer is_event less is_step
     planning more kept.
-    let step = planned_step kept.setting workers events t.steps kept.taken index worker job begun
+    let step = planned_step kept.setting workers events t.steps kept.replies.taken index worker job begun
     _ is_event less
     is_step planning in
     let few = (commit_is kept.setting (told_before events t.steps index) worker begun begun.left blocks answer

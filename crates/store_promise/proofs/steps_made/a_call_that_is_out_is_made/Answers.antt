@@ -54,10 +54,10 @@ pub returns-clause-logging : goal.returns-clause-logging
 returns-clause-logging c =
     λ before later tree first workers index events t call made is_event is_made is_out other kept.
     by_log call made (subst (λ at. IsStepOfLogIo at made) is_out
-    (own_step kept.setting workers _ _ _ (kept.taken.each index _ made is_event is_made) tt)) other
+    (own_step kept.setting workers _ _ _ (kept.replies.taken.each index _ made is_event is_made) tt)) other
 
 pub returns-clause-installing : goal.returns-clause-installing
 returns-clause-installing c = λ before later tree first workers index events t call made is_event is_made is_out
     other kept.
     by_installer call made (subst (λ at. IsStepOfInstIo at made) is_out
-    (own_step kept.setting workers _ _ _ (kept.taken.each index _ made is_event is_made) tt)) other
+    (own_step kept.setting workers _ _ _ (kept.replies.taken.each index _ made is_event is_made) tt)) other

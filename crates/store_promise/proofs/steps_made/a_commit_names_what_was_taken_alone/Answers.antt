@@ -10,7 +10,7 @@ pub returns-clause-once : goal.returns-clause-once
 returns-clause-once c =
     λ before later tree first workers index worker events t job begun blocks answer is_event less is_step
     planning twice kept.
-    let step = planned_step kept.setting workers events t.steps kept.taken index worker job begun
+    let step = planned_step kept.setting workers events t.steps kept.replies.taken index worker job begun
     _ is_event less
     is_step planning in
     twice (commit_is kept.setting (told_before events t.steps index) worker begun begun.left blocks answer
@@ -20,7 +20,7 @@ pub returns-clause-taken : goal.returns-clause-taken
 returns-clause-taken c =
     λ before later tree first workers index worker events t job begun blocks answer block is_event less is_step
     planning named lacks kept.
-    let step = planned_step kept.setting workers events t.steps kept.taken index worker job begun
+    let step = planned_step kept.setting workers events t.steps kept.replies.taken index worker job begun
     _ is_event less
     is_step planning in
     true≢false (sym (All-contains (λ (b : BlockNo). has_part_alone b begun ≡ true) blocks block

@@ -10,6 +10,6 @@ same_begun one other a b same = let stage : Planning a ≡ Planning b = cc in cc
 pub returns : goal.returns
 returns c =
     λ before later tree first workers index events t entry job begun addr there planned within free kept.
-    let own = kept.changes index entry there in
+    let own = kept.replies.changes index entry there in
     let same = same_begun job own.job begun own.begun (sym planned ∙ own.planned) in
     own.others addr within (sym (ap (λ (b : Begun). takes (wish_of addr modes.Shared) b) same) ∙ free)

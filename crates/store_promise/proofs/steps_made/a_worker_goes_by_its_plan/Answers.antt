@@ -25,9 +25,9 @@ pub returns : goal.returns
 returns c =
     λ before later tree first workers index worker events t job begun addr mode answer is_event less is_step
     planning none kept.
-    let step = planned_step kept.setting workers events t.steps kept.taken index worker job begun
+    let step = planned_step kept.setting workers events t.steps kept.replies.taken index worker job begun
     _ is_event less
     is_step planning in
     none kept.setting.geometry (asks kept.setting (told_before events t.steps index) worker begun begun.left refl
     addr mode answer step (subst (HasTakenWell kept.setting.geometry) planning
-    (taken_well kept.setting workers events t.steps kept.taken index worker)))
+    (taken_well kept.setting workers events t.steps kept.replies.taken index worker)))

@@ -23,10 +23,10 @@ returns-clause-work c =
     let told = told_before events t.steps index in
     works kept.setting told worker job stage other
     (subst (λ progress. IsStepOfWork kept.setting told worker progress None) is
-    (own_step kept.setting workers _ _ _ (kept.taken.each index _ None is_event is_made) less))
+    (own_step kept.setting workers _ _ _ (kept.replies.taken.each index _ None is_event is_made) less))
 
 pub returns-clause-reading : goal.returns-clause-reading
 returns-clause-reading c = λ before later tree first workers index worker events t job begun addr is_event less
     is_made is kept.
     subst (λ progress. IsStepOfRead progress None) is
-    (own_step kept.setting workers _ _ _ (kept.taken.each index _ None is_event is_made) less)
+    (own_step kept.setting workers _ _ _ (kept.replies.taken.each index _ None is_event is_made) less)

@@ -8,7 +8,7 @@ pub returns-clause-own : goal.returns-clause-own
 returns-clause-own c =
     λ before later tree first workers index worker events t job begun addr mode is_event less is_step planning
     loaded kept.
-    let step = planned_step kept.setting workers events t.steps kept.taken index worker job begun _ is_event less
+    let step = planned_step kept.setting workers events t.steps kept.replies.taken index worker job begun _ is_event less
     is_step planning in
     let absent = wish_is kept.setting (told_before events t.steps index) worker begun begun.left addr mode wish.Fetch
     step in
@@ -18,7 +18,7 @@ pub returns-clause-others : goal.returns-clause-others
 returns-clause-others c =
     λ before later tree first workers index worker other events t job begun addr mode is_event less differs is_step
     planning loaded kept.
-    let step = planned_step kept.setting workers events t.steps kept.taken index worker job begun _ is_event less
+    let step = planned_step kept.setting workers events t.steps kept.replies.taken index worker job begun _ is_event less
     is_step planning in
     let absent = wish_is kept.setting (told_before events t.steps index) worker begun begun.left addr mode wish.Fetch
     step in

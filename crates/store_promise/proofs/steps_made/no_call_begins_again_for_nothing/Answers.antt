@@ -15,5 +15,5 @@ never o told worker begun (next ∷ later) is = is
 pub returns : goal.returns
 returns c = λ before later tree first workers index worker events t job begun is_event less is_step planning kept.
     never kept.setting (told_before events t.steps index) worker begun begun.left
-    (planned_step kept.setting workers events t.steps kept.taken index worker job begun _ is_event less is_step
+    (planned_step kept.setting workers events t.steps kept.replies.taken index worker job begun _ is_event less is_step
     planning)

@@ -19,7 +19,7 @@ pub returns-clause-wanted : goal.returns-clause-wanted
 returns-clause-wanted c =
     λ before later tree first workers index worker other events t job begun addr mode answer is_event less differs
     is_step met planning taken kept.
-    let step = planned_step kept.setting workers events t.steps kept.taken index worker job begun _ is_event less
+    let step = planned_step kept.setting workers events t.steps kept.replies.taken index worker job begun _ is_event less
     is_step planning in
     let told = told_before events t.steps index in
     let left = free_of told worker begun (wish_of addr mode) answer met
@@ -30,7 +30,7 @@ pub returns-clause-fetched : goal.returns-clause-fetched
 returns-clause-fetched c =
     λ before later tree first workers index worker other events t job begun addr mode answer is_event less differs
     is_step met planning fetching kept.
-    let step = planned_step kept.setting workers events t.steps kept.taken index worker job begun _ is_event less
+    let step = planned_step kept.setting workers events t.steps kept.replies.taken index worker job begun _ is_event less
     is_step planning in
     let told = told_before events t.steps index in
     let left = free_of told worker begun (wish_of addr mode) answer met
@@ -41,7 +41,7 @@ pub returns-clause-claimed : goal.returns-clause-claimed
 returns-clause-claimed c =
     λ before later tree first workers index worker other events t job begun block is_event less differs is_step
     planning taken kept.
-    let step = planned_step kept.setting workers events t.steps kept.taken index worker job begun _ is_event less
+    let step = planned_step kept.setting workers events t.steps kept.replies.taken index worker job begun _ is_event less
     is_step planning in
     let told = told_before events t.steps index in
     let left : IsLeftFree told worker (whole_wish block) =

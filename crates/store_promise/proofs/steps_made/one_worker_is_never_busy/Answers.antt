@@ -26,25 +26,25 @@ beyond worker other less differs = elim (cases_lt other 1) [
 pub returns-clause-busy : goal.returns-clause-busy
 returns-clause-busy c = λ before later tree first index worker events t job begun addr mode is_event is_step
     planning kept.
-    let less : worker < 1 = only_of_some kept.setting 1 events t.steps kept.taken index worker _ is_event
+    let less : worker < 1 = only_of_some kept.setting 1 events t.steps kept.replies.taken index worker _ is_event
     is_step in
-    let step = planned_step kept.setting 1 events t.steps kept.taken index worker job begun _ is_event less
+    let step = planned_step kept.setting 1 events t.steps kept.replies.taken index worker job begun _ is_event less
     is_step planning in
     let cause = wish_is kept.setting (told_before events t.steps index) worker begun begun.left addr mode wish.Busy
     step in
     takes_nothing (wish_of addr mode) _
-    (idle_beyond kept.setting 1 events t.steps kept.taken cause.other
+    (idle_beyond kept.setting 1 events t.steps kept.replies.taken cause.other
     (beyond worker cause.other less cause.differs) index) cause.so
 
 pub returns-clause-loading : goal.returns-clause-loading
 returns-clause-loading c = λ before later tree first index worker events t job begun addr mode is_event is_step
     planning kept.
-    let less : worker < 1 = only_of_some kept.setting 1 events t.steps kept.taken index worker _ is_event
+    let less : worker < 1 = only_of_some kept.setting 1 events t.steps kept.replies.taken index worker _ is_event
     is_step in
-    let step = planned_step kept.setting 1 events t.steps kept.taken index worker job begun _ is_event less
+    let step = planned_step kept.setting 1 events t.steps kept.replies.taken index worker job begun _ is_event less
     is_step planning in
     let cause = wish_is kept.setting (told_before events t.steps index) worker begun begun.left addr mode
     wish.Loading step in
     fetches_nothing addr.block _
-    (idle_beyond kept.setting 1 events t.steps kept.taken cause.other
+    (idle_beyond kept.setting 1 events t.steps kept.replies.taken cause.other
     (beyond worker cause.other less cause.differs) index) cause.so

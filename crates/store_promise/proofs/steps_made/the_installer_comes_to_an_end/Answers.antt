@@ -34,4 +34,4 @@ returns c = λ before later tree first workers index events t block is_event is_
     let told = told_before events t.steps index in
     none kept.setting.geometry.blocks told.log block other all
     (takes kept.setting told.log told.log.inst_call (Write block)
-    (own_step kept.setting workers _ _ _ (kept.taken.each index _ _ is_event is_made) tt))
+    (own_step kept.setting workers _ _ _ (kept.replies.taken.each index _ _ is_event is_made) tt))

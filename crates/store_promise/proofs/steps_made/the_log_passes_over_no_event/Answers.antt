@@ -33,10 +33,10 @@ pub returns-clause-logging : goal.returns-clause-logging
 returns-clause-logging c = λ before later tree first workers index events t is_event is_made may free kept.
     let told = told_before events t.steps index in
     passes kept.setting told.log told.log.log_call free may
-    (own_step kept.setting workers _ _ _ (kept.taken.each index _ None is_event is_made) tt)
+    (own_step kept.setting workers _ _ _ (kept.replies.taken.each index _ None is_event is_made) tt)
 
 pub returns-clause-installing : goal.returns-clause-installing
 returns-clause-installing c = λ before later tree first workers index events t is_event is_made may free kept.
     let told = told_before events t.steps index in
     passes_home kept.setting told.log told.log.inst_call free may
-    (own_step kept.setting workers _ _ _ (kept.taken.each index _ None is_event is_made) tt)
+    (own_step kept.setting workers _ _ _ (kept.replies.taken.each index _ None is_event is_made) tt)

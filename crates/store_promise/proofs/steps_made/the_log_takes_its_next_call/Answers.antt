@@ -21,4 +21,4 @@ pub returns : goal.returns
 returns c = λ before later tree first workers index events t call is_event is_made other kept.
     let told = told_before events t.steps index in
     other kept.setting.position (takes kept.setting told.log told.log.log_call call
-    (own_step kept.setting workers _ _ _ (kept.taken.each index _ _ is_event is_made) tt))
+    (own_step kept.setting workers _ _ _ (kept.replies.taken.each index _ _ is_event is_made) tt))

@@ -16,7 +16,7 @@ returns-clause-wanted c =
     λ before later tree first workers index worker events t job begun next behind addr mode answer is_event less
     is_step planning some differs kept.
     differs (sym (again kept.setting (told_before events t.steps index) worker begun next behind _ some
-    (planned_step kept.setting workers events t.steps kept.taken index worker job begun _ is_event less is_step
+    (planned_step kept.setting workers events t.steps kept.replies.taken index worker job begun _ is_event less is_step
     planning)).0)
 
 pub returns-clause-claimed : goal.returns-clause-claimed
@@ -24,7 +24,7 @@ returns-clause-claimed c =
     λ before later tree first workers index worker events t job begun next behind block answer is_event less
     is_step planning some differs kept.
     differs (sym (again kept.setting (told_before events t.steps index) worker begun next behind _ some
-    (planned_step kept.setting workers events t.steps kept.taken index worker job begun _ is_event less is_step
+    (planned_step kept.setting workers events t.steps kept.replies.taken index worker job begun _ is_event less is_step
     planning)).0)
 
 pub returns-clause-commit : goal.returns-clause-commit
@@ -32,5 +32,5 @@ returns-clause-commit c =
     λ before later tree first workers index worker events t job begun next behind blocks answer is_event less
     is_step planning some kept.
     again kept.setting (told_before events t.steps index) worker begun next behind _ some
-    (planned_step kept.setting workers events t.steps kept.taken index worker job begun _ is_event less is_step
+    (planned_step kept.setting workers events t.steps kept.replies.taken index worker job begun _ is_event less is_step
     planning)

@@ -52,7 +52,7 @@ returns-clause-ends c =
     λ before later tree first workers index worker events t job begun wished made is_event less is_step planning
     differs kept.
     differs (subst (λ p. IsStepOfWork kept.setting (told_before events t.steps index) worker p (Some made)) planning
-    (own_step kept.setting workers _ _ _ (kept.taken.each index (event.Work worker) (Some made) is_event is_step)
+    (own_step kept.setting workers _ _ _ (kept.replies.taken.each index (event.Work worker) (Some made) is_event is_step)
     less))
 
 pub returns-clause-known : goal.returns-clause-known
