@@ -173,12 +173,18 @@ abbrev pub Ends : List (List ℕ) → Type 0
 Ends [] = Unit {0}
 Ends (message ∷ messages) = judged message ≡ Closed
 
--- The served stream: one reply a message, in order, up to the first on which the connection closes.
+-- A stream of messages is answered: one reply a message, each as this says, in order, up to the first on which
+-- the connection closes.
+abbrev pub streamed : (Standing → Judged → List ℕ → Standing → Type 0) → Standing → List (List ℕ)
+    → List (List ℕ) → Standing → Type 0
+streamed answers old messages [] new = Ends messages × (new ≡ old)
+streamed answers old [] (reply ∷ replies) new = ⊥
+streamed answers old (message ∷ messages) (reply ∷ replies) new =
+    (middle : Standing) × answers old (judged message) reply middle × streamed answers middle messages replies new
+
+-- the served stream
 abbrev pub served : Serving → Standing → List (List ℕ) → List (List ℕ) → Standing → Type 0
-served s old messages [] new = Ends messages × (new ≡ old)
-served s old [] (reply ∷ replies) new = ⊥
-served s old (message ∷ messages) (reply ∷ replies) new =
-    (middle : Standing) × IsReplyTo s old (judged message) reply middle × served s middle messages replies new
+served s old messages replies new = streamed (IsReplyTo s) old messages replies new
 
 -- A message is answered and nothing fails: a call that begins a transaction makes its step and gets the reply of
 -- it, any other call gets its plain reply, and what is refused its refusal.
@@ -198,10 +204,7 @@ IsDone s old (Call xid credential (program_calls.Mount call)) bytes new =
 
 -- the served stream where nothing fails
 abbrev pub all_done : Serving → Standing → List (List ℕ) → List (List ℕ) → Standing → Type 0
-all_done s old messages [] new = Ends messages × (new ≡ old)
-all_done s old [] (reply ∷ replies) new = ⊥
-all_done s old (message ∷ messages) (reply ∷ replies) new =
-    (middle : Standing) × IsDone s old (judged message) reply middle × all_done s middle messages replies new
+all_done s old messages replies new = streamed (IsDone s) old messages replies new
 
 -- Memory was refused for a call: it makes no step, and is told so.
 abbrev pub LacksMemory : Serving → Standing → Judged → List ℕ → Standing → Type 0
@@ -209,13 +212,13 @@ LacksMemory s old Closed bytes new = ⊥
 LacksMemory s old (Refused xid refusal) bytes new = ⊥
 LacksMemory s old (Call xid credential call) bytes new = Stays s old new × (bytes ≡ refused xid SystemError)
 
+-- A message is answered and nothing fails but memory.
+abbrev pub IsDoneOrLacking : Serving → Standing → Judged → List ℕ → Standing → Type 0
+IsDoneOrLacking s old call bytes new = IsDone s old call bytes new ⊎ LacksMemory s old call bytes new
+
 -- the served stream where nothing fails but memory
 abbrev pub done_but_for_memory : Serving → Standing → List (List ℕ) → List (List ℕ) → Standing → Type 0
-done_but_for_memory s old messages [] new = Ends messages × (new ≡ old)
-done_but_for_memory s old [] (reply ∷ replies) new = ⊥
-done_but_for_memory s old (message ∷ messages) (reply ∷ replies) new = (middle : Standing)
-    × (IsDone s old (judged message) reply middle ⊎ LacksMemory s old (judged message) reply middle)
-    × done_but_for_memory s middle messages replies new
+done_but_for_memory s old messages replies new = streamed (IsDoneOrLacking s) old messages replies new
 
 -- no device call failed in the time of these messages, the store isn't broken before them, and behind them no
 -- counter is spent
