@@ -9,4 +9,5 @@ pub mod FileSizes
 pub mod BodyThere
 pub mod HeldThere
 pub mod Stops
+pub mod Needed
 pub mod KnownPositions
