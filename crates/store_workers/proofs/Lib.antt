@@ -19,3 +19,4 @@ pub mod LeavesOthers
 pub mod NotesAll
 pub mod ShareCore
 pub mod Above
+pub mod Halved

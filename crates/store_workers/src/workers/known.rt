@@ -139,11 +139,17 @@ fn any_bars(aims: &[Aim], wished: Aim) -> bool
     aims.iter().any(|one| one.bars(wished))
 }
 
-// Where the first aim stands whose rank isn't below this one.
+// Where the first aim stands whose rank isn't below this one: halved down to, as ranks rise.
 fn position_from(aims: &[Aim], rank: usize) -> Option<usize>
+    requires { Rises aims.now }
     ensures { result ≡ position (λ other. nat_le rank (rank_of other)) aims.now }
 {
-    aims.iter().position(|other| rank <= other.rank())
+    let index = aims.partition_point(|other| other.rank() < rank);
+    if index < aims.len() {
+        Some(index)
+    } else {
+        None
+    }
 }
 
 // Whether an aim stands above all of these.
