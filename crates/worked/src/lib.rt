@@ -1,22 +1,124 @@
-//! Worked messages, each spelled once: calls and replies in words of four bytes, as the standards write them
-//! (RFC 5531, sections 8, 9 and 11; RFC 1813, sections 2.5, 2.6, 3.3.0 to 3.3.3 and 5.2), and the values that
-//! they mean. The first word of each is its mark. Only tests use this crate.
+//! What was worked out by hand from the standards, each spelled once, for tests alone: whole messages
+//! (`messages`), and the arguments and the result of each procedure (`procedures`).
 #![tactic(auto)]
 
-mod bytes;
-mod refused;
-mod served;
-mod values;
+mod messages;
+mod procedures;
 
-pub use bytes::{content, spelled, stream};
-pub use refused::{
-    ANOTHER_FLAVOR, ANOTHER_PROCEDURE, ANOTHER_PROGRAM, ANOTHER_RPC_VERSION, ANOTHER_VERSION,
-    ARGUMENTS_LEFT, BAD_CREDENTIAL, GARBAGE_ARGUMENTS, MOUNT_DUMP, MOUNT_PADDED, NOTHING_RIGHT,
-    PROCEDURE_UNAVAILABLE, PROGRAM_MISMATCH, PROGRAM_UNAVAILABLE, REJECTED_CREDENTIAL,
-    RPC_MISMATCH, SEVENTEEN_GIDS, SYSTEM_ERROR, TOO_LONG,
-};
-pub use served::{
-    GETATTR, GETATTR_CHANGED, GETATTR_FRESH, NULL, NULL_IN_FRAGMENTS, NULL_REPLY, SETATTR,
-    SETATTR_DONE,
-};
-pub use values::{FRESH_ROOT, MADE, NOW, ROOT_IS_CHANGED};
+pub use messages::bytes::content;
+pub use messages::bytes::spelled;
+pub use messages::bytes::stream;
+pub use messages::refused::ANOTHER_FLAVOR;
+pub use messages::refused::ANOTHER_PROCEDURE;
+pub use messages::refused::ANOTHER_PROGRAM;
+pub use messages::refused::ANOTHER_RPC_VERSION;
+pub use messages::refused::ANOTHER_VERSION;
+pub use messages::refused::ARGUMENTS_LEFT;
+pub use messages::refused::BAD_CREDENTIAL;
+pub use messages::refused::GARBAGE_ARGUMENTS;
+pub use messages::refused::MOUNT_DUMP;
+pub use messages::refused::MOUNT_PADDED;
+pub use messages::refused::NOTHING_RIGHT;
+pub use messages::refused::PROCEDURE_UNAVAILABLE;
+pub use messages::refused::PROGRAM_MISMATCH;
+pub use messages::refused::PROGRAM_UNAVAILABLE;
+pub use messages::refused::REJECTED_CREDENTIAL;
+pub use messages::refused::RPC_MISMATCH;
+pub use messages::refused::SEVENTEEN_GIDS;
+pub use messages::refused::SYSTEM_ERROR;
+pub use messages::refused::TOO_LONG;
+pub use messages::served::GETATTR;
+pub use messages::served::GETATTR_CHANGED;
+pub use messages::served::GETATTR_FRESH;
+pub use messages::served::NULL;
+pub use messages::served::NULL_IN_FRAGMENTS;
+pub use messages::served::NULL_REPLY;
+pub use messages::served::SETATTR;
+pub use messages::served::SETATTR_DONE;
+pub use messages::values::FRESH_ROOT;
+pub use messages::values::MADE;
+pub use messages::values::NOW;
+pub use messages::values::ROOT_IS_CHANGED;
+pub use procedures::arguments::ACCESS_ARGUMENTS;
+pub use procedures::arguments::COMMIT_ARGUMENTS;
+pub use procedures::arguments::CREATE_ARGUMENTS;
+pub use procedures::arguments::HANDLE_ARGUMENTS;
+pub use procedures::arguments::LINK_ARGUMENTS;
+pub use procedures::arguments::MK_DIR_ARGUMENTS;
+pub use procedures::arguments::MK_NOD_ARGUMENTS;
+pub use procedures::arguments::MOUNT_ARGUMENTS;
+pub use procedures::arguments::NAME_ARGUMENTS;
+pub use procedures::arguments::NO_ARGUMENTS;
+pub use procedures::arguments::READ_ARGUMENTS;
+pub use procedures::arguments::READ_DIR_ARGUMENTS;
+pub use procedures::arguments::READ_DIR_PLUS_ARGUMENTS;
+pub use procedures::arguments::RENAME_ARGUMENTS;
+pub use procedures::arguments::SET_ATTR_ARGUMENTS;
+pub use procedures::arguments::SYM_LINK_ARGUMENTS;
+pub use procedures::arguments::UNMOUNT_ARGUMENTS;
+pub use procedures::arguments::WRITE_ARGUMENTS;
+pub use procedures::asked::Asked;
+pub use procedures::asked::File;
+pub use procedures::asked::ONES;
+pub use procedures::asked::ROOT;
+pub use procedures::asked::ZEROS;
+pub use procedures::asked::call;
+pub use procedures::asked::calls_on_a_directory;
+pub use procedures::asked::calls_on_a_file;
+pub use procedures::asked::changes_of_a_name;
+pub use procedures::asked::handle_of;
+pub use procedures::asked::moves_of_a_name;
+pub use procedures::calls::access_call;
+pub use procedures::calls::commit_call;
+pub use procedures::calls::create_call;
+pub use procedures::calls::fs_info_call;
+pub use procedures::calls::fs_stat_call;
+pub use procedures::calls::get_attr_call;
+pub use procedures::calls::link_call;
+pub use procedures::calls::lookup_call;
+pub use procedures::calls::mk_dir_call;
+pub use procedures::calls::mk_nod_call;
+pub use procedures::calls::mount_call;
+pub use procedures::calls::path_conf_call;
+pub use procedures::calls::read_call;
+pub use procedures::calls::read_dir_call;
+pub use procedures::calls::read_dir_plus_call;
+pub use procedures::calls::read_link_call;
+pub use procedures::calls::remove_call;
+pub use procedures::calls::rename_call;
+pub use procedures::calls::rm_dir_call;
+pub use procedures::calls::set_attr_call;
+pub use procedures::calls::sym_link_call;
+pub use procedures::calls::unmount_call;
+pub use procedures::calls::write_call;
+pub use procedures::results::ACCESS_RESULT;
+pub use procedures::results::COMMIT_RESULT;
+pub use procedures::results::CREATE_RESULT;
+pub use procedures::results::FS_INFO_RESULT;
+pub use procedures::results::FS_STAT_RESULT;
+pub use procedures::results::GET_ATTR_RESULT;
+pub use procedures::results::LINK_RESULT;
+pub use procedures::results::LOOKUP_RESULT;
+pub use procedures::results::MK_DIR_RESULT;
+pub use procedures::results::MK_NOD_RESULT;
+pub use procedures::results::MOUNT_RESULT;
+pub use procedures::results::NO_RESULT;
+pub use procedures::results::PATH_CONF_RESULT;
+pub use procedures::results::READ_DIR_PLUS_RESULT;
+pub use procedures::results::READ_DIR_RESULT;
+pub use procedures::results::READ_LINK_RESULT;
+pub use procedures::results::READ_RESULT;
+pub use procedures::results::REMOVE_RESULT;
+pub use procedures::results::RENAME_RESULT;
+pub use procedures::results::RM_DIR_RESULT;
+pub use procedures::results::SET_ATTR_RESULT;
+pub use procedures::results::SYM_LINK_RESULT;
+pub use procedures::results::WRITE_RESULT;
+pub use procedures::values::DEVICE;
+pub use procedures::values::SET;
+pub use procedures::values::UNSET;
+pub use procedures::values::VERIFIER;
+pub use procedures::values::handle;
+pub use procedures::values::name;
+pub use procedures::values::new_name;
+pub use procedures::values::other_handle;

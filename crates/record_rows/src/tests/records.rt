@@ -3,7 +3,7 @@
 use rpc::{Records, RpcFault};
 use std::alloc::{AllocError, Global};
 use std::test::Fail;
-use worked_messages::{NULL, TOO_LONG, content, stream};
+use worked::{NULL, TOO_LONG, content, stream};
 
 /// Whether the next record isn't whole yet.
 pub fn is_unfinished(records: &mut Records) -> bool {

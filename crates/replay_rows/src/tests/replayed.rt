@@ -17,7 +17,7 @@ use replays::replay;
 use std::alloc::{AllocError, Global};
 use std::test::Fail;
 use store::{Store, can_be_spelled, close, open, procedure};
-use worked_messages::MADE;
+use worked::MADE;
 
 const INODES: u32 = 64;
 

@@ -9,7 +9,7 @@ use nfs_types::Verifier;
 use plain_image::{PlainContent, PlainFile, PlainName, read_image};
 use std::alloc::Global;
 use std::test::Fail;
-use worked_messages::MADE;
+use worked::MADE;
 
 // The block of the table with the first 32 inodes, and the first data block.
 const TABLE: u32 = 516;

@@ -12,7 +12,7 @@ use plain_image::read_image;
 use std::alloc::{AllocError, Global};
 use std::test::Fail;
 use store::{Store, Verdict, can_be_spelled, procedure};
-use worked_messages::NOW;
+use worked::NOW;
 
 /// The opened store of an image.
 pub fn opened(alloc: Global, disk: MemDisk) -> Result<Store<MemDisk>, Fail>

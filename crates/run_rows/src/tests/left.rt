@@ -9,7 +9,7 @@ use plain_steps::answer;
 use std::alloc::Global;
 use std::test::Fail;
 use store::{Committed, Run};
-use worked_messages::MADE;
+use worked::MADE;
 
 pub const INODES: u32 = 64;
 

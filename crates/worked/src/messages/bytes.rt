@@ -1,6 +1,6 @@
 //! The bytes of words.
 ghost use Rattle.std.specs.Prelude.{◌≡◌, IfOk, OnOk, ◌++◌, drop};
-ghost use Rattle.worked_messages.specs.Words.{bytes_of, bytes_of_all};
+ghost use Rattle.worked.specs.Words.{bytes_of, bytes_of_all};
 
 use std::alloc::{AllocError, Global};
 

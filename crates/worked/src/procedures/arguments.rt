@@ -1,6 +1,6 @@
 //! The arguments of a worked call of each procedure (RFC 1813, sections 3.3 and 5.2).
 
-use crate::parts::{
+use crate::procedures::parts::{
     DATA, HANDLE, NAME, NEW_NAME, OTHER_HANDLE, SET, SOME, TARGET, UNSET, VERIFIER,
 };
 

@@ -1,6 +1,6 @@
 //! Calls as data.
 
-use crate::values::UNSET;
+use crate::procedures::values::UNSET;
 use nfs_types::{
     Call, CreateHow, DirectoryName, Handle, Moment, NewAttributes, Octets, SpecialFile, Stability,
     Stamp, Verifier,

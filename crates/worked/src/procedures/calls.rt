@@ -1,6 +1,6 @@
 //! The worked call of each procedure that has arguments, as a value.
 
-use crate::values::{DEVICE, SET, UNSET, VERIFIER, handle, name, new_name};
+use crate::procedures::values::{DEVICE, SET, UNSET, VERIFIER, handle, name, new_name};
 use nfs_types::{Call, CreateHow, Moment, MountCall, Octets, SpecialFile, Stability};
 use std::alloc::{AllocError, Global};
 

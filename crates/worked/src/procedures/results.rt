@@ -1,7 +1,7 @@
 //! The result of a worked reply to each procedure (RFC 1813, sections 3.3 and 5.2). It begins with its
 //! status; NULL's and UMNT's have none.
 
-use crate::parts::{
+use crate::procedures::parts::{
     ATTRIBUTES, BEFORE, DATA, HANDLE, NAME, NEW_NAME, NONE, OK, SOME, TARGET, VERIFIER,
 };
 
