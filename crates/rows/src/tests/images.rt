@@ -2,11 +2,10 @@
 
 use crate::tests::plain::{DATA_BLOCKS, fresh};
 use crate::tests::served::{INODES, formatted};
-use compared_trees::is_tree_of;
 use disk::{Block, BlockNo, CrashDisk, MemDisk};
 use limits::{BLOCK_BYTES, LEAST_BLOCKS};
 use nfs_types::Verifier;
-use plain_image::{PlainContent, PlainFile, PlainName, read_image};
+use plain_image::{PlainContent, PlainFile, PlainName, is_tree_of, read_image};
 use std::alloc::Global;
 use std::test::Fail;
 use worked::MADE;

@@ -1,7 +1,6 @@
-//! Whether an image has the files of a plain tree. Only tests use this crate.
-#![tactic(auto)]
+//! Whether an image has the files of a plain tree.
 
-use plain_image::{PlainContent, PlainFile, PlainImage, PlainName};
+use crate::{PlainContent, PlainFile, PlainImage, PlainName};
 use plain_server::{PlainBody, PlainEntry, PlainNode, PlainTree};
 
 /// Whether the image has just the files of the tree.
