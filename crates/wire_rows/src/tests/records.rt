@@ -1,5 +1,8 @@
 //! Records of one fragment, and marks that announce too much.
 
+mod fragments;
+mod sizes;
+
 use rpc::{Records, RpcFault};
 use std::alloc::{AllocError, Global};
 use std::test::Fail;
