@@ -1,9 +1,7 @@
 -- What the list of files shows of the tree that it stands for.
 use Rattle.std.proofs.Common.{rules, ◌≡◌, ℕ, zero, suc, ◌+◌, ◌<◌, sym, ap, ◌∙◌, refl, Bool, true, false, cond}
-use Rattle.std.proofs.Common.{List, [], ◌∷◌, length, get_or, set, map, position, nat_eq, Option, Some, None}
-use Rattle.std.proofs.Common.{Result, arith}
-use Rattle.nfs_types.specs.declared.status.Status.{Status}
-use Rattle.std.proofs.lemmas.List.{get_or_default}
+use Rattle.std.proofs.Common.{List, [], ◌∷◌, length, get_or, map, position, nat_eq, Option, Some, None}
+use Rattle.std.proofs.Common.{arith}
 use Rattle.std.specs.List.{AllZip, position_from}
 use Rattle.std.proofs.lemmas.List.Quantifiers.{position-Some}
 use Rattle.std.proofs.lemmas.Iterator.Adapters.{position_from-zero}
@@ -11,11 +9,11 @@ use Rattle.std.specs.Ordering.{nat_cmp, eq_by_cmp}
 use Rattle.std.specs.Cmp.{nat_cmp_total, unsigned_tied}
 use Rattle.std.specs.FinMap as map
 use Rattle.model.specs.Node.{Node}
-use Rattle.model.proofs.Sets.{eq_by_cmp-is, itself}
+use Rattle.model.proofs.Sets.{itself}
 use Rattle.plain_server.specs.declared.tree.NumberedNode.{NumberedNode}
 use Rattle.model.specs.Tree.{node_at}
 use Rattle.plain_server.specs.declared.tree.PlainTree.{PlainTree}
-use Rattle.plain_server.specs.Plain.{StandsAt, numbered, node_of, tree_of}
+use Rattle.plain_server.specs.Plain.{numbered, node_of, tree_of}
 
 abbrev eq : ℕ → ℕ → Bool
 eq q k = eq_by_cmp nat_cmp q k

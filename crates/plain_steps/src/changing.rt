@@ -6,8 +6,8 @@ ghost use Rattle.procedures.specs.Step.{step};
 ghost use Rattle.procs_steps.specs.Kinds.{changes};
 ghost use Rattle.plain_server.specs.Plain.{tree_of};
 
+use crate::tree_files::PlainFiles;
 use nfs_types::{Call, Ctx, Reply};
-use plain_files::PlainFiles;
 use plain_server::PlainTree;
 use procs_steps::change;
 use std::alloc::{AllocError, Global};

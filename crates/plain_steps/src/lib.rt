@@ -5,5 +5,6 @@
 mod answering;
 mod changing;
 mod telling;
+mod tree_files;
 
 pub use answering::answer;

@@ -4,8 +4,8 @@ ghost use Rattle.procedures.specs.Step.{numbered_step};
 ghost use Rattle.procs_steps.specs.Kinds.{tells};
 ghost use Rattle.plain_server.specs.Plain.{tree_of};
 
+use crate::tree_files::PlainFiles;
 use nfs_types::{Call, Ctx, Reply};
-use plain_files::PlainFiles;
 use plain_server::PlainTree;
 use procs_steps::tell;
 use std::alloc::{AllocError, Global};

@@ -1,5 +1,5 @@
-//! Worked messages by the server's readers and writers: bytes and values that were worked out by hand. No
-//! crate stands on this one.
+//! Worked messages by the server's readers and writers, and records out of streams: bytes and values that were
+//! worked out by hand. No crate stands on this one.
 #![tactic(auto)]
 
 #[cfg(test)]

@@ -3,6 +3,7 @@
 mod copies;
 mod items;
 mod judged;
+mod records;
 mod replies;
 mod room;
 mod setattr;

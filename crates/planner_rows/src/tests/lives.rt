@@ -13,8 +13,7 @@ use replays::replay;
 use std::alloc::Global;
 use std::test::Fail;
 use store::can_be_spelled;
-use worked_messages::MADE;
-use worked_procedures::{Asked, File, ROOT, UNSET, ZEROS, call};
+use worked::{Asked, File, MADE, ROOT, UNSET, ZEROS, call};
 
 const INODES: u32 = 128;
 

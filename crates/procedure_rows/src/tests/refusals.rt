@@ -4,8 +4,7 @@ use crate::tests::steps::{Rows, Step, first_unmet};
 use crate::tests::trees::Planted;
 use crate::tests::wanted::Wanted;
 use nfs_types::{Moment, NewAttributes, SetTime, Status};
-use worked_messages::MADE;
-use worked_procedures::{Asked, File, UNSET};
+use worked::{Asked, File, MADE, UNSET};
 
 const A: File = File(2, 0, 0);
 

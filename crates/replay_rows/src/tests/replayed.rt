@@ -6,18 +6,17 @@ ghost use Rattle.replays.specs.Replayed.{CanBeReplayed};
 ghost use Rattle.store_images.specs.Settling.{IsIdle};
 
 use crate::tests::entries::{NOW, add, context, create, made, mk_dir, name, root, set_mode, write};
-use compared_trees::is_tree_of;
 use disk::MemDisk;
 use limits::LEAST_BLOCKS;
 use nfs_types::{Call, Ctx};
-use plain_image::read_image;
+use plain_image::{is_tree_of, read_image};
 use plain_server::PlainTree;
 use plain_steps::answer;
 use replays::replay;
 use std::alloc::{AllocError, Global};
 use std::test::Fail;
 use store::{Store, can_be_spelled, close, open, procedure};
-use worked_messages::MADE;
+use worked::MADE;
 
 const INODES: u32 = 64;
 

@@ -2,14 +2,13 @@
 
 use crate::tests::plain::{DATA_BLOCKS, fresh};
 use crate::tests::served::{INODES, formatted};
-use compared_trees::is_tree_of;
 use disk::{Block, BlockNo, CrashDisk, MemDisk};
 use limits::{BLOCK_BYTES, LEAST_BLOCKS};
 use nfs_types::Verifier;
-use plain_image::{PlainContent, PlainFile, PlainName, read_image};
+use plain_image::{PlainContent, PlainFile, PlainName, is_tree_of, read_image};
 use std::alloc::Global;
 use std::test::Fail;
-use worked_messages::MADE;
+use worked::MADE;
 
 // The block of the table with the first 32 inodes, and the first data block.
 const TABLE: u32 = 516;

@@ -3,12 +3,11 @@
 
 use crate::tests::plain::{changed_by, fresh};
 use crate::tests::served::{Host, has_replies, serve};
-use compared_trees::is_tree_of;
 use disk::MemDisk;
-use plain_image::{PlainImage, read_image};
+use plain_image::{PlainImage, is_tree_of, read_image};
 use std::alloc::Global;
 use std::test::Fail;
-use worked_messages::{GETATTR, GETATTR_CHANGED, GETATTR_FRESH, SETATTR};
+use worked::{GETATTR, GETATTR_CHANGED, GETATTR_FRESH, SETATTR};
 
 /// The calls that the log makes for a group of one block: its content, a barrier, the header, a barrier.
 pub const LOG_CALLS: usize = 4;

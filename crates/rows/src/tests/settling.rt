@@ -4,15 +4,14 @@ ghost use Rattle.store_images.specs.Settling.{IsIdle};
 
 use crate::tests::plain::fresh;
 use crate::tests::served::formatted;
-use compared_trees::is_tree_of;
 use disk::MemDisk;
 use limits::{MOST_KEPT_COMMITS, ROOT};
 use nfs_types::{Call, Credential, Handle, NewAttributes, NumberList, Reply, SetTime, Stamp};
-use plain_image::read_image;
+use plain_image::{is_tree_of, read_image};
 use std::alloc::{AllocError, Global};
 use std::test::Fail;
 use store::{Store, Verdict, can_be_spelled, procedure};
-use worked_messages::NOW;
+use worked::NOW;
 
 /// The opened store of an image.
 pub fn opened(alloc: Global, disk: MemDisk) -> Result<Store<MemDisk>, Fail>

@@ -1,15 +1,14 @@
 //! What a stop leaves of a run: an image whose files are those after a beginning of what was committed.
 
-use compared_trees::is_tree_of;
 use disk::MemDisk;
 use limits::LEAST_BLOCKS;
-use plain_image::{PlainImage, read_image};
+use plain_image::{PlainImage, is_tree_of, read_image};
 use plain_server::PlainTree;
 use plain_steps::answer;
 use std::alloc::Global;
 use std::test::Fail;
 use store::{Committed, Run};
-use worked_messages::MADE;
+use worked::MADE;
 
 pub const INODES: u32 = 64;
 

@@ -1,0 +1,46 @@
+use Rattle.std.proofs.Common.{ℕ, ◌+◌, sym, ap, ◌∙◌, nat_eq, List, Some}
+use Rattle.std.proofs.lemmas.List.Quantifiers.{position-Some}
+use Rattle.std.specs.List.{find}
+use Rattle.std.specs.Option.{option_map}
+use Rattle.nfs_types.specs.declared.entries.ListedEntry.{ListedEntry}
+use Rattle.model.specs.Node.{DirectoryEntry}
+use Rattle.procedures.proofs.Tests.{equal}
+use Rattle.procedures.specs.Listing.{listed_in}
+use Rattle.procedures.specs.declared.cookies.TheConstants.{FIRST_SLOT_COOKIE}
+use Rattle.plain_server.specs.Plain.{body_of}
+use Rattle.plain_server.specs.declared.names.PlainEntry.{PlainEntry}
+use Rattle.plain_steps.proofs.SlotsOf.{found_slot, lies, no_slot}
+use Rattle.plain_steps.proofs.tree_files.listing.name_in.Goals as goal
+
+abbrev put : ℕ → List ℕ × DirectoryEntry → ListedEntry
+put slot entry = record { number = entry.1.number; name = entry.0; cookie = slot + FIRST_SLOT_COOKIE }
+
+pub returns-in_ok-name-in-Some-clause-slot : goal.returns-in_ok-name-in-Some-clause-slot
+returns-in_ok-name-in-Some-clause-slot c =
+    let slot = c.args.slot in
+    let entry = c.index-entries-index.result in
+    let at = position-Some (λ (e : PlainEntry). nat_eq e.slot slot) c.as_slice-entries.result.now c.in-Some.index
+    entry (sym c.slot_position.ensures ∙ c.in-Some.is) in
+    equal entry.slot slot (ap (λ (e : PlainEntry). nat_eq e.slot slot) c.index-entries-index.is ∙ at.1)
+
+pub returns-in_ok-name-in-Some-clause-is : goal.returns-in_ok-name-in-Some-clause-is
+returns-in_ok-name-in-Some-clause-is c =
+    let slot = c.args.slot in
+    let entry = c.index-entries-index.result in
+    ap (λ b. listed_in (body_of b) slot) c.in-Directory.is
+    ∙ ap (λ es. option_map (put slot) (find (lies slot) es)) (sym c.as_slice-entries.ensures)
+    ∙ ap (option_map (put slot)) (found_slot slot c.as_slice-entries.result.now c.in-Some.index entry
+    (sym c.slot_position.ensures ∙ c.in-Some.is) c.index-entries-index.is)
+    ∙ (λ i. Some (record {
+      number = entry.number;
+      name = sym c.in_ok-name-in-Some.ensures i;
+      cookie = sym (returns-in_ok-name-in-Some-clause-slot c) i + FIRST_SLOT_COOKIE;
+    }))
+
+pub returns-in-None-clause-is : goal.returns-in-None-clause-is
+returns-in-None-clause-is c =
+    let slot = c.args.slot in
+    ap (λ b. listed_in (body_of b) slot) c.in-Directory.is
+    ∙ ap (λ es. option_map (put slot) (find (lies slot) es)) (sym c.as_slice-entries.ensures)
+    ∙ ap (option_map (put slot)) (no_slot slot c.as_slice-entries.result.now
+    (sym c.slot_position.ensures ∙ c.in-None.is))

@@ -1,0 +1,10 @@
+use Rattle.std.proofs.Common.{sym, arith}
+use Rattle.plain_steps.proofs.Numbered.{none_left}
+use Rattle.plain_steps.proofs.tree_files.space.blocks_of.Goals as goal
+
+pub files-init : goal.files-init
+files-init c = record {
+  within = omega arith;
+  counted = sym (none_left c.args.files.now);
+  small = omega arith;
+}
