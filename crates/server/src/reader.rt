@@ -6,7 +6,7 @@ use disk::{Port, Source};
 use limits::{MOST_WAITING_BYTES, REPLY_BATCH_BYTES, STREAM_PIECE_BYTES};
 use pool::{Answer, ConnectionKey, Put, Received, ReplyBytes, Stream, Whole};
 use server_parts::SeatKey;
-use server_replies::Connection;
+use server_replies::{Buffer, Connection};
 use std::alloc::Global;
 use std::sync::Wait;
 use std::sync::ledger::Ledger;
@@ -52,7 +52,7 @@ fn read_pieces<L: Ledger, G: Whole, I: Whole, P: Port, S: Source, R: Wait + Cloc
     context: &ConnectionContext<'_, L>,
     of: ConnectionKey,
 ) -> bool {
-    let Ok(mut piece) = vec![in server.alloc; 0u8; STREAM_PIECE_BYTES] else {
+    let Ok(mut buffer) = Buffer::new(server.alloc, STREAM_PIECE_BYTES) else {
         return true;
     };
     let Ok(mut batch) = Batch::new(server.alloc) else {
@@ -64,16 +64,16 @@ fn read_pieces<L: Ledger, G: Whole, I: Whole, P: Port, S: Source, R: Wait + Cloc
             return false;
         }
         context.connection.listen(rt);
-        let taken = context.connection.read(piece.as_mut_slice());
+        let taken = context.connection.read(buffer);
         context.connection.hear(rt);
-        let Ok(count) = taken else {
-            return false;
+        let piece = match taken {
+            Ok(Some(piece)) => piece,
+            Ok(None) => return true,
+            Err(_) => return false,
         };
-        if count == 0 {
-            return true;
-        }
-        if stream.feed(&piece, count).is_err() {
-            return true;
+        match piece.feed(&mut stream) {
+            Ok(empty) => buffer = empty,
+            Err(_) => return true,
         }
         if !serve_records(rt, server, context, &mut stream, &mut batch) {
             return true;

@@ -1,11 +1,11 @@
 //! A connection: its stream, and the replies that wait to be written to it.
-ghost use Rattle.std.specs.Prelude.{◌≡◌, ◌≤◌, [], IfOk, length};
+ghost use Rattle.std.specs.Prelude.{◌≡◌, []};
 
-use crate::{Incoming, Offer, Outbox};
+use crate::piece::{Buffer, Came, Piece, read_piece};
+use crate::{Incoming, Offer, Outbox, Permit, Unwritten, Written};
 use pool_answers::{Backlog, ReplyBytes};
 use server_parts::steady_second;
 use std::alloc::Global;
-use std::io::{ErrorKind, Read, Write};
 use std::net::{Shutdown, TcpStream};
 use std::sync::ledger::Ledger;
 use std::sync::{Condvar, Mutex, Wait};
@@ -88,8 +88,8 @@ impl<L: Ledger> Connection<L> {
         replies: &mut ReplyBytes<L>,
     ) -> bool {
         let mut outbox = self.outbox.lock(rt);
-        match outbox.offer(replies) {
-            Offer::Write => {}
+        let permit = match outbox.offer(replies) {
+            Offer::Write(permit) => permit,
             Offer::Left => {
                 if !outbox.is_writing() {
                     self.to_write.notify_one();
@@ -97,36 +97,42 @@ impl<L: Ledger> Connection<L> {
                 return !outbox.is_shut();
             }
             Offer::Shut => return false,
-        }
+        };
         drop(outbox);
-        let is_done = (&self.stream).write_all(replies.as_slice()).is_ok();
-        self.write_rest(rt, alloc, is_done)
+        let wrote = permit.write(&mut &self.stream, replies.as_slice());
+        self.write_rest(rt, alloc, wrote)
     }
 
-    // Writes what waits, until nothing does. The calling thread is the one that writes, and `is_done` tells whether
-    // its last write was. False where a write failed.
-    fn write_rest<R: Wait + Clock>(&self, rt: &R, alloc: Global, is_done: bool) -> bool {
-        let mut is_done = is_done;
+    // Writes what waits, until nothing does. The calling thread is the one that writes, and this came of its last write.
+    // False where a write failed.
+    fn write_rest<R: Wait + Clock>(
+        &self,
+        rt: &R,
+        alloc: Global,
+        wrote: Result<Written, Unwritten>,
+    ) -> bool {
+        let mut wrote = wrote;
         let mut batch = Backlog::new(alloc, 0, 0);
         for _ in rt.forever() {
-            let Some(next) = self.next_batch(rt, is_done, batch) else {
+            let is_done = wrote.is_ok();
+            let Some((permit, next)) = self.next_batch(rt, wrote, batch) else {
                 return is_done;
             };
-            is_done = (&self.stream).write_all(next.as_slice()).is_ok();
+            wrote = permit.write(&mut &self.stream, next.as_slice());
             batch = next;
         }
-        is_done
+        wrote.is_ok()
     }
 
-    // What is to be written next, or None where nothing waits: then no thread writes.
+    // What is to be written next, with the permit to write it; or None where nothing waits: then no thread writes.
     fn next_batch<R: Wait + Clock>(
         &self,
         rt: &R,
-        is_done: bool,
+        wrote: Result<Written, Unwritten>,
         used: Backlog<L>,
-    ) -> Option<Backlog<L>> {
+    ) -> Option<(Permit, Backlog<L>)> {
         let mut outbox = self.outbox.lock(rt);
-        let next = outbox.go_on(is_done, used);
+        let next = outbox.go_on(wrote, used);
         outbox.tell(steady_second(rt));
         self.written.notify_one();
         next
@@ -142,26 +148,23 @@ impl<L: Ledger> Connection<L> {
 
     fn write_others<R: Wait + Clock>(&self, rt: &R, alloc: Global) {
         for _ in rt.forever() {
-            let Some(taken) = self.take_for_writer(rt, alloc) else {
+            let Some((permit, taken)) = self.take_for_writer(rt, alloc) else {
                 return;
             };
-            let is_done = (&self.stream).write_all(taken.as_slice()).is_ok();
-            self.write_rest(rt, alloc, is_done);
+            let wrote = permit.write(&mut &self.stream, taken.as_slice());
+            self.write_rest(rt, alloc, wrote);
         }
     }
 
-    /// Reads what there is. Nothing came where the client sends no more, or sent nothing for too long.
-    pub fn read(&self, piece: &mut [u8]) -> Result<usize, Gone>
-        ensures { IfOk result (λ count. count ≤ length piece.new) }
-    {
+    /// Reads what there is. None where the client sends no more, or sent nothing for too long.
+    pub fn read(&self, buffer: Buffer) -> Result<Option<Piece>, Gone> {
+        let mut buffer = buffer;
         for _ in 0..u64::MAX {
-            match (&self.stream).read(piece) {
-                Ok(count) => return Ok(count),
-                Err(error) => match error.kind() {
-                    ErrorKind::Interrupted => {}
-                    ErrorKind::WouldBlock => return Ok(0),
-                    _ => return Err(Gone),
-                },
+            match read_piece(&mut &self.stream, buffer) {
+                Came::Piece(piece) => return Ok(Some(piece)),
+                Came::Again(empty) => buffer = empty,
+                Came::Nothing => return Ok(None),
+                Came::Gone => return Err(Gone),
             }
         }
         Err(Gone)
@@ -173,7 +176,7 @@ impl<L: Ledger> Connection<L> {
     }
 
     // Waits until the connection's own writer has something to write, and takes it. None where nothing more will come.
-    fn take_for_writer<R: Wait>(&self, rt: &R, alloc: Global) -> Option<Backlog<L>> {
+    fn take_for_writer<R: Wait>(&self, rt: &R, alloc: Global) -> Option<(Permit, Backlog<L>)> {
         let mut outbox = self
             .to_write
             .wait_while(rt, self.outbox.lock(rt), |o| o.keeps_writer_waiting());

@@ -4,9 +4,11 @@
 mod connection;
 mod incoming;
 mod outbox;
+mod piece;
 mod replies;
 
 pub use connection::{Connection, Gone};
 pub use incoming::Incoming;
 pub use outbox::{Offer, Outbox};
-pub use replies::Replies;
+pub use piece::{Buffer, Piece};
+pub use replies::{Permit, Replies, Unwritten, Written};

@@ -1,7 +1,7 @@
 //! What a connection still has to be sent: the bytes of answers to it, and of nothing else.
 ghost use Rattle.std.specs.Prelude.{◌≡◌, ◌≢◌, ◌↔◌, ◌⊎◌, ◌+◌, ◌-◌, ◌^◌, ◌<◌, ◌≤◌, ◌||◌, [], true, false, not, max, min, IsTrue, IfSome, IfNone, length};
 
-use crate::Replies;
+use crate::{Permit, Replies, Unwritten, Written};
 use pool_answers::{Backlog, Put, ReplyBytes};
 use server_parts::Silence;
 use std::alloc::Global;
@@ -9,10 +9,10 @@ use std::marker::Model;
 use std::sync::ledger::Ledger;
 
 /// What becomes of replies that a thread would write.
-#[derive(Clone, Copy, Debug, PartialEq, Eq)]
+#[derive(Drop)]
 pub enum Offer {
-    /// That thread writes them: nothing waits, and no other thread writes.
-    Write,
+    /// That thread writes them, as it has the permit: nothing waits, and no other thread writes.
+    Write(Permit),
     /// They were left behind all that waits, where memory wasn't refused for them.
     Left,
     /// They were let go: no more is written, or they are for another connection.
@@ -52,7 +52,7 @@ impl<L: Ledger> Model for Outbox<L> {
 
 impl<L: Ledger> Outbox<L> {
     ghost use Rattle.pool_answers.specs.Written.{AreForOne, none_of, nothing_for};
-    ghost use Rattle.server_replies.specs.Outbox.{IsLeft, IsDone, IsForWriter, IsSilent};
+    ghost use Rattle.server_replies.specs.Outbox.{Becomes, IsLeft, IsDone, IsForWriter, IsSilent, has_failed};
 
     /// Nothing waits, of the connection of this key and number, which came at this second.
     pub fn new(alloc: Global, key: usize, number: u64, second: u64) -> Outbox<L>
@@ -120,17 +120,7 @@ impl<L: Ledger> Outbox<L> {
 
     /// What becomes of replies that a thread would write: where it writes them it is from then on the one that writes.
     pub fn offer(&mut self, replies: &mut ReplyBytes<L>) -> Offer
-        ensures shut { (result ≡ Offer.Shut)
-            ↔ ((self.old.shut ≡ true) ⊎ (AreForOne replies.old self.old.replies.pending → ⊥)) }
-        ensures let_go { result ≡ Offer.Shut → self.new ≡ self.old }
-        ensures begins { (result ≡ Offer.Write) ↔ ((self.old.shut ≡ false)
-            × AreForOne replies.old self.old.replies.pending
-            × (self.old.replies.pending.bytes ≡ []) × (self.old.replies.writing ≡ false)) }
-        ensures begun { result ≡ Offer.Write → (self.new.replies.pending.bytes ≡ [])
-            × (self.new.replies.writing ≡ true) × (self.new.shut ≡ false) }
-        ensures left { result ≡ Offer.Left → IsLeft self.old replies.old self.new }
-        ensures used { result ≡ Offer.Left → self.new.shut ≡ false → replies.new ≡ none_of replies.old }
-        ensures same { result ≡ Offer.Write → replies.new ≡ replies.old }
+        ensures becomes { Becomes self.old replies.old result replies.new self.new }
         ensures due { self.new.due ≡ self.old.due }
         ensures ended { self.new.ended ≡ self.old.ended }
         ensures silence { self.new.silence ≡ self.old.silence }
@@ -138,29 +128,33 @@ impl<L: Ledger> Outbox<L> {
         if self.shut || !self.replies.are_for(replies) {
             return Offer::Shut;
         }
-        if self.replies.begin() {
-            return Offer::Write;
+        if let Some(permit) = self.replies.begin() {
+            return Offer::Write(permit);
         }
         self.leave(replies);
         Offer::Left
     }
 
-    /// What the thread that writes writes next, when its last write was done or failed: all that waits, in a buffer
+    /// What the thread that writes writes next, when its last write took all bytes or failed: all that waits, in a buffer
     /// that is used again. None where nothing waits: then no thread writes any more.
-    pub fn go_on(&mut self, is_done: bool, used: Backlog<L>) -> Option<Backlog<L>>
-        ensures taken { IfSome result (λ taken. IsTrue is_done × (taken ≡ self.old.replies.pending)
-            × (taken.bytes ≢ []) × (self.new.replies.pending.bytes ≡ []) × (self.new.replies.writing ≡ true)) }
-        ensures nothing { IfNone result ((IsTrue is_done → self.old.replies.pending.bytes ≡ [])
+    pub fn go_on(
+        &mut self,
+        wrote: Result<Written, Unwritten>,
+        used: Backlog<L>,
+    ) -> Option<(Permit, Backlog<L>)>
+        ensures taken { IfSome result (λ taken. (has_failed wrote ≡ false) × (taken.1 ≡ self.old.replies.pending)
+            × (taken.1.bytes ≢ []) × (self.new.replies.pending.bytes ≡ []) × (self.new.replies.writing ≡ true)) }
+        ensures nothing { IfNone result ((has_failed wrote ≡ false → self.old.replies.pending.bytes ≡ [])
             × (self.new.replies.pending.bytes ≡ []) × (self.new.replies.writing ≡ false)) }
-        ensures shut { self.new.shut ≡ (self.old.shut || not is_done) }
+        ensures shut { self.new.shut ≡ (self.old.shut || has_failed wrote) }
         ensures due { self.new.due ≡ self.old.due }
         ensures ended { self.new.ended ≡ self.old.ended }
         ensures silence { self.new.silence ≡ self.old.silence }
     {
-        if !is_done {
+        if wrote.is_err() {
             self.shut();
         }
-        self.replies.take(used)
+        self.replies.go_on(wrote, used)
     }
 
     /// Whether the connection's own writer has something to write that no other thread writes, or nothing more to
@@ -181,9 +175,9 @@ impl<L: Ledger> Outbox<L> {
 
     /// Makes the connection's own writer the thread that writes, and hands it all that waits. None where it has
     /// nothing more to wait for.
-    pub fn begin(&mut self, used: Backlog<L>) -> Option<Backlog<L>>
+    pub fn begin(&mut self, used: Backlog<L>) -> Option<(Permit, Backlog<L>)>
         requires { IsForWriter self.old }
-        ensures taken { IfSome result (λ taken. (taken ≡ self.old.replies.pending) × (taken.bytes ≢ [])
+        ensures taken { IfSome result (λ taken. (taken.1 ≡ self.old.replies.pending) × (taken.1.bytes ≢ [])
             × (self.old.replies.writing ≡ false)
             × (self.new.replies.pending.bytes ≡ []) × (self.new.replies.writing ≡ true)) }
         ensures ends { IfNone result (((self.old.ended ≡ true) ⊎ (self.old.shut ≡ true)) × (self.new ≡ self.old)) }
@@ -195,7 +189,7 @@ impl<L: Ledger> Outbox<L> {
         if self.ended || self.shut {
             return None;
         }
-        self.replies.take(used)
+        self.replies.start(used)
     }
 
     /// Whether no more than so many bytes wait, or no more is written.
