@@ -2,6 +2,7 @@
 ghost use Rattle.std.specs.Prelude.{◌≡◌, ◌+◌, ◌<◌, length, IfOk};
 ghost use Rattle.disk.specs.declared.block.Side.TheVariants.{Home, Log};
 
+use crate::locked::Begun;
 use crate::{Locked, Seat, Shared};
 use disk::{Port, Source, Splits};
 use pool_calls::{IoSeat, Whole};
@@ -60,23 +61,21 @@ pub fn begin<L: Ledger, G: Whole, I: Whole, D: Splits<P, S>, P: Port + Drop, S: 
     requires boot { store.core.boot ≡ G.boot }
     ensures seats { IfOk result (λ pool. length pool.seats.items ≡ workers) }
 {
-    let Ledgers {
+    let Begun {
+        locked,
+        disk,
         commits,
         logged,
         installed,
-    } = ledgers;
-    let (core, disk) = store.into_both();
+    } = Locked::begin(store, ledgers);
+    let mut rest = commits;
     let (log, home, sources) = disk.split(alloc, workers as usize)?;
-    let (mut commits, mut rest) = commits.open::<L>();
-    commits.add(&mut rest, core.places().0);
     let seats = seats(alloc, workers, &mut rest, sources)?;
-    let (logged, logs) = logged.open::<G>();
-    let (installed, installs) = installed.open::<I>();
     Ok(Pool {
-        shared: Shared::new(Locked::new(core, commits, logged, installed)),
+        shared: Shared::new(locked),
         seats,
-        logger: IoSeat::new(logs, log),
-        installer: IoSeat::new(installs, home),
+        logger: IoSeat::new(logged, log),
+        installer: IoSeat::new(installed, home),
     })
 }
 

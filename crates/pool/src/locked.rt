@@ -2,10 +2,12 @@
 ghost use Rattle.std.specs.Prelude.{◌≡◌, ◌+◌};
 ghost use Rattle.disk.specs.declared.block.Side.TheVariants.{Home, Log};
 
+mod beginning;
 mod ending;
 mod look;
 mod steps;
 
+pub(crate) use beginning::Begun;
 pub use look::Look;
 use pool_calls::Whole;
 use procs::Done;
@@ -29,27 +31,4 @@ pub struct Locked<L: Ledger, G: Whole, I: Whole> {
     pub ghost log_side: { G.side ≡ Log },
     pub ghost home_side: { I.side ≡ Home },
     pub ghost booted: { core.boot ≡ G.boot },
-}
-
-impl<L: Ledger, G: Whole, I: Whole> Locked<L, G, I> {
-    /// A core with books of its commits and of its device calls, of which none was written yet but its commits so far.
-    pub(crate) fn new(
-        core: Core<Done>,
-        commits: Book<L>,
-        logged: Book<G>,
-        installed: Book<I>,
-    ) -> Locked<L, G, I>
-        requires commits { commits.total ≡ core.log.places }
-        requires log_calls { logged.total + G.first ≡ core.log_calls }
-        requires inst_calls { installed.total + I.first ≡ core.inst_calls }
-        requires sides { (G.side ≡ Log) × (I.side ≡ Home) }
-        requires boot { core.boot ≡ G.boot }
-    {
-        Locked {
-            core,
-            commits,
-            logged,
-            installed,
-        }
-    }
 }

@@ -1,5 +1,5 @@
 -- The core came out of its lock, and is what was settled.
-use Rattle.std.proofs.Common.{◌≡◌, ◌∙◌, ap}
+use Rattle.std.proofs.Common.{◌∙◌, ap}
 use Rattle.std.proofs.lemmas.Result.{IfOk-weaker}
 use Rattle.txn.specs.Core.{CoreState}
 use Rattle.pool.proofs.ending.end.Goals as goal
