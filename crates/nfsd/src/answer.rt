@@ -3,6 +3,7 @@ ghost use Rattle.std.specs.Prelude.{◌≡◌, ◌⊎◌, map};
 ghost use Rattle.nfsd_words.specs.Words.{HasMeaning};
 ghost use Rattle.session.specs.Reading.{unread_of};
 ghost use Rattle.session.specs.Serving.{client_of};
+ghost use Rattle.session.specs.Writing.{written_of};
 ghost use Rattle.nfsd.specs.Left.{left_by};
 ghost use Rattle.nfsd.specs.Done.{Answers, DoesCommand, IsWithoutMemory, Obeys, TellsOutcome};
 ghost use Rattle.nfsd.specs.Faults.{status_of_outcome};
@@ -19,7 +20,7 @@ use crate::tcp::serve_image;
 use crate::trouble::Trouble;
 use disk::{BlockFile, FirstContents};
 use nfsd_words::{Args, words};
-use session::Input;
+use session::{Input, Output};
 use std::fs::Files;
 use std::io::{Eprint, Read, Write};
 use std::net::{Net, TcpListener, TcpStream};
@@ -51,7 +52,7 @@ pub fn answer<'a, R, I, O, E>(
     line: &[&str],
     first: FirstContents,
     reader: &mut Input<I>,
-    writer: &mut O,
+    writer: &mut Output<O>,
     faults: &mut FaultStream<E>,
 ) -> (u8, Option<ImageDisk<R::File, WatchedFile<'a, R::File, R>>>)
 where
@@ -69,9 +70,9 @@ where
     O: Write,
     E: Write,
     ensures answers { Answers first (map (λ word. word.now) line.now)
-        (client_of (unread_of I.remaining reader.old) (O.contents writer.old))
+        (client_of (unread_of I.remaining reader.old) (written_of O.contents writer.old))
         faults.old.told.items (E.contents faults.old.stream) result.0 (left_by result.1)
-        (client_of (unread_of I.remaining reader.new) (O.contents writer.new))
+        (client_of (unread_of I.remaining reader.new) (written_of O.contents writer.new))
         faults.new.told.items (E.contents faults.new.stream) }
     ensures refused { result.0 ≡ 2 → ¬ HasMeaning (map (λ word. word.now) line.now) }
     ensures refuses { (¬ HasMeaning (map (λ word. word.now) line.now)) → (result.0 ≡ 2)
@@ -90,7 +91,7 @@ fn obey<'a, R, I, O>(
     line: &[&str],
     first: FirstContents,
     reader: &mut Input<I>,
-    writer: &mut O,
+    writer: &mut Output<O>,
 ) -> (
     Option<ImageDisk<R::File, WatchedFile<'a, R::File, R>>>,
     Result<(), Fault>,
@@ -109,8 +110,8 @@ where
     I: Read,
     O: Write,
     ensures { Obeys first (map (λ word. word.now) line.now)
-        (client_of (unread_of I.remaining reader.old) (O.contents writer.old)) result.1 (left_by result.0)
-        (client_of (unread_of I.remaining reader.new) (O.contents writer.new)) }
+        (client_of (unread_of I.remaining reader.old) (written_of O.contents writer.old)) result.1 (left_by result.0)
+        (client_of (unread_of I.remaining reader.new) (written_of O.contents writer.new)) }
 {
     let args = match words(rt.alloc(), line) {
         Ok(args) => args,
@@ -133,7 +134,7 @@ fn command<'a, R, I, O>(
     args: Args<'_>,
     first: FirstContents,
     reader: &mut Input<I>,
-    writer: &mut O,
+    writer: &mut Output<O>,
 ) -> (
     Option<ImageDisk<R::File, WatchedFile<'a, R::File, R>>>,
     Result<(), Fault>,
@@ -152,8 +153,8 @@ where
     I: Read,
     O: Write,
     ensures { DoesCommand first args.entry
-        (client_of (unread_of I.remaining reader.old) (O.contents writer.old)) result.1 (left_by result.0)
-        (client_of (unread_of I.remaining reader.new) (O.contents writer.new)) }
+        (client_of (unread_of I.remaining reader.old) (written_of O.contents writer.old)) result.1 (left_by result.0)
+        (client_of (unread_of I.remaining reader.new) (written_of O.contents writer.new)) }
 {
     match args {
         Args::Format {

@@ -4,6 +4,7 @@ ghost use Rattle.std.specs.Io.KnownBytes.{Appends};
 ghost use Rattle.layout.specs.Geometry.{data_at};
 ghost use Rattle.session.specs.Reading.{unread_of};
 ghost use Rattle.session.specs.Serving.{client_of};
+ghost use Rattle.session.specs.Writing.{written_of};
 ghost use Rattle.nfsd.specs.Left.{left_by};
 ghost use Rattle.nfsd.specs.Done.{FormatsDevice, FormatsImage, ServesDevice, ServesImageOnce};
 ghost use Rattle.nfsd.specs.Done.{formatted_line, moment_at};
@@ -14,7 +15,7 @@ use crate::locked_files::{make_image, open_image};
 use crate::trouble::Trouble;
 use disk::{BlockFile, CrashDisk, FirstContents};
 use nfs_types::Moment;
-use session::Input;
+use session::{Input, Output};
 use std::alloc::Global;
 use std::fs::Files;
 use std::io::{Read, Write};
@@ -58,7 +59,7 @@ pub fn serve_image_once<R, I, O, W>(
     time: u32,
     first: FirstContents,
     reader: &mut Input<I>,
-    writer: &mut O,
+    writer: &mut Output<O>,
 ) -> (Option<ImageDisk<R::File, W>>, Result<(), Fault>)
 where
     R: Files + AllocGlobal,
@@ -67,8 +68,8 @@ where
     O: Write,
     W: BlockFile,
     ensures { ServesImageOnce first image.now time
-        (client_of (unread_of I.remaining reader.old) (O.contents writer.old)) result.1 (left_by result.0)
-        (client_of (unread_of I.remaining reader.new) (O.contents writer.new)) }
+        (client_of (unread_of I.remaining reader.old) (written_of O.contents writer.old)) result.1 (left_by result.0)
+        (client_of (unread_of I.remaining reader.new) (written_of O.contents writer.new)) }
 {
     let opened = match open_image(rt, image) {
         Ok(opened) => opened,
@@ -118,12 +119,12 @@ pub fn serve_device<D: CrashDisk, I: Read, O: Write>(
     disk: D,
     time: u32,
     reader: &mut Input<I>,
-    writer: &mut O,
+    writer: &mut Output<O>,
 ) -> (D, Result<(), Fault>)
     ensures { ServesDevice (D.device disk) time
-        (client_of (unread_of I.remaining reader.old) (O.contents writer.old)) result.1
+        (client_of (unread_of I.remaining reader.old) (written_of O.contents writer.old)) result.1
         (D.device result.0)
-        (client_of (unread_of I.remaining reader.new) (O.contents writer.new)) }
+        (client_of (unread_of I.remaining reader.new) (written_of O.contents writer.new)) }
 {
     let mut store = match store::open(alloc, disk) {
         Ok(store) => store,

@@ -27,7 +27,7 @@ use crate::fault_stream::FaultStream;
 use crate::read_files::SharedFile;
 use crate::streams::Streams;
 use disk::{BlockFile, FirstContents};
-use session::Input;
+use session::{Input, Output};
 use std::alloc::AllocError;
 use std::env::Env;
 use std::fs::Files;
@@ -41,11 +41,12 @@ use watched_files::Alarm;
 
 fn main(rt: HostRuntime) -> ExitCode {
     let input = Input::new(rt.reader());
-    ExitCode::from(attend(&rt, input, rt.stdout(), rt.stderr()))
+    let output = Output::new(rt.stdout());
+    ExitCode::from(attend(&rt, input, output, rt.stderr()))
 }
 
 // Reads the arguments, and does what they ask for.
-fn attend<R, I, O, E>(rt: &R, input: Input<I>, output: O, errors: E) -> u8
+fn attend<R, I, O, E>(rt: &R, input: Input<I>, output: Output<O>, errors: E) -> u8
 where
     R: Env
         + Files

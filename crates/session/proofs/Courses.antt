@@ -3,11 +3,10 @@ use Rattle.std.proofs.Common.{◌≡◌, ℕ, ◌+◌, ◌-◌, ◌^◌, true, L
 use Rattle.std.proofs.Common.{Option, Some}
 use Rattle.std.proofs.Common.{None, Result, Ok, Err, refl, sym, ap, subst, ◌∙◌, inl, inr, arith, append_assoc}
 use Rattle.std.proofs.Common.{length-append, Bool, false, leb, leb→le, le→leb, T, true≢false}
-use Rattle.std.specs.Prelude.{flat_map, ◌⊎◌, ◌==◌}
+use Rattle.std.specs.Prelude.{flat_map, map, ◌⊎◌, ◌==◌}
 use Rattle.std.proofs.lemmas.List.{append-nil}
 use Rattle.std.proofs.lemmas.List.Concat.{flat_map-cons, flat_map-append}
-use Rattle.std.proofs.Math.Seq.{take-add}
-use Rattle.std.specs.Io.KnownBytes.{Appends, Consumes, Keeps, WriteAppends}
+use Rattle.std.specs.Io.KnownBytes.{Appends, Consumes, Keeps}
 use Rattle.nfs_types.specs.declared.ctx.Moment.{Moment}
 use Rattle.rpc.specs.Records.{fragment, CutsOff, HasBegun, IsRecord, IsTooLong}
 use Rattle.nfs_types.specs.declared.ctx.Credential.{Credential}
@@ -29,7 +28,8 @@ use Rattle.session.specs.declared.serving.SessionFault.{SessionFault}
 use Rattle.session.specs.declared.serving.SessionFault.TheVariants as faults
 use Rattle.session.specs.Replying.{IsMessageAnswered, IsCallAnswered, IsSpelled}
 use Rattle.session.specs.Streaming.{Answered, IsCourse, IsUnfinished, IsUntouched, IsCutShort, StopsAt}
-use Rattle.session.specs.Streaming.{EndsAt, IsCutOff, Delivers, Serves, IsStream, text_of}
+use Rattle.session.specs.Streaming.{EndsAt, HasReplied, IsCutOff, Delivers, Serves, IsStream, text_of}
+use Rattle.session.specs.Writing.{AreAllSent, AreSent, Calls, Tells, Told}
 
 -- ---- known bytes
 
@@ -110,8 +110,8 @@ longer_answers K L so moment old (m ∷ ms) (r ∷ rs) new a = (
   longer_answers K L so moment a.0 ms rs new a.2,
 )
 
-pub longer : (K L : Type 0) → (L → K) → (moment : Moment) (old : Opened) (first : Option (List ℕ))
-    (read left : List ℕ) (count : ℕ) (new : Opened) (written : Option (List ℕ))
+pub longer : (K L : Type 0) → (L → K) → (moment : Moment) (old : Opened) (first : Told)
+    (read left : List ℕ) (count : ℕ) (new : Opened) (written : Told)
     → IsCourse K moment old first read left count new written
     → IsCourse L moment old first read left count new written
 longer K L so moment old first read left count new written c = record {
@@ -123,23 +123,60 @@ longer K L so moment old first read left count new written c = record {
   counted = c.counted;
 }
 
+-- ---- what is told
+
+none_told : (w : Told) → HasReplied w [] w
+none_told w = record { appended = none_more w.bytes; calls = []; more = sym (append-nil w.calls); done = refl }
+
+one_part : (f : List ℕ → List ℕ) (p : List ℕ) → flat_map f (p ∷ []) ≡ f p
+one_part f p = flat_map-cons f p [] ∙ append-nil (f p)
+
+sent_next : (replies : List (List ℕ)) (reply : List ℕ) (calls more : Calls)
+    → AreAllSent (map (fragment true) replies) calls → AreSent (fragment true reply) more
+    → AreAllSent (map (fragment true) (replies ++ reply ∷ [])) (calls ++ more)
+sent_next [] reply calls more none sent =
+    (more, [], ap (λ (l : Calls). l ++ more) none ∙ sym (append-nil more), sent, refl)
+sent_next (r ∷ rs) reply calls more done sent = (
+  done.0,
+  done.1 ++ more,
+  ap (λ (l : Calls). l ++ more) done.2 ∙ append_assoc done.0 done.1 more,
+  done.3,
+  sent_next rs reply done.1 more done.4 sent,
+)
+
+-- one reply more is written
+tells_next : (first told written : Told) (replies : List (List ℕ)) (reply : List ℕ) → HasReplied first replies told
+    → Tells told (fragment true reply) (AreSent (fragment true reply)) written
+    → HasReplied first (replies ++ reply ∷ []) written
+tells_next first told written replies reply so_far next = record {
+  appended = subst (Appends first.bytes written.bytes)
+      (ap (λ (t : List ℕ). text_of replies ++ t) (sym (one_part (fragment true) reply))
+      ∙ sym (flat_map-append (fragment true) replies (reply ∷ [])))
+      (then_more first.bytes told.bytes written.bytes (text_of replies) (fragment true reply)
+      so_far.appended next.appended);
+  calls = so_far.calls ++ next.calls;
+  more = next.more ∙ ap (λ (l : Calls). l ++ next.calls) so_far.more
+      ∙ append_assoc first.calls so_far.calls next.calls;
+  done = sent_next replies reply so_far.calls next.calls so_far.done next.done;
+}
+
 -- ---- a course
 
 -- nothing is read yet
-pub begins : (K : Type 0) (moment : Moment) (old : Opened) (w : Option (List ℕ))
+pub begins : (K : Type 0) (moment : Moment) (old : Opened) (w : Told)
     → IsCourse K moment old w [] [] 0 old w
 begins K moment old w = record {
   messages = [];
   replies = [];
   cut = refl;
   answered = refl;
-  told = none_more w;
+  told = none_told w;
   counted = omega arith;
 }
 
 -- a piece is read
-pub feeds : (K : Type 0) (moment : Moment) (old : Opened) (first : Option (List ℕ)) (read left : List ℕ)
-    (count : ℕ) (new : Opened) (written : Option (List ℕ)) (piece : List ℕ)
+pub feeds : (K : Type 0) (moment : Moment) (old : Opened) (first : Told) (read left : List ℕ)
+    (count : ℕ) (new : Opened) (written : Told) (piece : List ℕ)
     → IsCourse K moment old first read left count new written
     → IsCourse K moment old first (read ++ piece) (left ++ piece) count new written
 feeds K moment old first read left count new written piece c = record {
@@ -161,16 +198,13 @@ answered_next K moment old middle new (n ∷ ns) [] m r done next = absurd done
 answered_next K moment old middle new (n ∷ ns) (q ∷ qs) m r done next =
     (done.0, done.1, answered_next K moment done.0 middle new ns qs m r done.2 next)
 
-one_part : (f : List ℕ → List ℕ) (p : List ℕ) → flat_map f (p ∷ []) ≡ f p
-one_part f p = flat_map-cons f p [] ∙ append-nil (f p)
-
 -- a message is answered
-pub answers : (K : Type 0) (moment : Moment) (old : Opened) (first : Option (List ℕ)) (read left : List ℕ)
-    (count : ℕ) (middle : Opened) (told : Option (List ℕ)) (text m more reply : List ℕ) (next : ℕ)
+pub answers : (K : Type 0) (moment : Moment) (old : Opened) (first : Told) (read left : List ℕ)
+    (count : ℕ) (middle : Opened) (told : Told) (text m more reply : List ℕ) (next : ℕ)
     (new : Opened)
-    (written : Option (List ℕ)) → IsCourse K moment old first read left count middle told → left ≡ text ++ more
+    (written : Told) → IsCourse K moment old first read left count middle told → left ≡ text ++ more
     → IsRecord text m → IsMessageAnswered K moment middle (judged m) reply new
-    → Appends told written (fragment true reply) → next ≡ min (count + 1) (2 ^ 64 - 1)
+    → Tells told (fragment true reply) (AreSent (fragment true reply)) written → next ≡ min (count + 1) (2 ^ 64 - 1)
     → IsCourse K moment old first read more next new written
 answers K moment old first read left count middle told text m more reply next new written c e
     is answered more_told n =
@@ -179,26 +213,16 @@ answers K moment old first read left count middle told text m more reply next ne
       replies = c.replies ++ reply ∷ [];
       cut = cut_next read left text m more c.messages c.cut e is;
       answered = answered_next K moment old middle new c.messages c.replies m reply c.answered answered;
-      told = subst (Appends first written)
-          (ap (λ (t : List ℕ). flat_map (fragment true) c.replies ++ t) (sym (one_part (fragment true) reply))
-          ∙ sym (flat_map-append (fragment true) c.replies (reply ∷ [])))
-          (then_more first told written (flat_map (fragment true) c.replies) (fragment true reply)
-          c.told more_told);
+      told = tells_next first told written c.replies reply c.told more_told;
       counted = omega (arith, n, c.counted, length-append c.replies (reply ∷ []));
     }
 
 -- ---- what comes of a reply
 
-pub delivers_so : (P Q : List ℕ → Type 0) (first : Option (List ℕ)) (result : Result (Unit {0}) SessionFault)
-    (written : Option (List ℕ)) → ((reply : List ℕ) → P reply → Q reply) → Delivers P first result written
+pub delivers_so : (P Q : List ℕ → Type 0) (first : Told) (result : Result (Unit {0}) SessionFault)
+    (written : Told) → ((reply : List ℕ) → P reply → Q reply) → Delivers P first result written
     → Delivers Q first result written
-delivers_so P Q first (Ok x) written so d = (d.0, so d.0 d.1, d.2)
-delivers_so P Q first (Err faults.NoMemory) written so d = (d.0, so d.0 d.1, d.2)
-delivers_so P Q first (Err faults.Output) written so d = (d.0, d.1, d.2, so d.0 d.3, d.4, d.5)
-delivers_so P Q first (Err faults.Record) written so d = absurd d
-delivers_so P Q first (Err faults.Input) written so d = absurd d
-delivers_so P Q first (Err faults.Truncated) written so d = absurd d
-delivers_so P Q first (Err faults.Device) written so d = absurd d
+delivers_so P Q first result written so d = (d.0, so d.0 d.1, d.2)
 
 -- each body has what it is spelled as
 spelled_by : (xid : ℕ) (body : ReplyBody) (long many : Bool) → body_too_long body ≡ long
@@ -256,65 +280,56 @@ judged_call K moment old new (verdicts.Call x caller c) xid credential call byte
 -- ---- where the records stop
 
 pub stops_reading : (K : Type 0) (moment : Moment) (fault : SessionFault) (left : List ℕ) (old : Opened)
-    (w : Option (List ℕ)) → (fault ≡ faults.NoMemory) ⊎ ((fault ≡ faults.Record) × IsTooLong left)
+    (w : Told) → (fault ≡ faults.NoMemory) ⊎ ((fault ≡ faults.Record) × IsTooLong left)
     → StopsAt K moment fault left old w old w
 stops_reading K moment fault left old w (inl e) =
-    subst (λ (f : SessionFault). StopsAt K moment f left old w old w) (sym e) (inl (refl, none_more w))
+    subst (λ (f : SessionFault). StopsAt K moment f left old w old w) (sym e) (inl (refl, refl))
 stops_reading K moment fault left old w (inr long) =
     subst (λ (f : SessionFault). StopsAt K moment f left old w old w) (sym long.0)
-    ((refl, none_more w), inl long.1)
+    ((refl, refl), inl long.1)
 
 pub stops_serving : (K : Type 0) (moment : Moment) (fault : SessionFault) (left text m more : List ℕ)
-    (old : Opened) (first : Option (List ℕ)) (new : Opened) (written : Option (List ℕ)) → left ≡ text ++ more
+    (old : Opened) (first : Told) (new : Opened) (written : Told) → left ≡ text ++ more
     → IsRecord text m → Serves K moment old first m (Err fault) new written
     → StopsAt K moment fault left old first new written
-stops_serving K moment faults.NoMemory left text m more old first new written e is (inl d) = inr (
-  record {
-    text = text;
-    message = m;
-    more = more;
-    reply = d.0;
-    part = [];
-    lost = fragment true d.0;
-    cut = e;
-    is = is;
-    answered = d.1;
-    parts = refl;
-    told = d.2;
-  },
-  refl,
-)
+stops_serving K moment faults.NoMemory left text m more old first new written e is (inl d) = inr (record {
+  text = text;
+  message = m;
+  more = more;
+  reply = d.0;
+  cut = e;
+  is = is;
+  answered = d.1;
+  unwritten = d.2;
+})
 stops_serving K moment faults.NoMemory left text m more old first new written e is (inr x) = absurd (cc x.0)
 stops_serving K moment faults.Output left text m more old first new written e is (inl d) = record {
   text = text;
   message = m;
   more = more;
   reply = d.0;
-  part = d.1;
-  lost = d.2;
   cut = e;
   is = is;
-  answered = d.3;
-  parts = d.4;
-  told = d.5;
+  answered = d.1;
+  unwritten = d.2;
 }
 stops_serving K moment faults.Output left text m more old first new written e is (inr x) = absurd (cc x.0)
-stops_serving K moment faults.Record left text m more old first new written e is (inl d) = absurd d
+stops_serving K moment faults.Record left text m more old first new written e is (inl d) = absurd d.2
 stops_serving K moment faults.Record left text m more old first new written e is (inr x) = (
   x.2,
   inr (record { text = text; message = m; more = more; cut = e; is = is; closed = x.1 }),
 )
-stops_serving K moment faults.Input left text m more old first new written e is (inl d) = absurd d
+stops_serving K moment faults.Input left text m more old first new written e is (inl d) = absurd d.2
 stops_serving K moment faults.Input left text m more old first new written e is (inr x) = absurd (cc x.0)
-stops_serving K moment faults.Truncated left text m more old first new written e is (inl d) = absurd d
+stops_serving K moment faults.Truncated left text m more old first new written e is (inl d) = absurd d.2
 stops_serving K moment faults.Truncated left text m more old first new written e is (inr x) = absurd (cc x.0)
-stops_serving K moment faults.Device left text m more old first new written e is (inl d) = absurd d
+stops_serving K moment faults.Device left text m more old first new written e is (inl d) = absurd d.2
 stops_serving K moment faults.Device left text m more old first new written e is (inr x) = absurd (cc x.0)
 
 -- a message is served
-pub serves : (K : Type 0) (moment : Moment) (old : Opened) (first : Option (List ℕ)) (read left : List ℕ)
-    (count : ℕ) (middle : Opened) (told : Option (List ℕ)) (text m more : List ℕ) (next : ℕ) (new : Opened)
-    (written : Option (List ℕ)) → IsCourse K moment old first read left count middle told → left ≡ text ++ more
+pub serves : (K : Type 0) (moment : Moment) (old : Opened) (first : Told) (read left : List ℕ)
+    (count : ℕ) (middle : Opened) (told : Told) (text m more : List ℕ) (next : ℕ) (new : Opened)
+    (written : Told) → IsCourse K moment old first read left count middle told → left ≡ text ++ more
     → IsRecord text m → Serves K moment middle told m (Ok tt) new written → next ≡ min (count + 1) (2 ^ 64 - 1)
     → IsCourse K moment old first read more next new written
 serves K moment old first read left count middle told text m more next new written c e is (inl d) n =
@@ -330,8 +345,8 @@ begun_of left (inl none) some = absurd (true≢false (ap (λ (l : List ℕ). len
 begun_of left (inr begun) some = begun
 
 -- between two messages, of which no more was written
-pub ends_between : (K : Type 0) (moment : Moment) (old : Opened) (unread first : Option (List ℕ))
-    (result : Result ℕ SessionFault) (rest written : Option (List ℕ)) (new : Opened) (read left : List ℕ)
+pub ends_between : (K : Type 0) (moment : Moment) (old : Opened) (unread : Option (List ℕ)) (first : Told)
+    (result : Result ℕ SessionFault) (rest : Option (List ℕ)) (written : Told) (new : Opened) (read left : List ℕ)
     (count : ℕ) → Consumes unread rest read → (c : IsCourse K moment old first read left count new written)
     → EndsAt result left rest first written c.replies
     → IsStream K moment old unread first result rest written new
@@ -347,15 +362,15 @@ ends_between K moment old unread first result rest written new read left count c
 }
 
 -- at a message whose reply isn't written whole
-ends_short : (K : Type 0) (moment : Moment) (old : Opened) (unread first : Option (List ℕ))
-    (result : Result ℕ SessionFault) (rest written : Option (List ℕ)) (new : Opened) (read left : List ℕ)
-    (count : ℕ) (middle : Opened) (told : Option (List ℕ)) → Consumes unread rest read
+ends_short : (K : Type 0) (moment : Moment) (old : Opened) (unread : Option (List ℕ)) (first : Told)
+    (result : Result ℕ SessionFault) (rest : Option (List ℕ)) (written : Told) (new : Opened) (read left : List ℕ)
+    (count : ℕ) (middle : Opened) (told : Told) → Consumes unread rest read
     → (c : IsCourse K moment old first read left count middle told)
-    → (short : IsCutShort K moment left middle told new written)
-    → ((off : IsCutOff first written (c.replies ++ short.reply ∷ [])) → off.part ≡ short.part
+    → (fault : SessionFault) (short : IsCutShort K moment fault left middle told new written)
+    → (IsCutOff fault first (c.replies ++ short.reply ∷ []) written
     → EndsAt result short.more rest first written (c.replies ++ short.reply ∷ []))
     → IsStream K moment old unread first result rest written new
-ends_short K moment old unread first result rest written new read left count middle told consumed c short so =
+ends_short K moment old unread first result rest written new read left count middle told consumed c fault short so =
     record {
       read = read;
       messages = c.messages ++ short.message ∷ [];
@@ -368,17 +383,16 @@ ends_short K moment old unread first result rest written new read left count mid
       ends = so (record {
         whole = c.replies;
         last = short.reply;
-        part = short.part;
-        lost = short.lost;
         is = refl;
-        parts = short.parts;
-        told = then_more first told written (text_of c.replies) short.part c.told short.told;
-      }) refl;
+        told = told;
+        sent = c.told;
+        unwritten = short.unwritten;
+      });
     }
 
 -- the messages that were answered, though nothing is done at the last
-same_course : (K : Type 0) (moment : Moment) (old : Opened) (first : Option (List ℕ)) (read left : List ℕ)
-    (count : ℕ) (middle : Opened) (told : Option (List ℕ)) (new : Opened) (written : Option (List ℕ))
+same_course : (K : Type 0) (moment : Moment) (old : Opened) (first : Told) (read left : List ℕ)
+    (count : ℕ) (middle : Opened) (told : Told) (new : Opened) (written : Told)
     → (c : IsCourse K moment old first read left count middle told) → IsUntouched middle told new written
     → IsCourse K moment old first read left count new written
 same_course K moment old first read left count middle told new written c is = record {
@@ -386,16 +400,15 @@ same_course K moment old first read left count middle told new written c is = re
   replies = c.replies;
   cut = c.cut;
   answered = subst (Answered K moment old c.messages c.replies) (sym is.0) c.answered;
-  told = subst (Appends first written) (append-nil (text_of c.replies))
-      (then_more first told written (text_of c.replies) [] c.told is.1);
+  told = subst (λ (w : Told). HasReplied first c.replies w) (sym is.1) c.told;
   counted = c.counted;
 }
 
 -- a fault while records are answered is one of the stream
-pub stopped : (K : Type 0) (moment : Moment) (old : Opened) (unread first : Option (List ℕ))
-    (fault : SessionFault) (rest written : Option (List ℕ)) (new : Opened) (read left : List ℕ) (count : ℕ)
+pub stopped : (K : Type 0) (moment : Moment) (old : Opened) (unread : Option (List ℕ)) (first : Told)
+    (fault : SessionFault) (rest : Option (List ℕ)) (written : Told) (new : Opened) (read left : List ℕ) (count : ℕ)
     (middle : Opened)
-    (told : Option (List ℕ)) → Consumes unread rest read
+    (told : Told) → Consumes unread rest read
     → IsCourse K moment old first read left count middle told
     → StopsAt K moment fault left middle told new written
     → IsStream K moment old unread first (Err fault) rest written new
@@ -411,12 +424,10 @@ stopped K moment old unread first faults.NoMemory rest written new read left cou
 stopped K moment old unread first faults.NoMemory rest written new read left count middle told consumed
     c (inr short) =
     ends_short K moment old unread first (Err faults.NoMemory) rest written new read left count middle
-    told consumed c
-    short.0 (λ off same. inr (off, same ∙ short.1))
+    told consumed c faults.NoMemory short (λ off. inr off)
 stopped K moment old unread first faults.Output rest written new read left count middle told consumed c short =
     ends_short K moment old unread first (Err faults.Output) rest written new read left count middle
-    told consumed c
-    short (λ off same. off)
+    told consumed c faults.Output short (λ off. off)
 stopped K moment old unread first faults.Input rest written new read left count middle told consumed c stops =
     absurd stops
 stopped K moment old unread first faults.Truncated rest written new read left count middle told
@@ -426,8 +437,8 @@ stopped K moment old unread first faults.Device rest written new read left count
     absurd stops
 
 -- a stream that has ended, behind which the device failed
-pub failed_behind : (K : Type 0) (moment : Moment) (old : Opened) (unread first : Option (List ℕ)) (count : ℕ)
-    (rest written : Option (List ℕ)) (new : Opened)
+pub failed_behind : (K : Type 0) (moment : Moment) (old : Opened) (unread : Option (List ℕ)) (first : Told) (count : ℕ)
+    (rest : Option (List ℕ)) (written : Told) (new : Opened)
     → IsStream K moment old unread first (Ok count) rest written new
     → IsStream K moment old unread first (Err faults.Device) rest written new
 failed_behind K moment old unread first count rest written new s = record {
@@ -440,21 +451,3 @@ failed_behind K moment old unread first count rest written new s = record {
   answered = s.answered;
   ends = (s.ends.0, s.ends.1, s.ends.3);
 }
-
--- ---- what a write appends
-
--- a write that took no byte
-pub wrote_none : {E : Type 0} (a b c : Option (List ℕ)) (bs buf : List ℕ) (r : Result ℕ E) → r ≡ Ok 0
-    → Appends a b bs → WriteAppends b c r buf → Appends a c bs
-wrote_none a b c bs buf (Ok n) e first more =
-    let zero_is : n ≡ 0 = cc e in
-    let none : take n buf ≡ [] = ap (λ (k : ℕ). take k buf) zero_is in
-    subst (Appends a c) (append-nil bs) (then_more a b c bs [] first (subst (Appends b c) none more))
-wrote_none a b c bs buf (Err f) e first more = absurd cc
-
--- a write that took some
-pub wrote_some : (a b c : Option (List ℕ)) (bytes : List ℕ) (done n : ℕ) → Appends a b (take done bytes)
-    → Appends b c (take n (drop done bytes)) → Appends a c (take (done + n) bytes)
-wrote_some a b c bytes done n first more =
-    subst (Appends a c) (sym (take-add done n bytes))
-    (then_more a b c (take done bytes) (take n (drop done bytes)) first more)

@@ -37,6 +37,7 @@ use Rattle.session.specs.Filing.{AreFiled, Files, HasFiled, IsFiled, IsOpenFor, 
 use Rattle.session.specs.Filing.{NumbersRise}
 use Rattle.session.specs.Filing.{filed, outset_of}
 use Rattle.session.specs.Replying.{IsMessageAnswered}
+use Rattle.session.specs.Writing.{Told}
 use Rattle.session.specs.Streaming.{Answered, IsStream}
 use Rattle.session.proofs.Courses.{longer_answers}
 use Rattle.session.proofs.ServedFiles.{each_message, served_along}
@@ -327,7 +328,7 @@ files_after stops whole longer K moment old files messages replies served device
 
 -- a stream that has ended, and the settling behind it
 pub served_behind : LeavesFiles → LeavesWhole → KeepsLonger → (K L : Type 0) → (L → K) → (moment : Moment) (old : Opened)
-    (unread first : Option (List ℕ)) (result : Result ℕ SessionFault) (rest written : Option (List ℕ))
+    (unread : Option (List ℕ)) (first : Told) (result : Result ℕ SessionFault) (rest : Option (List ℕ)) (written : Told)
     (served : Opened) (device : Device) (core : CoreState) (boot : ℕ)
     → LeavesOpen served.device served.core device core → boot ≡ served.boot
     → ((later : Files) → IsOpenFor served later → IsOpenFor (store_of device core served.boot) later)

@@ -1,5 +1,6 @@
 pub mod Noted
 pub mod Courses
+pub mod Written
 pub mod Filed
 pub mod ShortCodes
 pub mod ShortListings

@@ -31,6 +31,7 @@ use Rattle.session.specs.Replying.{IsSystemError}
 use Rattle.session.specs.Serving.{reply_for}
 use Rattle.session.specs.Standing.{serving_of, standing_of}
 use Rattle.session.specs.Streaming.{IsStream}
+use Rattle.session.specs.Writing.{Told}
 
 -- the files of an open store: they led from the first tree by these entries to the last
 pub record Files : Type 0 where
@@ -158,8 +159,8 @@ IsSettledBehind (Err Truncated) core = IsSettled core ⊎ (core.log.broken ≡ t
 -- What came of serving a stream of messages at a moment, from a store and a client to what they became: what
 -- was answered and written, how it ended, and what the settling behind the last message led to. And where the
 -- device keeps its model, the moment is sound and the store was open for some files, what it made of them.
-pub record IsServed (keeps_model : Type 0) (moment : Moment) (old : Opened) (unread first : Option (List ℕ))
-    (result : Result ℕ SessionFault) (rest written : Option (List ℕ)) (new : Opened) : Type 0 where
+pub record IsServed (keeps_model : Type 0) (moment : Moment) (old : Opened) (unread : Option (List ℕ)) (first : Told)
+    (result : Result ℕ SessionFault) (rest : Option (List ℕ)) (written : Told) (new : Opened) : Type 0 where
   pub served : Opened
   pub stream : IsStream keeps_model moment old unread first result rest written served
   pub goes : GoesTo served new

@@ -4,3 +4,4 @@ pub mod Replying
 pub mod Serving
 pub mod Streaming
 pub mod Reading
+pub mod Writing

@@ -1,7 +1,7 @@
 -- What a stream is answered, message by message, and where it ends.
-use Rattle.std.specs.Prelude.{◌≡◌, ℕ, ◌-◌, ◌^◌, ◌⊎◌, min, true, List, [], ◌∷◌, ◌++◌, length, flat_map, Option}
+use Rattle.std.specs.Prelude.{◌≡◌, ℕ, ◌-◌, ◌^◌, ◌⊎◌, min, true, List, [], ◌∷◌, ◌++◌, length, flat_map, map, Option}
 use Rattle.std.specs.Prelude.{Result, Ok, Err}
-use Rattle.std.specs.Io.KnownBytes.{Appends, Consumes, IsAtEnd}
+use Rattle.std.specs.Io.KnownBytes.{Consumes, IsAtEnd}
 use Rattle.nfs_types.specs.declared.ctx.Moment.{Moment}
 use Rattle.rpc.specs.Records.{fragment, CutsOff, HasBegun, IsRecord, IsTooLong}
 use Rattle.session_wire.specs.declared.message.Judged.TheVariants.{Closed}
@@ -11,6 +11,7 @@ use Rattle.session.specs.declared.serving.SessionFault.{SessionFault}
 use Rattle.session.specs.declared.serving.SessionFault.TheVariants.{Record, Input, Output, NoMemory, Truncated}
 use Rattle.session.specs.declared.serving.SessionFault.TheVariants.{Device}
 use Rattle.session.specs.Replying.{IsMessageAnswered}
+use Rattle.session.specs.Writing.{AreAllSent, IsUnwritten, Tells, Told, Writes}
 
 -- one reply a message, in their order
 abbrev pub Answered : Type 0 → Moment → Opened → List (List ℕ) → List (List ℕ) → Opened → Type 0
@@ -25,19 +26,23 @@ Answered keeps_model moment old (message ∷ messages) (reply ∷ replies) new =
 abbrev pub text_of : List (List ℕ) → List ℕ
 text_of replies = flat_map (fragment true) replies
 
+-- these replies were written, each as one last fragment and flushed before the next
+abbrev pub HasReplied : Told → List (List ℕ) → Told → Type 0
+HasReplied first replies written = Tells first (text_of replies) (AreAllSent (map (fragment true) replies)) written
+
 -- how many there are, up to the greatest number that can be told
 abbrev pub count_of : List (List ℕ) → ℕ
 count_of replies = min (length replies) (2 ^ 64 - 1)
 
 -- The bytes that were read are whole messages and what is left; each message was answered, and the replies were
 -- written. `count` is how many they are.
-pub record IsCourse (keeps_model : Type 0) (moment : Moment) (old : Opened) (first : Option (List ℕ))
-    (read left : List ℕ) (count : ℕ) (new : Opened) (written : Option (List ℕ)) : Type 0 where
+pub record IsCourse (keeps_model : Type 0) (moment : Moment) (old : Opened) (first : Told)
+    (read left : List ℕ) (count : ℕ) (new : Opened) (written : Told) : Type 0 where
   pub messages : List (List ℕ)
   pub replies : List (List ℕ)
   pub cut : CutsOff read messages left
   pub answered : Answered keeps_model moment old messages replies new
-  pub told : Appends first written (text_of replies)
+  pub told : HasReplied first replies written
   pub counted : count ≡ count_of replies
 
 -- no whole record is left, and no mark that announces too much
@@ -54,121 +59,91 @@ pub record BeginsClosed (left : List ℕ) : Type 0 where
   pub closed : judged message ≡ Closed
 
 -- nothing was done, and nothing was written
-abbrev pub IsUntouched : Opened → Option (List ℕ) → Opened → Option (List ℕ) → Type 0
-IsUntouched old first new written = (new ≡ old) × Appends first written []
+abbrev pub IsUntouched : Opened → Told → Opened → Told → Type 0
+IsUntouched old first new written = (new ≡ old) × (written ≡ first)
 
 -- ---- one record
 
 -- One of these replies was written, as one last fragment, or a beginning of it; or memory was refused for its
 -- bytes, and nothing was written.
-abbrev pub Delivers : (List ℕ → Type 0) → Option (List ℕ) → Result (Unit {0}) SessionFault
-    → Option (List ℕ) → Type 0
-Delivers IsReply first (Ok _) written = (reply : List ℕ) × IsReply reply
-    × Appends first written (fragment true reply)
-Delivers IsReply first (Err NoMemory) written = (reply : List ℕ) × IsReply reply × Appends first written []
-Delivers IsReply first (Err Output) written = (reply : List ℕ) × (part : List ℕ) × (lost : List ℕ)
-    × IsReply reply × (fragment true reply ≡ part ++ lost) × Appends first written part
-Delivers IsReply first (Err Record) written = ⊥
-Delivers IsReply first (Err Input) written = ⊥
-Delivers IsReply first (Err Truncated) written = ⊥
-Delivers IsReply first (Err Device) written = ⊥
+abbrev pub Delivers : (List ℕ → Type 0) → Told → Result (Unit {0}) SessionFault → Told → Type 0
+Delivers IsReply first result written = (reply : List ℕ) × IsReply reply × Writes first (fragment true reply) result written
 
 -- what comes of one record: it is answered, or the connection closes on it
-abbrev pub Serves : Type 0 → Moment → Opened → Option (List ℕ) → List ℕ
-    → Result (Unit {0}) SessionFault → Opened
-    → Option (List ℕ) → Type 0
+abbrev pub Serves : Type 0 → Moment → Opened → Told → List ℕ → Result (Unit {0}) SessionFault → Opened → Told → Type 0
 Serves keeps_model moment old first message result new written =
     Delivers (λ (reply : List ℕ). IsMessageAnswered keeps_model moment old (judged message) reply new) first
     result written
     ⊎ ((result ≡ Err Record) × (judged message ≡ Closed) × IsUntouched old first new written)
 
--- bytes were written whole, or a beginning of them
-abbrev pub Writes : Option (List ℕ) → List ℕ → Result (Unit {0}) SessionFault → Option (List ℕ) → Type 0
-Writes first bytes (Ok _) written = Appends first written bytes
-Writes first bytes (Err Output) written = (part : List ℕ) × (lost : List ℕ) × (bytes ≡ part ++ lost)
-    × Appends first written part
-Writes first bytes (Err NoMemory) written = ⊥
-Writes first bytes (Err Record) written = ⊥
-Writes first bytes (Err Input) written = ⊥
-Writes first bytes (Err Truncated) written = ⊥
-Writes first bytes (Err Device) written = ⊥
-
 -- ---- the records that are there
 
--- what is left begins with a message that was answered, and a beginning of the reply was written
-pub record IsCutShort (keeps_model : Type 0) (moment : Moment) (left : List ℕ) (old : Opened)
-    (first : Option (List ℕ)) (new : Opened) (written : Option (List ℕ)) : Type 0 where
+-- what is left begins with a message that was answered, and its reply wasn't written whole
+pub record IsCutShort (keeps_model : Type 0) (moment : Moment) (fault : SessionFault) (left : List ℕ) (old : Opened)
+    (first : Told) (new : Opened) (written : Told) : Type 0 where
   pub text : List ℕ
   pub message : List ℕ
   pub more : List ℕ
   pub reply : List ℕ
-  pub part : List ℕ
-  pub lost : List ℕ
   pub cut : left ≡ text ++ more
   pub is : IsRecord text message
   pub answered : IsMessageAnswered keeps_model moment old (judged message) reply new
-  pub parts : fragment true reply ≡ part ++ lost
-  pub told : Appends first written part
+  pub unwritten : IsUnwritten fault first (fragment true reply) written
 
 -- a stream that comes to a fault while its records are answered
-abbrev pub StopsAt : Type 0 → Moment → SessionFault → List ℕ → Opened → Option (List ℕ) → Opened
-    → Option (List ℕ)
-    → Type 0
+abbrev pub StopsAt : Type 0 → Moment → SessionFault → List ℕ → Opened → Told → Opened → Told → Type 0
 StopsAt keeps_model moment Record left old first new written = IsUntouched old first new written
     × (IsTooLong left ⊎ BeginsClosed left)
 StopsAt keeps_model moment NoMemory left old first new written = IsUntouched old first new written
-    ⊎ ((short : IsCutShort keeps_model moment left old first new written) × (short.part ≡ []))
+    ⊎ IsCutShort keeps_model moment NoMemory left old first new written
 StopsAt keeps_model moment Output left old first new written =
-    IsCutShort keeps_model moment left old first new written
+    IsCutShort keeps_model moment Output left old first new written
 StopsAt keeps_model moment Input left old first new written = ⊥
 StopsAt keeps_model moment Truncated left old first new written = ⊥
 StopsAt keeps_model moment Device left old first new written = ⊥
 
 -- what comes of the records that are there
-abbrev pub Going : Type 0 → Moment → Opened → Option (List ℕ) → List ℕ → Result ℕ SessionFault → List ℕ → Opened
-    → Option (List ℕ) → Type 0
+abbrev pub Going : Type 0 → Moment → Opened → Told → List ℕ → Result ℕ SessionFault → List ℕ → Opened → Told → Type 0
 Going keeps_model moment old first read (Ok count) left new written =
     IsCourse keeps_model moment old first read left count new written × IsUnfinished left
 Going keeps_model moment old first read (Err fault) left new written = (rest : List ℕ) × (count : ℕ)
-    × (middle : Opened) × (told : Option (List ℕ))
+    × (middle : Opened) × (told : Told)
     × IsCourse keeps_model moment old first read rest count middle told
     × StopsAt keeps_model moment fault rest middle told new written
 
 -- ---- the stream
 
 -- the replies were written, but for an end of the last one
-pub record IsCutOff (first written : Option (List ℕ)) (replies : List (List ℕ)) : Type 0 where
+pub record IsCutOff (fault : SessionFault) (first : Told) (replies : List (List ℕ)) (written : Told) : Type 0 where
   pub whole : List (List ℕ)
   pub last : List ℕ
-  pub part : List ℕ
-  pub lost : List ℕ
   pub is : replies ≡ whole ++ last ∷ []
-  pub parts : fragment true last ≡ part ++ lost
-  pub told : Appends first written (text_of whole ++ part)
+  pub told : Told
+  pub sent : HasReplied first whole told
+  pub unwritten : IsUnwritten fault told (fragment true last) written
 
 -- Where a stream ends, by what is left of the bytes that were read, and what is written of the replies. With
 -- a count none is left, and it is theirs. NoMemory may come where a record is cut out, or behind a message
 -- whose reply finds no memory.
-abbrev pub EndsAt : Result ℕ SessionFault → List ℕ → Option (List ℕ) → Option (List ℕ) → Option (List ℕ)
-    → List (List ℕ) → Type 0
+abbrev pub EndsAt : Result ℕ SessionFault → List ℕ → Option (List ℕ) → Told → Told → List (List ℕ) → Type 0
 EndsAt (Ok count) left unread first written replies = (left ≡ []) × IsAtEnd unread
-    × (count ≡ count_of replies) × Appends first written (text_of replies)
+    × (count ≡ count_of replies) × HasReplied first replies written
 EndsAt (Err Record) left unread first written replies = (IsTooLong left ⊎ BeginsClosed left)
-    × Appends first written (text_of replies)
+    × HasReplied first replies written
 EndsAt (Err Input) left unread first written replies = IsUnfinished left
-    × Appends first written (text_of replies)
+    × HasReplied first replies written
 EndsAt (Err Truncated) left unread first written replies = HasBegun left × IsAtEnd unread
-    × Appends first written (text_of replies)
+    × HasReplied first replies written
 EndsAt (Err Device) left unread first written replies = (left ≡ []) × IsAtEnd unread
-    × Appends first written (text_of replies)
-EndsAt (Err Output) left unread first written replies = IsCutOff first written replies
-EndsAt (Err NoMemory) left unread first written replies = Appends first written (text_of replies)
-    ⊎ ((short : IsCutOff first written replies) × (short.part ≡ []))
+    × HasReplied first replies written
+EndsAt (Err Output) left unread first written replies = IsCutOff Output first replies written
+EndsAt (Err NoMemory) left unread first written replies = HasReplied first replies written
+    ⊎ IsCutOff NoMemory first replies written
 
 -- What comes of a stream, of the bytes that the reader gave: they are whole messages and what is left; each
 -- message was answered, one after another, which left this store; and so it ended.
-pub record IsStream (keeps_model : Type 0) (moment : Moment) (old : Opened) (unread first : Option (List ℕ))
-    (result : Result ℕ SessionFault) (rest written : Option (List ℕ)) (new : Opened) : Type 0 where
+pub record IsStream (keeps_model : Type 0) (moment : Moment) (old : Opened) (unread : Option (List ℕ)) (first : Told)
+    (result : Result ℕ SessionFault) (rest : Option (List ℕ)) (written : Told) (new : Opened) : Type 0 where
   pub read : List ℕ
   pub messages : List (List ℕ)
   pub replies : List (List ℕ)

@@ -6,8 +6,10 @@ ghost use Rattle.store_images.specs.Settling.{IsIdle};
 ghost use Rattle.session.specs.Serving.{reply_for};
 ghost use Rattle.session.specs.Replying.{IsCallAnswered, IsMountReply, TakesCall};
 ghost use Rattle.session.specs.Streaming.{Delivers, Serves};
+ghost use Rattle.session.specs.Writing.{told_of};
 ghost use Rattle.session_wire.specs.Replies.{body_of};
 
+use crate::output::Output;
 use crate::serving::SessionFault;
 use crate::writing::put;
 use disk::CrashDisk;
@@ -23,7 +25,7 @@ pub fn serve_record<D: CrashDisk, W: Write>(
     alloc: Global,
     store: &mut Store<D>,
     message: &[u8],
-    writer: &mut W,
+    writer: &mut Output<W>,
     moment: Moment,
 ) -> Result<(), SessionFault>
     requires idle { IsIdle store.old.core }
@@ -32,9 +34,9 @@ pub fn serve_record<D: CrashDisk, W: Write>(
     ensures boot { store.new.boot ≡ store.old.boot }
     ensures model { D.keeps_model store.new.disk → D.keeps_model store.old.disk }
     ensures serves { Serves (D.keeps_model store.new.disk) moment
-        (store_of (D.device store.old.disk) store.old.core store.old.boot) (W.contents writer.old)
+        (store_of (D.device store.old.disk) store.old.core store.old.boot) (told_of W.contents writer.old)
         message.now result
-        (store_of (D.device store.new.disk) store.new.core store.new.boot) (W.contents writer.new) }
+        (store_of (D.device store.new.disk) store.new.core store.new.boot) (told_of W.contents writer.new) }
 {
     are_bytes(message);
     match judge(alloc, message) {
@@ -60,7 +62,7 @@ fn serve_call<D: CrashDisk, W: Write>(
     xid: u32,
     credential: Credential,
     call: ProgramCall,
-    writer: &mut W,
+    writer: &mut Output<W>,
     moment: Moment,
 ) -> Result<(), SessionFault>
     requires idle { IsIdle store.old.core }
@@ -72,7 +74,7 @@ fn serve_call<D: CrashDisk, W: Write>(
     ensures serves { Delivers (λ reply. IsCallAnswered (D.keeps_model store.new.disk) moment
         (store_of (D.device store.old.disk) store.old.core store.old.boot) xid credential call reply
         (store_of (D.device store.new.disk) store.new.core store.new.boot))
-        (W.contents writer.old) result (W.contents writer.new) }
+        (told_of W.contents writer.old) result (told_of W.contents writer.new) }
 {
     match call {
         ProgramCall::Nfs(call) => {
@@ -90,10 +92,10 @@ fn serve_mount<W: Write>(
     alloc: Global,
     xid: u32,
     call: &MountCall,
-    writer: &mut W,
+    writer: &mut Output<W>,
 ) -> Result<(), SessionFault>
-    ensures { Delivers (λ reply. IsMountReply xid call.now reply) (W.contents writer.old) result
-        (W.contents writer.new) }
+    ensures { Delivers (λ reply. IsMountReply xid call.now reply) (told_of W.contents writer.old) result
+        (told_of W.contents writer.new) }
 {
     match mount_reply(alloc, call) {
         Ok(reply) => {

@@ -4,11 +4,13 @@
 
 mod answering;
 mod noting;
+mod output;
 mod serving;
 mod writing;
 
 pub use answering::reply_to;
 pub use noting::Input;
+pub use output::{Output, OutputCall};
 pub use serving::{SessionFault, serve};
 pub use session_wire::{
     CallMessage, Judged, MessageCredential, MessageVerifier, ReplyBody, ReplyMessage, RpcReply,

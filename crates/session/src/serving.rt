@@ -10,9 +10,11 @@ ghost use Rattle.session.specs.Serving.{HasServed, client_of};
 ghost use Rattle.session.specs.Filing.{IsServed};
 ghost use Rattle.session.specs.Streaming.{Going, IsCourse, IsStream, IsUnfinished};
 ghost use Rattle.session.specs.Reading.{IsTakenFor, ReadAnswer, ReadsTo};
+ghost use Rattle.session.specs.Writing.{Told, told_of, written_of};
 
 use crate::answering::serve_record;
 use crate::noting::Input;
+use crate::output::Output;
 use bytes::Bytes;
 use disk::CrashDisk;
 use limits::{MOST_READS, PIECE_BYTES};
@@ -55,7 +57,7 @@ pub fn serve<D: CrashDisk, R: Read, W: Write>(
     alloc: Global,
     store: &mut Store<D>,
     reader: &mut Input<R>,
-    writer: &mut W,
+    writer: &mut Output<W>,
     moment: Moment,
 ) -> Result<u64, SessionFault>
     requires idle { IsIdle store.old.core }
@@ -65,13 +67,13 @@ pub fn serve<D: CrashDisk, R: Read, W: Write>(
     ensures model { D.keeps_model store.new.disk → D.keeps_model store.old.disk }
     ensures served { HasServed
         (store_of (D.device store.old.disk) store.old.core store.old.boot)
-        (client_of (R.remaining reader.old.reader) (W.contents writer.old)) moment result
+        (client_of (R.remaining reader.old.reader) (written_of W.contents writer.old)) moment result
         (store_of (D.device store.new.disk) store.new.core store.new.boot)
-        (client_of (R.remaining reader.new.reader) (W.contents writer.new)) }
+        (client_of (R.remaining reader.new.reader) (written_of W.contents writer.new)) }
     ensures stream { IsServed (D.keeps_model store.new.disk) moment
         (store_of (D.device store.old.disk) store.old.core store.old.boot)
-        (R.remaining reader.old.reader) (W.contents writer.old) result (R.remaining reader.new.reader)
-        (W.contents writer.new) (store_of (D.device store.new.disk) store.new.core store.new.boot) }
+        (R.remaining reader.old.reader) (told_of W.contents writer.old) result (R.remaining reader.new.reader)
+        (told_of W.contents writer.new) (store_of (D.device store.new.disk) store.new.core store.new.boot) }
     ensures reads { ReadsTo result reader.old.answers.items reader.new.answers.items }
 {
     a_settled_store_stays_open();
@@ -97,7 +99,7 @@ fn serve_all<D: CrashDisk, R: Read, W: Write>(
     alloc: Global,
     store: &mut Store<D>,
     reader: &mut Input<R>,
-    writer: &mut W,
+    writer: &mut Output<W>,
     moment: Moment,
 ) -> Result<u64, SessionFault>
     requires idle { IsIdle store.old.core }
@@ -109,8 +111,8 @@ fn serve_all<D: CrashDisk, R: Read, W: Write>(
     ensures device { IsErrOf result SessionFault.Device → ⊥ }
     ensures stream { IsStream (D.keeps_model store.new.disk) moment
         (store_of (D.device store.old.disk) store.old.core store.old.boot)
-        (R.remaining reader.old.reader) (W.contents writer.old) result (R.remaining reader.new.reader)
-        (W.contents writer.new) (store_of (D.device store.new.disk) store.new.core store.new.boot) }
+        (R.remaining reader.old.reader) (told_of W.contents writer.old) result (R.remaining reader.new.reader)
+        (told_of W.contents writer.new) (store_of (D.device store.new.disk) store.new.core store.new.boot) }
     ensures reads { ReadsTo result reader.old.answers.items reader.new.answers.items }
 {
     let mut records = Records::new(alloc);
@@ -151,7 +153,7 @@ fn serve_piece<D: CrashDisk, W: Write>(
     store: &mut Store<D>,
     records: &mut Records,
     piece: &[u8],
-    writer: &mut W,
+    writer: &mut Output<W>,
     moment: Moment,
     count: u64,
 ) -> Result<u64, SessionFault>
@@ -160,11 +162,11 @@ fn serve_piece<D: CrashDisk, W: Write>(
     ensures idle { IsIdle store.new.core }
     ensures boot { store.new.boot ≡ store.old.boot }
     ensures model { D.keeps_model store.new.disk → D.keeps_model store.old.disk }
-    ensures going { (first : Opened) (unwritten : Option (List ℕ)) (read : List ℕ)
+    ensures going { (first : Opened) (unwritten : Told) (read : List ℕ)
         → IsCourse (D.keeps_model store.old.disk) moment first unwritten read records.old count
-        (store_of (D.device store.old.disk) store.old.core store.old.boot) (W.contents writer.old)
+        (store_of (D.device store.old.disk) store.old.core store.old.boot) (told_of W.contents writer.old)
         → Going (D.keeps_model store.new.disk) moment first unwritten (read ++ piece.now) result records.new
-        (store_of (D.device store.new.disk) store.new.core store.new.boot) (W.contents writer.new) }
+        (store_of (D.device store.new.disk) store.new.core store.new.boot) (told_of W.contents writer.new) }
 {
     match records.feed(piece) {
         Ok(()) => serve_records(alloc, store, records, writer, moment, count),
@@ -202,7 +204,7 @@ fn serve_records<D: CrashDisk, W: Write>(
     alloc: Global,
     store: &mut Store<D>,
     records: &mut Records,
-    writer: &mut W,
+    writer: &mut Output<W>,
     moment: Moment,
     count: u64,
 ) -> Result<u64, SessionFault>
@@ -211,11 +213,11 @@ fn serve_records<D: CrashDisk, W: Write>(
     ensures idle { IsIdle store.new.core }
     ensures boot { store.new.boot ≡ store.old.boot }
     ensures model { D.keeps_model store.new.disk → D.keeps_model store.old.disk }
-    ensures going { (first : Opened) (unwritten : Option (List ℕ)) (read : List ℕ)
+    ensures going { (first : Opened) (unwritten : Told) (read : List ℕ)
         → IsCourse (D.keeps_model store.old.disk) moment first unwritten read records.old count
-        (store_of (D.device store.old.disk) store.old.core store.old.boot) (W.contents writer.old)
+        (store_of (D.device store.old.disk) store.old.core store.old.boot) (told_of W.contents writer.old)
         → Going (D.keeps_model store.new.disk) moment first unwritten read result records.new
-        (store_of (D.device store.new.disk) store.new.core store.new.boot) (W.contents writer.new) }
+        (store_of (D.device store.new.disk) store.new.core store.new.boot) (told_of W.contents writer.new) }
 {
     let mut replies = count;
     'records: loop {

@@ -38,10 +38,10 @@ pub fn serve(alloc: Global, disk: MemDisk, messages: &[&[u32]]) -> Result<Served
         Err(refused) => return Err(refused.1)?,
     };
     let mut reader = session::Input::new(input.as_slice());
-    let mut output = Vec::new(alloc);
+    let mut output = session::Output::new(Vec::new(alloc));
     let result = session::serve(alloc, &mut store, &mut reader, &mut output, NOW);
     Ok(Served {
-        output,
+        output: output.into_writer(),
         result,
         disk: store::close(store),
     })

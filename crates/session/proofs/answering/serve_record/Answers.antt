@@ -3,7 +3,7 @@ use Rattle.session_wire.specs.declared.message.ReplyBody.TheVariants as bodies
 use Rattle.session_wire.specs.Judging.{judged}
 use Rattle.store_images.specs.Opening.{store_of}
 use Rattle.session.specs.Replying.{IsMessageAnswered, IsCallAnswered, IsSpelled}
-use Rattle.session.proofs.Courses.{delivers_so, judged_refused, judged_call, none_more}
+use Rattle.session.proofs.Courses.{delivers_so, judged_refused, judged_call}
 use Rattle.session.proofs.Taken.{closes, taken}
 use Rattle.session.proofs.answering.serve_record.Goals as goal
 
@@ -46,5 +46,5 @@ returns-in-Closed-clause-serves g c =
     inr (
       refl,
       closes (judged c.args.message.now) c.in-Closed.ensures,
-      (refl, none_more (g.W.Write.contents c.args.writer.now)),
+      (refl, refl),
     )

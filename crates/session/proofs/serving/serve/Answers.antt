@@ -8,6 +8,7 @@ use Rattle.session.specs.Serving.{IsEnded, client_of, has_served}
 use Rattle.session.specs.Filing.{IsSettledBehind}
 use Rattle.session.specs.declared.serving.SessionFault.{SessionFault}
 use Rattle.session.specs.declared.serving.SessionFault.TheVariants as faults
+use Rattle.session.specs.Writing.{told_of}
 use Rattle.session.proofs.Courses.{failed_behind}
 use Rattle.session.proofs.Filed.{served_behind, settled_after}
 use Rattle.session.proofs.Noted.{behind}
@@ -25,8 +26,8 @@ returns-in-Err-Output-clause-stream g c =
     c.a_stop_leaves_a_beginning.ensures.whole
     c.an_open_store_keeps_its_files.ensures.longer keeps keeps
     (λ kept. kept) c.args.moment (store_of (device was.disk) was.core was.boot)
-    (g.R.Read.remaining c.args.reader.now.reader) (g.W.Write.contents c.args.writer.now) c.serve_all-served.result
-    (g.R.Read.remaining c.serve_all-served.new.reader.reader) (g.W.Write.contents c.serve_all-served.new.writer)
+    (g.R.Read.remaining c.args.reader.now.reader) (told_of g.W.Write.contents c.args.writer.now) c.serve_all-served.result
+    (g.R.Read.remaining c.serve_all-served.new.reader.reader) (told_of g.W.Write.contents c.serve_all-served.new.writer)
     (store_of (device served.disk) served.core served.boot) (device served.disk) served.core served.boot
     (same_open d served.core) refl (λ later is. is)
     (λ kept. prefixes_kept d d served.core served.core (g.met.D.CrashDisk.whole served.disk kept)
@@ -47,16 +48,13 @@ returns-in-Err g c =
       reads = c.serve_all-served.ensures.reads;
       model = λ kept. c.serve_all-served.ensures.model (c.settle.ensures.model kept);
       served = has_served (store_of (device was.disk) was.core was.boot)
-          (client_of (g.R.Read.remaining c.args.reader.now.reader)
-          (g.W.Write.contents c.args.writer.now)) c.args.moment
+          (client_of (g.R.Read.remaining c.args.reader.now.reader) (g.W.Write.contents c.args.writer.now.writer)) c.args.moment
           c.serve_all-served.result (store_of (device now.disk) now.core now.boot)
-          (client_of (g.R.Read.remaining c.serve_all-served.new.reader.reader)
-          (g.W.Write.contents c.serve_all-served.new.writer))
+          (client_of (g.R.Read.remaining c.serve_all-served.new.reader.reader) (g.W.Write.contents c.serve_all-served.new.writer.writer))
           (record {
             idle = idle;
             ended = subst (λ r. IsEnded r (store_of (device now.disk) now.core now.boot)
-                (client_of (g.R.Read.remaining c.serve_all-served.new.reader.reader)
-                (g.W.Write.contents c.serve_all-served.new.writer))) (sym c.in-Err.is) tt;
+                (client_of (g.R.Read.remaining c.serve_all-served.new.reader.reader) (g.W.Write.contents c.serve_all-served.new.writer.writer))) (sym c.in-Err.is) tt;
           });
       stream =
           let served = c.serve_all-served.new.store in
@@ -66,8 +64,8 @@ returns-in-Err g c =
           c.a_stop_leaves_a_beginning.ensures.whole c.an_open_store_keeps_its_files.ensures.longer
           (keeps served.disk) (keeps now.disk) c.settle.ensures.model c.args.moment
           (store_of (device was.disk) was.core was.boot) (g.R.Read.remaining c.args.reader.now.reader)
-          (g.W.Write.contents c.args.writer.now) c.serve_all-served.result
-          (g.R.Read.remaining c.serve_all-served.new.reader.reader) (g.W.Write.contents c.serve_all-served.new.writer)
+          (told_of g.W.Write.contents c.args.writer.now) c.serve_all-served.result
+          (g.R.Read.remaining c.serve_all-served.new.reader.reader) (told_of g.W.Write.contents c.serve_all-served.new.writer)
           (store_of (device served.disk) served.core served.boot) (device now.disk) now.core now.boot
           c.settle.ensures.open c.settle.ensures.boot
           (λ later is. c.a_settled_store_stays_open.ensures
@@ -92,8 +90,8 @@ returns-in-Ok-settle-clause-stream g c =
     c.a_stop_leaves_a_beginning.ensures.whole c.an_open_store_keeps_its_files.ensures.longer
     (keeps served.disk) (keeps now.disk) c.settle-in-Ok.ensures.model c.args.moment
     (store_of (device was.disk) was.core was.boot) (g.R.Read.remaining c.args.reader.now.reader)
-    (g.W.Write.contents c.args.writer.now) c.serve_all-served.result
-    (g.R.Read.remaining c.serve_all-served.new.reader.reader) (g.W.Write.contents c.serve_all-served.new.writer)
+    (told_of g.W.Write.contents c.args.writer.now) c.serve_all-served.result
+    (g.R.Read.remaining c.serve_all-served.new.reader.reader) (told_of g.W.Write.contents c.serve_all-served.new.writer)
     (store_of (device served.disk) served.core served.boot) (device now.disk) now.core now.boot
     c.settle-in-Ok.ensures.open c.settle-in-Ok.ensures.boot
     (λ later is. c.a_settled_store_stays_open.ensures (store_of (device served.disk) served.core served.boot)
@@ -112,9 +110,9 @@ returns-in-Err-settle-clause-stream g c =
     let old = store_of (device was.disk) was.core was.boot in
     let mid = store_of (device served.disk) served.core served.boot in
     let unread = g.R.Read.remaining c.args.reader.now.reader in
-    let first = g.W.Write.contents c.args.writer.now in
+    let first = told_of g.W.Write.contents c.args.writer.now in
     let rest = g.R.Read.remaining c.serve_all-served.new.reader.reader in
-    let written = g.W.Write.contents c.serve_all-served.new.writer in
+    let written = told_of g.W.Write.contents c.serve_all-served.new.writer in
     served_behind c.a_stop_leaves_a_beginning.ensures.files
     c.a_stop_leaves_a_beginning.ensures.whole c.an_open_store_keeps_its_files.ensures.longer
     (keeps served.disk) (keeps now.disk) c.settle-in-Ok.ensures.model c.args.moment old unread first

@@ -8,6 +8,7 @@ use Rattle.store_images.specs.Opening.{store_of}
 use Rattle.session.specs.Streaming.{IsCourse, IsStream, StopsAt}
 use Rattle.session.specs.declared.serving.SessionFault.{SessionFault}
 use Rattle.session.specs.declared.serving.SessionFault.TheVariants as faults
+use Rattle.session.specs.Writing.{told_of}
 use Rattle.session.proofs.Courses.{begins, begun_of, ends_between, read_kept, read_more, read_none, stopped}
 use Rattle.session.specs.Reading.{IsTakenFor}
 use Rattle.session.proofs.Noted.{at_most, brings, ended, goes_on, none_read, one_more, stops_by, taken_failed, taken_none}
@@ -19,7 +20,7 @@ reads-init g c =
     let was = c.args.store.now in
     let keeps = g.D.CrashDisk.keeps_model was.disk in
     let old = store_of (g.D.CrashDisk.device was.disk) was.core was.boot in
-    let written = g.W.Write.contents c.args.writer.now in (
+    let written = told_of g.W.Write.contents c.args.writer.now in (
       c.requires.idle,
       inl c.new-records.ensures,
       refl,
@@ -42,8 +43,8 @@ returns-in-Err-clause-stream g c =
     let new = store_of (g.D.CrashDisk.device now.disk) now.core now.boot in
     let unread = g.R.Read.remaining c.args.reader.now.reader in
     let rest = g.R.Read.remaining c.read_piece.new.reader.reader in
-    let first = g.W.Write.contents c.args.writer.now in
-    let written = g.W.Write.contents c.reads.writer in
+    let first = told_of g.W.Write.contents c.args.writer.now in
+    let written = told_of g.W.Write.contents c.reads.writer in
     let failed = c.in-Err.ensures.failed in
     let course = c.reads.invariant.4.2 in
     subst (λ (fault : SessionFault). IsStream keeps c.args.moment old unread first (Err fault) rest written new)
@@ -59,13 +60,13 @@ returns-in-Err-serve_piece-clause-device g c = λ is.
     let was = c.args.store.now in
     let now = c.serve_piece.new.store in
     let old = store_of (g.D.CrashDisk.device was.disk) was.core was.boot in
-    let going = c.in-Err-serve_piece.ensures.going old (g.W.Write.contents c.args.writer.now)
+    let going = c.in-Err-serve_piece.ensures.going old (told_of g.W.Write.contents c.args.writer.now)
     c.reads.invariant.4.0 c.reads.invariant.4.2 in
     let same : c.in-Err-serve_piece.fault ≡ faults.Device = cc is in
     subst (λ (fault : SessionFault). StopsAt (g.D.CrashDisk.keeps_model now.disk) c.args.moment fault
     going.0 going.2
     going.3 (store_of (g.D.CrashDisk.device now.disk) now.core now.boot)
-    (g.W.Write.contents c.serve_piece.new.writer)) same going.5
+    (told_of g.W.Write.contents c.serve_piece.new.writer)) same going.5
 
 pub returns-in-Err-serve_piece-clause-stream : goal.returns-in-Err-serve_piece-clause-stream
 returns-in-Err-serve_piece-clause-stream g c =
@@ -75,11 +76,11 @@ returns-in-Err-serve_piece-clause-stream g c =
     let new = store_of (g.D.CrashDisk.device now.disk) now.core now.boot in
     let unread = g.R.Read.remaining c.args.reader.now.reader in
     let rest = g.R.Read.remaining c.read_piece.new.reader.reader in
-    let first = g.W.Write.contents c.args.writer.now in
+    let first = told_of g.W.Write.contents c.args.writer.now in
     let read = c.reads.invariant.4.0 in
     let going = c.in-Err-serve_piece.ensures.going old first read c.reads.invariant.4.2 in
     stopped (g.D.CrashDisk.keeps_model now.disk) c.args.moment old unread first c.in-Err-serve_piece.fault rest
-    (g.W.Write.contents c.serve_piece.new.writer) new _ going.0 going.1 going.2 going.3
+    (told_of g.W.Write.contents c.serve_piece.new.writer) new _ going.0 going.1 going.2 going.3
     (read_more unread (g.R.Read.remaining c.reads.reader.reader) rest read _ c.reads.invariant.4.1
     (subst (λ o. IfSome o (λ count. Consumes (g.R.Read.remaining c.reads.reader.reader) rest
     (take count c.read_piece.new.piece))) c.in-Ok-Some.field-0-is c.in-Ok-Some.ensures.some)) going.4 going.5
@@ -111,7 +112,7 @@ reads-preserved g c =
     let mid = g.R.Read.remaining c.reads.reader.reader in
     let rest = g.R.Read.remaining c.read_piece.new.reader.reader in
     let read = c.reads.invariant.4.0 in
-    let going = c.in-Ok.ensures.going old (g.W.Write.contents c.args.writer.now) read c.reads.invariant.4.2 in (
+    let going = c.in-Ok.ensures.going old (told_of g.W.Write.contents c.args.writer.now) read c.reads.invariant.4.2 in (
       c.serve_piece.ensures.idle,
       going.1,
       c.serve_piece.ensures.boot ∙ c.reads.invariant.2,
@@ -150,9 +151,9 @@ returns-then-read-eq0-clause-stream g c =
     let none = subst (λ n. Consumes mid rest (take n piece)) c.if-read-eq0.true some in
     let at_end = subst (λ o. IfSome o (λ count. count ≡ 0 → IsAtEnd rest)) c.in-Ok-Some.field-0-is
     c.in-Ok-Some.ensures.end c.if-read-eq0.true in
-    ends_between keeps c.args.moment old unread (g.W.Write.contents c.args.writer.now)
+    ends_between keeps c.args.moment old unread (told_of g.W.Write.contents c.args.writer.now)
     (Err faults.Truncated) rest
-    (g.W.Write.contents c.reads.writer) new read c.reads.records c.reads.count
+    (told_of g.W.Write.contents c.reads.writer) new read c.reads.records c.reads.count
     (subst (Consumes unread rest) (append-nil read)
     (read_more unread mid rest read [] c.reads.invariant.4.1 none)) course (
       begun_of c.reads.records c.reads.invariant.1 (sym c.is_empty.ensures ∙ c.if-is_empty.false),
@@ -169,8 +170,8 @@ returns-clause-stream g c =
     let new = store_of (g.D.CrashDisk.device now.disk) now.core now.boot in
     let course = c.reads.invariant.4.2 in
     ends_between keeps c.args.moment old (g.R.Read.remaining c.args.reader.now.reader)
-    (g.W.Write.contents c.args.writer.now) (Err faults.Input) (g.R.Read.remaining c.reads.reader.reader)
-    (g.W.Write.contents c.reads.writer) new c.reads.invariant.4.0 c.reads.records c.reads.count
+    (told_of g.W.Write.contents c.args.writer.now) (Err faults.Input) (g.R.Read.remaining c.reads.reader.reader)
+    (told_of g.W.Write.contents c.reads.writer) new c.reads.invariant.4.0 c.reads.records c.reads.count
     c.reads.invariant.4.1 course
     (c.reads.invariant.1, course.told)
 
@@ -186,7 +187,7 @@ returns-in-Err-serve_piece-clause-reads g c =
     let was = c.args.store.now in
     let now = c.serve_piece.new.store in
     let old = store_of (g.D.CrashDisk.device was.disk) was.core was.boot in
-    let going = c.in-Err-serve_piece.ensures.going old (g.W.Write.contents c.args.writer.now)
+    let going = c.in-Err-serve_piece.ensures.going old (told_of g.W.Write.contents c.args.writer.now)
     c.reads.invariant.4.0 c.reads.invariant.4.2 in
     let noted = c.in-Ok-Some.ensures.noted in
     let is = taken_some noted.0 c.in-Ok-Some.read
@@ -194,10 +195,10 @@ returns-in-Err-serve_piece-clause-reads g c =
     let some = c.if-read-eq0.false in
     let stops : (fault : SessionFault) → c.in-Err-serve_piece.fault ≡ fault
     → StopsAt (g.D.CrashDisk.keeps_model now.disk) c.args.moment fault going.0 going.2 going.3
-    (store_of (g.D.CrashDisk.device now.disk) now.core now.boot) (g.W.Write.contents c.serve_piece.new.writer) =
+    (store_of (g.D.CrashDisk.device now.disk) now.core now.boot) (told_of g.W.Write.contents c.serve_piece.new.writer) =
     λ fault same. subst (λ (f : SessionFault). StopsAt (g.D.CrashDisk.keeps_model now.disk) c.args.moment f
     going.0 going.2 going.3 (store_of (g.D.CrashDisk.device now.disk) now.core now.boot)
-    (g.W.Write.contents c.serve_piece.new.writer)) same going.5 in
+    (told_of g.W.Write.contents c.serve_piece.new.writer)) same going.5 in
     ended c.args.reader.now.answers.items c.reads.reader.answers.items c.read_piece.new.reader.answers.items
     c.reads.counter noted.0 c.reads.invariant.5 noted.2 (Err c.in-Err-serve_piece.fault)
     (stops_by c.in-Err-serve_piece.fault noted.0 (stops faults.Input) (stops faults.Truncated)

@@ -5,6 +5,7 @@ use Rattle.std.specs.Io.KnownBytes.{Consumes}
 use Rattle.store_images.specs.Opening.{store_of}
 use Rattle.store_images.specs.Settling.{IsIdle}
 use Rattle.session.specs.Streaming.{IsCourse, IsUnfinished}
+use Rattle.session.specs.Writing.{told_of}
 use Rattle.session.proofs.Noted.{HasRead}
 use Rattle.session.proofs.serving.serve_all.Given as goal
 
@@ -15,6 +16,6 @@ invariant-reads g l = IsIdle l.store.core × IsUnfinished l.records
     × ((read : List ℕ) × Consumes (g.R.Read.remaining l.fn.reader.reader) (g.R.Read.remaining l.reader.reader) read
     × IsCourse (g.D.CrashDisk.keeps_model l.store.disk) l.fn.moment
     (store_of (g.D.CrashDisk.device l.fn.store.disk) l.fn.store.core l.fn.store.boot)
-    (g.W.Write.contents l.fn.writer) read l.records l.count
-    (store_of (g.D.CrashDisk.device l.store.disk) l.store.core l.store.boot) (g.W.Write.contents l.writer))
+    (told_of g.W.Write.contents l.fn.writer) read l.records l.count
+    (store_of (g.D.CrashDisk.device l.store.disk) l.store.core l.store.boot) (told_of g.W.Write.contents l.writer))
     × HasRead l.fn.reader.answers.items l.reader.answers.items l.counter

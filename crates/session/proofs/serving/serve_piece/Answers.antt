@@ -1,7 +1,8 @@
 use Rattle.std.proofs.Common.{◌++◌, refl, inl, ℕ, List, subst, sym}
 use Rattle.store_images.specs.Opening.{store_of}
 use Rattle.session.specs.Streaming.{IsCourse}
-use Rattle.session.proofs.Courses.{feeds, none_more}
+use Rattle.session.specs.Writing.{told_of}
+use Rattle.session.proofs.Courses.{feeds}
 use Rattle.session.proofs.serving.serve_piece.Goals as goal
 
 pub returns-in-Ok-clause-going : goal.returns-in-Ok-clause-going
@@ -9,7 +10,7 @@ returns-in-Ok-clause-going g c = λ first unwritten read course.
     let was = c.args.store.now in
     let keeps = g.D.CrashDisk.keeps_model was.disk in
     let old = store_of (g.D.CrashDisk.device was.disk) was.core was.boot in
-    let told = g.W.Write.contents c.args.writer.now in
+    let told = told_of g.W.Write.contents c.args.writer.now in
     let piece = c.args.piece.now in
     c.serve_records.ensures.going first unwritten (read ++ piece)
     (subst (λ (l : List ℕ). IsCourse keeps c.args.moment first unwritten (read ++ piece) l
@@ -21,12 +22,12 @@ returns-in-Err-clause-going g c = λ first unwritten read course.
     let was = c.args.store.now in
     let keeps = g.D.CrashDisk.keeps_model was.disk in
     let old = store_of (g.D.CrashDisk.device was.disk) was.core was.boot in
-    let told = g.W.Write.contents c.args.writer.now in
+    let told = told_of g.W.Write.contents c.args.writer.now in
     let piece = c.args.piece.now in (
       c.args.records.now ++ piece,
       c.args.count,
       old,
       told,
       feeds keeps c.args.moment first unwritten read c.args.records.now c.args.count old told piece course,
-      inl (refl, none_more told),
+      inl (refl, refl),
     )

@@ -2,6 +2,7 @@ use Rattle.std.proofs.Common.{arith, ◌≡◌, ◌∙◌, ◌++◌, ℕ, List, 
 use Rattle.rpc.specs.Records.{IsRecord}
 use Rattle.store_images.specs.Opening.{store_of}
 use Rattle.session.specs.Streaming.{IsCourse, IsUnfinished}
+use Rattle.session.specs.Writing.{told_of}
 use Rattle.session.proofs.Courses.{longer, serves, stops_reading, stops_serving}
 use Rattle.session.proofs.serving.serve_records.Goals as goal
 
@@ -13,7 +14,7 @@ returns-in-Ok-None-clause-going g c = λ first unwritten read course.
     c.in-Ok-None.field-0-is
     c.in-Ok-None.ensures.nothing) in (
       subst (λ (l : List ℕ). IsCourse (g.D.CrashDisk.keeps_model was.disk) c.args.moment first unwritten read l
-          c.records.replies old (g.W.Write.contents c.records.writer)) same
+          c.records.replies old (told_of g.W.Write.contents c.records.writer)) same
           (c.records.invariant.3 first unwritten read course),
       subst IsUnfinished same (subst (λ o. IfNone o (IsUnfinished c.records.records)) c.in-Ok-None.field-0-is
           c.in-Ok-None.ensures.unfinished),
@@ -23,7 +24,7 @@ pub returns-in-Err-clause-going : goal.returns-in-Err-clause-going
 returns-in-Err-clause-going g c = λ first unwritten read course.
     let was = c.records.store in
     let old = store_of (g.D.CrashDisk.device was.disk) was.core was.boot in
-    let told = g.W.Write.contents c.records.writer in (
+    let told = told_of g.W.Write.contents c.records.writer in (
       c.records.records,
       c.records.replies,
       old,
@@ -38,7 +39,7 @@ returns-in-Err-serve_record-clause-going g c = λ first unwritten read course.
     let keeps = g.D.CrashDisk.keeps_model in
     let was = c.records.store in
     let old = store_of (g.D.CrashDisk.device was.disk) was.core was.boot in
-    let told = g.W.Write.contents c.records.writer in
+    let told = told_of g.W.Write.contents c.records.writer in
     let now = c.serve_record.new.store in
     let new = store_of (g.D.CrashDisk.device now.disk) now.core now.boot in
     let found = subst (λ o. IfSome o (λ content. (text : List ℕ) × IsRecord text content
@@ -52,7 +53,7 @@ returns-in-Err-serve_record-clause-going g c = λ first unwritten read course.
       longer (keeps was.disk) (keeps now.disk) c.serve_record.ensures.model c.args.moment first unwritten read
           c.records.records c.records.replies old told (c.records.invariant.3 first unwritten read course),
       stops_serving (keeps now.disk) c.args.moment c.in-Err-serve_record.fault c.records.records found.0 _
-          c.next_record.new.records old told new (g.W.Write.contents c.serve_record.new.writer) found.2 is
+          c.next_record.new.records old told new (told_of g.W.Write.contents c.serve_record.new.writer) found.2 is
           c.in-Err-serve_record.ensures.serves,
     )
 
@@ -65,7 +66,7 @@ records-preserved-in-Ok g c = (
       let keeps = g.D.CrashDisk.keeps_model in
       let was = c.records.store in
       let old = store_of (g.D.CrashDisk.device was.disk) was.core was.boot in
-      let told = g.W.Write.contents c.records.writer in
+      let told = told_of g.W.Write.contents c.records.writer in
       let now = c.serve_record.new.store in
       let new = store_of (g.D.CrashDisk.device now.disk) now.core now.boot in
       let found = subst (λ o. IfSome o (λ content. (text : List ℕ) × IsRecord text content
@@ -74,7 +75,7 @@ records-preserved-in-Ok g c = (
       let is = subst (IsRecord found.0) (sym c.deref.ensures) found.1 in
       serves (keeps now.disk) c.args.moment first unwritten read c.records.records c.records.replies old
       told found.0 _
-      c.next_record.new.records _ new (g.W.Write.contents c.serve_record.new.writer)
+      c.next_record.new.records _ new (told_of g.W.Write.contents c.serve_record.new.writer)
       (longer (keeps was.disk) (keeps now.disk) c.serve_record.ensures.model c.args.moment first unwritten read
       c.records.records c.records.replies old told
       (c.records.invariant.3 first unwritten read course)) found.2 is
@@ -90,7 +91,7 @@ records-preserved g c = (
       let keeps = g.D.CrashDisk.keeps_model in
       let was = c.records.store in
       let old = store_of (g.D.CrashDisk.device was.disk) was.core was.boot in
-      let told = g.W.Write.contents c.records.writer in
+      let told = told_of g.W.Write.contents c.records.writer in
       let now = c.serve_record.new.store in
       let new = store_of (g.D.CrashDisk.device now.disk) now.core now.boot in
       let found = subst (λ o. IfSome o (λ content. (text : List ℕ) × IsRecord text content
@@ -99,7 +100,7 @@ records-preserved g c = (
       let is = subst (IsRecord found.0) (sym c.deref.ensures) found.1 in
       serves (keeps now.disk) c.args.moment first unwritten read c.records.records c.records.replies old
       told found.0 _
-      c.next_record.new.records _ new (g.W.Write.contents c.serve_record.new.writer)
+      c.next_record.new.records _ new (told_of g.W.Write.contents c.serve_record.new.writer)
       (longer (keeps was.disk) (keeps now.disk) c.serve_record.ensures.model c.args.moment first unwritten read
       c.records.records c.records.replies old told
       (c.records.invariant.3 first unwritten read course)) found.2 is

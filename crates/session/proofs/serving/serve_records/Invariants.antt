@@ -4,19 +4,20 @@ use Rattle.std.proofs.Common.{◌≡◌, ℕ, List, Option, length}
 use Rattle.store_images.specs.Opening.{Opened, store_of}
 use Rattle.store_images.specs.Settling.{IsIdle}
 use Rattle.session.specs.Streaming.{IsCourse}
+use Rattle.session.specs.Writing.{Told, told_of}
 use Rattle.session.proofs.serving.serve_records.Given as goal
 
 abbrev pub invariant-records : goal.invariant-records
 invariant-records g l = IsIdle l.store.core
     × (l.store.boot ≡ l.fn.store.boot)
     × (g.D.CrashDisk.keeps_model l.store.disk → g.D.CrashDisk.keeps_model l.fn.store.disk)
-    × ((first : Opened) (unwritten : Option (List ℕ)) (read : List ℕ)
+    × ((first : Opened) (unwritten : Told) (read : List ℕ)
     → IsCourse (g.D.CrashDisk.keeps_model l.fn.store.disk) l.fn.moment first unwritten read
     l.fn.records l.fn.count
     (store_of (g.D.CrashDisk.device l.fn.store.disk) l.fn.store.core l.fn.store.boot)
-    (g.W.Write.contents l.fn.writer)
+    (told_of g.W.Write.contents l.fn.writer)
     → IsCourse (g.D.CrashDisk.keeps_model l.store.disk) l.fn.moment first unwritten read l.records l.replies
-    (store_of (g.D.CrashDisk.device l.store.disk) l.store.core l.store.boot) (g.W.Write.contents l.writer))
+    (store_of (g.D.CrashDisk.device l.store.disk) l.store.core l.store.boot) (told_of g.W.Write.contents l.writer))
 
 abbrev pub decreases-records : goal.decreases-records
 decreases-records g l = length l.records

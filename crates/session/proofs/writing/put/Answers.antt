@@ -1,7 +1,7 @@
-use Rattle.std.proofs.Common.{inl, inr}
+use Rattle.std.proofs.Common.{inl, inr, refl}
 use Rattle.session_wire.specs.Replies.{body_of}
 use Rattle.session.specs.Replying.{IsSpelled, IsSystemError}
-use Rattle.session.proofs.Courses.{delivers_so, has_spelling, none_more}
+use Rattle.session.proofs.Courses.{delivers_so, has_spelling}
 use Rattle.session.proofs.writing.put.Goals as goal
 
 pub returns-in-Err-Length : goal.returns-in-Err-Length
@@ -16,4 +16,4 @@ returns-in-Err-Length g c =
 pub returns-in-Err : goal.returns-in-Err
 returns-in-Err g c =
     let spelled = has_spelling c.args.xid (body_of c.args.reply) in
-    (spelled.0, spelled.1, none_more (g.W.Write.contents c.args.writer.now))
+    (spelled.0, spelled.1, refl)
