@@ -4,7 +4,7 @@ use crate::tests::compared::is_call;
 use nfs_types::{Call, MountCall, MountProcedure, Procedure, ProgramCall, ProgramProcedure};
 use std::alloc::{AllocError, Global};
 use std::test::Fail;
-use worked::*;
+use worked::procedures::*;
 
 fn call(alloc: Global, procedure: Procedure) -> Result<Call, AllocError> {
     match procedure {

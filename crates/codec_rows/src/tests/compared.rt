@@ -6,7 +6,7 @@ use nfs_codec::decode_call;
 use nfs_results::{encode_mount_reply, encode_reply};
 use nfs_types::{ProgramCall, ProgramProcedure, ProgramReply};
 use std::alloc::{AllocError, Global};
-use worked::stream;
+use worked::messages::stream;
 use xdr::Writer;
 
 pub fn is_call(

@@ -4,7 +4,7 @@ use nfs_codec::decode_call;
 use nfs_types::{MountProcedure, Procedure, ProgramProcedure};
 use std::alloc::Global;
 use std::test::Fail;
-use worked::spelled;
+use worked::messages::spelled;
 use xdr::XdrFault;
 
 #[test]

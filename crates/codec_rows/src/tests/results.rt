@@ -10,7 +10,7 @@ use nfs_types::{
 };
 use std::alloc::{AllocError, Global};
 use std::test::Fail;
-use worked::*;
+use worked::procedures::*;
 
 const WRITTEN: Written = Written {
     count: 5,

@@ -1,7 +1,7 @@
 //! What is told of a worked file, as values.
 
 use nfs_types::{Attributes, FileKind, Moment, WeakCacheAttributes, WeakCacheData};
-use worked::DEVICE;
+use worked::procedures::DEVICE;
 
 pub const ATTRIBUTES: Attributes = Attributes {
     kind: FileKind::Regular,

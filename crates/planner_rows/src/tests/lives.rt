@@ -13,7 +13,8 @@ use replays::replay;
 use std::alloc::Global;
 use std::test::Fail;
 use store::can_be_spelled;
-use worked::{Asked, File, MADE, ROOT, UNSET, ZEROS, call};
+use worked::messages::MADE;
+use worked::procedures::{Asked, File, ROOT, UNSET, ZEROS, call};
 
 const INODES: u32 = 128;
 

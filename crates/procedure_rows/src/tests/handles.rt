@@ -4,7 +4,7 @@ use crate::tests::steps::{Rows, Step, first_unmet};
 use crate::tests::trees::Planted;
 use crate::tests::wanted::Wanted;
 use nfs_types::{SpecialFile, Status};
-use worked::{Asked, File, ROOT};
+use worked::procedures::{Asked, File, ROOT};
 
 const FREE_NUMBER: Rows = Rows {
     says: "a free number is stale",

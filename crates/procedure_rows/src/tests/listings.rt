@@ -5,7 +5,7 @@ use crate::tests::steps::{Rows, Step, first_unmet};
 use crate::tests::trees::Planted;
 use crate::tests::wanted::Wanted;
 use nfs_types::Status;
-use worked::{Asked, File, ONES, ROOT, UNSET, ZEROS};
+use worked::procedures::{Asked, File, ONES, ROOT, UNSET, ZEROS};
 
 const AS_FIT: Rows = Rows {
     says: "as many names as fit",

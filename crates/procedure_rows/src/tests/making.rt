@@ -4,7 +4,7 @@ use crate::tests::steps::{Rows, Step, first_unmet};
 use crate::tests::trees::Planted;
 use crate::tests::wanted::Wanted;
 use nfs_types::{CreateHow, NewAttributes, Status, Verifier};
-use worked::{Asked, File, ROOT, UNSET};
+use worked::procedures::{Asked, File, ROOT, UNSET};
 
 const GUARDED: CreateHow = CreateHow::Guarded(UNSET);
 

@@ -4,7 +4,7 @@ use crate::tests::steps::{Rows, Step, first_unmet};
 use crate::tests::trees::Planted;
 use crate::tests::wanted::Wanted;
 use nfs_types::{CreateHow, Moment, NewAttributes, SetTime, SpecialFile, Status};
-use worked::{Asked, File, ROOT, UNSET};
+use worked::procedures::{Asked, File, ROOT, UNSET};
 
 const A: File = File(2, 0, 0);
 

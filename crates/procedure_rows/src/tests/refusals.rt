@@ -4,7 +4,8 @@ use crate::tests::steps::{Rows, Step, first_unmet};
 use crate::tests::trees::Planted;
 use crate::tests::wanted::Wanted;
 use nfs_types::{Moment, NewAttributes, SetTime, Status};
-use worked::{Asked, File, MADE, UNSET};
+use worked::messages::MADE;
+use worked::procedures::{Asked, File, UNSET};
 
 const A: File = File(2, 0, 0);
 

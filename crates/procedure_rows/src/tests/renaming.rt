@@ -4,7 +4,7 @@ use crate::tests::steps::{Rows, Step, first_unmet};
 use crate::tests::trees::Planted;
 use crate::tests::wanted::Wanted;
 use nfs_types::Status;
-use worked::{Asked, File, ROOT, UNSET, ZEROS};
+use worked::procedures::{Asked, File, ROOT, UNSET, ZEROS};
 
 const A: File = File(2, 1, 0);
 

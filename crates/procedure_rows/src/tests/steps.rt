@@ -7,7 +7,7 @@ use nfs_types::{Call, Credential, Ctx, Moment, NumberList, Reply, Status};
 use plain_server::{NumberedNode, PlainTree};
 use plain_steps::answer;
 use std::alloc::{AllocError, Global};
-use worked::{
+use worked::procedures::{
     Asked, File, ROOT, call, calls_on_a_directory, calls_on_a_file, changes_of_a_name, handle_of,
     moves_of_a_name,
 };

@@ -6,7 +6,7 @@ use plain_server::{
     MappedIndexes, NumberedNode, PlainBody, PlainEntry, PlainNames, PlainNode, PlainTree,
 };
 use std::alloc::{AllocError, Global};
-use worked::MADE;
+use worked::messages::MADE;
 
 /// A tree, with so many data blocks.
 #[derive(Clone, Copy)]

@@ -16,7 +16,7 @@ use replays::replay;
 use std::alloc::{AllocError, Global};
 use std::test::Fail;
 use store::{Store, can_be_spelled, close, open, procedure};
-use worked::MADE;
+use worked::messages::MADE;
 
 const INODES: u32 = 64;
 

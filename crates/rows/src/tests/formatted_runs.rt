@@ -8,7 +8,7 @@ use limits::LEAST_BLOCKS;
 use std::alloc::Global;
 use std::test::Fail;
 use store::{FormatFault, OpenFault, format_and_run};
-use worked::MADE;
+use worked::messages::MADE;
 
 #[test]
 fn a_run_on_an_image_that_was_made_for_it(rt: HostRuntime) -> Result<(), Fail> {

@@ -8,7 +8,7 @@ use nfs_types::Verifier;
 use plain_image::{PlainContent, PlainFile, PlainName, is_tree_of, read_image};
 use std::alloc::Global;
 use std::test::Fail;
-use worked::MADE;
+use worked::messages::MADE;
 
 // The block of the table with the first 32 inodes, and the first data block.
 const TABLE: u32 = 516;

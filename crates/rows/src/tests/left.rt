@@ -7,7 +7,7 @@ use disk::MemDisk;
 use plain_image::{PlainImage, is_tree_of, read_image};
 use std::alloc::Global;
 use std::test::Fail;
-use worked::{GETATTR, GETATTR_CHANGED, GETATTR_FRESH, SETATTR};
+use worked::messages::{GETATTR, GETATTR_CHANGED, GETATTR_FRESH, SETATTR};
 
 /// The calls that the log makes for a group of one block: its content, a barrier, the header, a barrier.
 pub const LOG_CALLS: usize = 4;

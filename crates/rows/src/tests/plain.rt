@@ -7,7 +7,7 @@ use plain_steps::answer;
 use session_wire::{Judged, judge};
 use std::alloc::{AllocError, Global};
 use std::test::Fail;
-use worked::{MADE, NOW, content};
+use worked::messages::{MADE, NOW, content};
 
 /// The data blocks of an image of 1,024 blocks and 64 inodes.
 pub const DATA_BLOCKS: u32 = 506;

@@ -11,7 +11,7 @@ use session::{reply_bytes, reply_to};
 use std::alloc::{AllocError, Global};
 use std::test::Fail;
 use store::{Event, Run, Step, Verdict, run};
-use worked::{NOW, SETATTR, SETATTR_DONE, spelled};
+use worked::messages::{NOW, SETATTR, SETATTR_DONE, spelled};
 
 // The calls of the installer for a group of one block: the block, a barrier, the log's start, a barrier.
 const HOME_CALLS: usize = 4;

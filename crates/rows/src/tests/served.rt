@@ -6,7 +6,7 @@ use session::SessionFault;
 use std::alloc::{AllocError, Global};
 use std::process::Abort;
 use std::test::Fail;
-use worked::{MADE, NOW, stream};
+use worked::messages::{MADE, NOW, stream};
 
 /// A runtime that can end a test.
 pub trait Host: AllocGlobal + Abort {}

@@ -11,7 +11,7 @@ use plain_image::{is_tree_of, read_image};
 use std::alloc::{AllocError, Global};
 use std::test::Fail;
 use store::{Store, Verdict, can_be_spelled, procedure};
-use worked::NOW;
+use worked::messages::NOW;
 
 /// The opened store of an image.
 pub fn opened(alloc: Global, disk: MemDisk) -> Result<Store<MemDisk>, Fail>

@@ -18,7 +18,7 @@ use std::test::Fail;
 use store::{CallAnswer, Verdict, Worker, can_be_spelled};
 use txn::Core;
 use wal::Wal;
-use worked::{GETATTR, NOW};
+use worked::messages::{GETATTR, NOW};
 
 // The super block of an image, whose sizes are the device's.
 fn super_of<D: CrashDisk>(alloc: Global, disk: &mut D) -> Result<Super, Fail>

@@ -8,7 +8,7 @@ use plain_steps::answer;
 use std::alloc::Global;
 use std::test::Fail;
 use store::{Committed, Run};
-use worked::MADE;
+use worked::messages::MADE;
 
 pub const INODES: u32 = 64;
 

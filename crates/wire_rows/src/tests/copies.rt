@@ -6,7 +6,7 @@ use nfs_types::{
 };
 use std::alloc::{AllocError, Global};
 use std::test::Fail;
-use worked::FRESH_ROOT;
+use worked::messages::FRESH_ROOT;
 
 // The handle of file 5, made by transaction 3 of boot 2.
 const HANDLE: [u8; 20] = [0, 0, 0, 5, 0, 0, 0, 0, 0, 0, 0, 2, 0, 0, 0, 0, 0, 0, 0, 3];

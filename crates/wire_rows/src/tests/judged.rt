@@ -6,7 +6,7 @@ use rpc::Refusal;
 use session_wire::{Judged, judge};
 use std::alloc::{AllocError, Global};
 use std::test::Fail;
-use worked::*;
+use worked::messages::*;
 
 fn judged(alloc: Global, message: &[u32]) -> Result<Judged, AllocError> {
     let bytes = content(alloc, message)?;

@@ -6,7 +6,7 @@ mod sizes;
 use rpc::{Records, RpcFault};
 use std::alloc::{AllocError, Global};
 use std::test::Fail;
-use worked::{NULL, TOO_LONG, content, stream};
+use worked::messages::{NULL, TOO_LONG, content, stream};
 
 /// Whether the next record isn't whole yet.
 pub fn is_unfinished(records: &mut Records) -> bool {

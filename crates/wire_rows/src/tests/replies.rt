@@ -5,7 +5,7 @@ use rpc::Refusal;
 use session_wire::{RpcReply, reply_bytes};
 use std::alloc::{AllocError, Global};
 use std::test::Fail;
-use worked::*;
+use worked::messages::*;
 
 // Whether this answer to a transaction is so written.
 fn is_written(

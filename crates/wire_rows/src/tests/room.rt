@@ -3,7 +3,7 @@
 use nfs_types::{Call, Credential, ProgramCall};
 use session_wire::{Judged, judge};
 use std::test::Fail;
-use worked::content;
+use worked::messages::content;
 
 // NULL, transaction 9, by user 7 of group 8 and of 16 further groups, on the machine `client`.
 const SIXTEEN_GIDS: [u32; 34] = [

@@ -4,7 +4,7 @@ use crate::tests::records::{begun, is_next, is_too_long, is_unfinished};
 use rpc::Records;
 use std::alloc::{AllocError, Global};
 use std::test::Fail;
-use worked::{NULL, NULL_IN_FRAGMENTS, content, stream};
+use worked::messages::{NULL, NULL_IN_FRAGMENTS, content, stream};
 
 // Feeds a stream byte by byte, and tells whether no record is whole before the last byte.
 fn is_whole_at_the_end(records: &mut Records, stream: &[u8]) -> Result<bool, AllocError> {
