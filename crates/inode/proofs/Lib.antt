@@ -10,3 +10,4 @@ pub mod BodyThere
 pub mod HeldThere
 pub mod Stops
 pub mod KnownPositions
+pub mod HadAlone

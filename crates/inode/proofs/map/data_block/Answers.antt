@@ -21,4 +21,4 @@ returns-clause-err c =
 
 pub returns-clause-pause : goal.returns-clause-pause
 returns-clause-pause c =
-    IfErr-weaker c.bytes_at.result _ _ (λ why e. block_pause c.whole.result why e) c.bytes_at.ensures.need
+    IfErr-weaker c.bytes_at.result _ _ (λ why e. block_pause c.whole.result c.args.snap.now.asks why e) c.bytes_at.ensures.need

@@ -1,7 +1,8 @@
 use Rattle.std.proofs.Common.{rules, refl, ◌≡◌, sym, All, ap, ◌∙◌, subst, false, List, [], ◌∷◌, ◌++◌}
 use Rattle.std.proofs.lemmas.List.Elements.{All-push}
 use Rattle.layout.specs.Objects.{IsObject}
-use Rattle.inode.specs.Snap.{MayWrite}
+use Rattle.inode.specs.Snap.{MayWrite, is_had}
+use Rattle.objects.specs.declared.mode.Mode.TheVariants as modes
 use Rattle.objects.specs.declared.addr.Addr.{Addr}
 use Rattle.layout.specs.Parts.{with_bytes}
 use Rattle.txn.specs.Object.{ObjectBytes}
@@ -48,7 +49,8 @@ invariant_of-self-2 c =
 
 pub returns-then-not-is_given-clause-err : goal.returns-then-not-is_given-clause-err
 returns-then-not-is_given-clause-err c = (
-  subst (λ (d : Drafted). is_seen c.args.addr d.seen.objects.items ≡ false) c.self.view_is
+  subst (λ (d : Drafted). is_had c.args.addr modes.Exclusive d.seen.objects.items d.seen.alone.items ≡ false)
+      c.self.view_is
       (c.is_given.ensures.none (search rules)),
   subst (λ (d : Drafted). IsObject d.seen.geometry c.args.addr) c.self.view_is
       (subst (λ (g : Geometry). IsObject g c.args.addr) c.self.invariant.after.geometry
