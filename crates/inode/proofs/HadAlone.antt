@@ -7,6 +7,8 @@ use Rattle.objects.specs.declared.addr.Addr.{Addr}
 use Rattle.objects.specs.declared.mode.Mode.{Mode}
 use Rattle.objects.specs.declared.mode.Mode.TheVariants as modes
 use Rattle.txn.specs.Object.{ObjectBytes}
+use Rattle.layout.proofs.OnGrid as grid
+use Rattle.inode.proofs.AllTests.{all_three, same_number}
 use Rattle.inode.specs.Snap.{AreSeen, is_among, is_had, is_seen, same_addr, with_mode, with_read}
 
 pub none_alone : AreSeen [] []
@@ -25,26 +27,15 @@ unseen_unhad addr modes.Exclusive objects alone none = ap (λ (b : Bool). b && i
 
 -- ---- one address
 
-both : (a b : Bool) → (a && b) ≡ true → (a ≡ true) × (b ≡ true)
-both true true is = (refl, refl)
-both true false is = cc
-both false b is = cc
-
-same_number : (a b : ℕ) → nat_eq a b ≡ true → a ≡ b
-same_number a b is = grind (arith, nat_tests)
-
 equal : (a b : ℕ) → a ≡ b → nat_eq a b ≡ true
 equal a b same = grind (arith, nat_tests)
 
 -- addresses that are one are equal
 pub one_addr : (a b : Addr) → same_addr a b ≡ true → a ≡ b
 one_addr a b is =
-    let first = both (nat_eq a.block.0 b.block.0 && nat_eq a.offset b.offset) (nat_eq a.len b.len) is in
-    let second = both (nat_eq a.block.0 b.block.0) (nat_eq a.offset b.offset) first.0 in
-    let block = same_number a.block.0 b.block.0 second.0 in
-    let offset = same_number a.offset b.offset second.1 in
-    let len = same_number a.len b.len first.1 in
-    λ i. record { block = record { 0 = block i }; offset = offset i; len = len i }
+    let all = all_three (nat_eq a.block.0 b.block.0) (nat_eq a.offset b.offset) (nat_eq a.len b.len) is in
+    grid.one_addr a b (same_number a.block.0 b.block.0 all.0) (same_number a.offset b.offset all.1)
+    (same_number a.len b.len all.2)
 
 pub itself : (a : Addr) → same_addr a a ≡ true
 itself a = λ i. equal a.block.0 a.block.0 refl i && equal a.offset a.offset refl i && equal a.len a.len refl i
@@ -97,7 +88,7 @@ among_cases a addr modes.Exclusive alone is =
     by (is_among a alone) (same_addr a addr) refl refl
     (sym (list_any-append (λ (other : Addr). same_addr a other) alone (addr ∷ [])) ∙ is)
   where
-    by : (was here : Bool) → is_among a alone ≡ was → same_addr a addr ≡ here → (was || here || false) ≡ true
+    by : (was here : Bool) → is_among a alone ≡ was → same_addr a addr ≡ here → (was || (here || false)) ≡ true
         → (is_among a alone ≡ true) ⊎ (a ≡ addr)
     by true here was_is here_is is = inl was_is
     by false true was_is here_is is = inr (one_addr a addr here_is)

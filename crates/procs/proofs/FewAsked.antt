@@ -160,7 +160,7 @@ module _ (g : Geometry) where
 -- ---- each time counts
 
 among_more : (a addr : Addr) (alone : List Addr)
-    → is_among a (alone ++ addr ∷ []) ≡ (is_among a alone || same_addr a addr || false)
+    → is_among a (alone ++ addr ∷ []) ≡ (is_among a alone || (same_addr a addr || false))
 among_more a addr alone = list_any-append (λ (other : Addr). same_addr a other) alone (addr ∷ [])
 
 -- one that is among more addresses counts no less
@@ -170,7 +170,7 @@ no_less a addr alone =
     subst (λ (b : Bool). (if is_among a alone then 2 else 1) ≤ (if b then 2 else 1)) (sym (among_more a addr alone))
     (by (is_among a alone) (same_addr a addr))
   where
-    by : (was here : Bool) → (if was then 2 else 1) ≤ (if was || here || false then 2 else 1)
+    by : (was here : Bool) → (if was then 2 else 1) ≤ (if was || (here || false) then 2 else 1)
     by true here = omega arith
     by false true = omega arith
     by false false = omega arith
@@ -208,7 +208,7 @@ once_more addr alone (object ∷ objects) some new =
         more (is_among object.addr alone) (is_among object.addr (alone ++ addr ∷ [])) _ _ was now
         (as_often addr alone objects)
       where
-        at_last : (a b : Bool) → b ≡ true → (a || b || false) ≡ true
+        at_last : (a b : Bool) → b ≡ true → (a || (b || false)) ≡ true
         at_last true b is = refl
         at_last false true is = refl
         at_last false false is = cc

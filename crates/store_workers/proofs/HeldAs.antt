@@ -38,25 +38,28 @@ are_seen (Some planner) seen is =
 abbrev pub as_told : List Addr → ObjectBytes → told.Taken
 as_told alone object = taken_as (mode_in alone object.addr) object.addr
 
+back : (a b : Addr) → same_addr a b ≡ true → same_addr b a ≡ true
+back a b same = subst (λ (c : Addr). same_addr c a ≡ true) (one_addr a b same) (itself a)
+
 other_way : (a b : Addr) (t : Bool) → same_addr a b ≡ t → same_addr b a ≡ t
-other_way a b true same = subst (λ (c : Addr). same_addr c a ≡ true) (one_addr a b same) (itself a)
+other_way a b true same = back a b same
 other_way a b false other = by (same_addr b a) refl
   where
     by : (t : Bool) → same_addr b a ≡ t → same_addr b a ≡ false
     by false is = is
-    by true is = absurd (let clash : true ≡ false = sym (other_way b a true is) ∙ other in cc)
+    by true is = absurd (let clash : true ≡ false = sym (back b a is) ∙ other in cc)
 
 -- whether it is among them with one more
 among_more : (a addr : Addr) (alone : List Addr)
-    → is_among a (alone ++ addr ∷ []) ≡ (is_among a alone || same_addr a addr || false)
+    → is_among a (alone ++ addr ∷ []) ≡ (is_among a alone || (same_addr a addr || false))
 among_more a addr alone = list_any-append (λ (other : Addr). same_addr a other) alone (addr ∷ [])
 
-or_true : (a b : Bool) → b ≡ true → (a || b || false) ≡ true
+or_true : (a b : Bool) → b ≡ true → (a || (b || false)) ≡ true
 or_true true b is = refl
 or_true false true is = refl
 or_true false false is = cc
 
-or_false : (a b : Bool) → b ≡ false → (a || b || false) ≡ a
+or_false : (a b : Bool) → b ≡ false → (a || (b || false)) ≡ a
 or_false true b is = refl
 or_false false false is = refl
 or_false false true is = cc
