@@ -9,3 +9,4 @@ pub mod Filled
 pub mod VacantIn
 pub mod UsedByDirectory
 pub mod Grown
+pub mod Needed

@@ -1,3 +1,4 @@
 pub mod Slots
 pub mod Vacant
 pub mod Sought
+pub mod Asked

@@ -7,6 +7,8 @@ ghost use Rattle.layout.specs.Decode.{directory_in};
 ghost use Rattle.layout.specs.Parts.{content_in};
 ghost use Rattle.inode.specs.Over.{IsPause, MayStop};
 ghost use Rattle.dir.specs.Slots.{IsDirectoryOf};
+ghost use Rattle.inode.specs.Asked.{MayStopFor};
+ghost use Rattle.dir.specs.Asked.{FreeBefore, IsNeededBehind};
 
 use crate::next::next_name;
 use inode::{Snap, Stop};
@@ -20,6 +22,7 @@ pub fn is_empty(alloc: Global, snap: &Snap, inode: &Inode) -> Result<bool, Stop>
         → empty ≡ not (has_names (directory_in snap.now.geometry.inodes (content_in snap.now.geometry blocks)
         inode.now))) }
     ensures err { IfErr result (λ stop. MayStop snap.now stop) }
+    ensures asks { IfErr result (λ stop. MayStopFor (IsNeededBehind (FreeBefore 0) snap.now inode.now) stop) }
     ensures pause { IfErr result (λ stop. (blocks : Image) (tree : Tree) (file : ℕ)
         → IsDirectoryOf snap.now blocks tree file inode.now → IsPause stop) }
 {

@@ -1,5 +1,5 @@
 //! The slot of a name.
-ghost use Rattle.std.specs.Prelude.{◌≡◌, ◌+◌, ◌*◌, ◌<◌, ◌≤◌, ℕ, IfErr, IfOk, IfSome, Some};
+ghost use Rattle.std.specs.Prelude.{◌≡◌, ◌+◌, ◌-◌, ◌*◌, ◌<◌, ◌≤◌, ℕ, IfErr, IfOk, IfSome, Some};
 ghost use Rattle.std.specs.FinMap.{get};
 ghost use Rattle.std.specs.Option.{option_map};
 ghost use Rattle.limits.specs.declared.TheConstants.{MOST_SPAN, SLOTS_PER_BLOCK};
@@ -10,6 +10,8 @@ ghost use Rattle.layout.specs.Parts.{content_in};
 ghost use Rattle.inode.specs.Over.{IsPause, MayStop};
 ghost use Rattle.dir.specs.Slots.{IsDirectoryOf, IsFound, slot_at};
 ghost use Rattle.files.specs.Heads.{entry_of};
+ghost use Rattle.inode.specs.Asked.{IsNeededAt, IsReadAt, IsStopFor};
+ghost use Rattle.dir.specs.Asked.{IsNeededBehind, LackBefore, StopsAt};
 
 use crate::block::find_in_block;
 use crate::span::{directory_block, span_of};
@@ -26,6 +28,7 @@ fn find_at(snap: &Snap, inode: &Inode, index: usize, name: &[u8]) -> Result<Opti
         → IsFound (slot_at snap.now.geometry.inodes (content_in snap.now.geometry blocks) inode.now) name.now
         (SLOTS_PER_BLOCK * index) (SLOTS_PER_BLOCK * index + SLOTS_PER_BLOCK) found) }
     ensures err { IfErr result (λ stop. MayStop snap.now stop) }
+    ensures asks { IfErr result (λ stop. IsStopFor (IsNeededAt snap.now inode.now index) stop) }
     ensures pause { IfErr result (λ stop. (blocks : Image) (tree : Tree) (file : ℕ)
         → IsDirectoryOf snap.now blocks tree file inode.now → index < span_of inode.now → IsPause stop) }
 {
@@ -39,19 +42,35 @@ fn find_at(snap: &Snap, inode: &Inode, index: usize, name: &[u8]) -> Result<Opti
 // wasn't, where there are any.
 fn reached(snap: &Snap, inode: &Inode, span: usize) -> usize
     requires { span ≤ MOST_SPAN }
-    ensures { result ≤ span }
+    ensures few { result ≤ span }
+    ensures last { 0 < result → IsReadAt snap.now inode.now (result - 1) }
+    ensures next { result < span → StopsAt snap.now inode.now result }
 {
     let mut least = 0;
     let mut most = span;
     'halves: while least < most {
         let middle = least + (most - least) / 2;
-        if directory_block(snap, inode, middle).is_ok() {
-            least = middle + 1;
-        } else {
-            most = middle;
+        match directory_block(snap, inode, middle) {
+            Ok(_) => least = middle + 1,
+            Err(_) => most = middle,
         }
     }
     least
+}
+
+// A slot that has a name, of those in the block before an index.
+fn find_last(snap: &Snap, inode: &Inode, index: usize, name: &[u8]) -> Result<Option<Entry>, Stop>
+    requires { index < MOST_SPAN }
+    ensures ok { IfOk result (λ found. (blocks : Image) (tree : Tree) (file : ℕ)
+        → IsDirectoryOf snap.now blocks tree file inode.now → index < span_of inode.now
+        → IsFound (slot_at snap.now.geometry.inodes (content_in snap.now.geometry blocks) inode.now) name.now
+        (SLOTS_PER_BLOCK * (index - 1)) (SLOTS_PER_BLOCK * index) found) }
+    ensures err { IfErr result (λ stop. MayStop snap.now stop) }
+{
+    if index == 0 {
+        return Ok(None);
+    }
+    find_at(snap, inode, index - 1, name)
 }
 
 // What a name leads to, where it lies in the block before an index, which was read last, and the next one wasn't
@@ -63,17 +82,20 @@ fn find_before(snap: &Snap, inode: &Inode, index: usize, name: &[u8]) -> Result<
         → IfSome found (λ place. IsFound (slot_at snap.now.geometry.inodes (content_in snap.now.geometry blocks)
         inode.now) name.now 0 (SLOTS_PER_BLOCK * span_of inode.now) (Some place))) }
     ensures err { IfErr result (λ stop. MayStop snap.now stop) }
+    ensures asks { IfErr result (λ stop. index < span_of inode.now
+        → IsStopFor (IsNeededBehind (LackBefore name.now) snap.now inode.now) stop) }
     ensures pause { IfErr result (λ stop. (blocks : Image) (tree : Tree) (file : ℕ)
         → IsDirectoryOf snap.now blocks tree file inode.now → index < span_of inode.now → IsPause stop) }
 {
-    if index > 0 {
-        match find_at(snap, inode, index - 1, name)? {
-            Some(place) => return Ok(Some(place)),
-            None => {}
-        }
+    match find_last(snap, inode, index, name) {
+        Ok(Some(place)) => Ok(Some(place)),
+        Ok(None) => match directory_block(snap, inode, index) {
+            Ok(_) => Ok(None),
+            Err(stop) => Err(stop),
+        },
+        // It was read, so this doesn't come.
+        Err(_) => Ok(None),
     }
-    directory_block(snap, inode, index)?;
-    Ok(None)
 }
 
 // What a name leads to, by a look at all slots.
@@ -85,6 +107,7 @@ fn find_among(snap: &Snap, inode: &Inode, span: usize, name: &[u8]) -> Result<Op
         → IsFound (slot_at snap.now.geometry.inodes (content_in snap.now.geometry blocks) inode.now) name.now 0
         (SLOTS_PER_BLOCK * span_of inode.now) found) }
     ensures err { IfErr result (λ stop. MayStop snap.now stop) }
+    ensures asks { IfErr result (λ stop. IsStopFor (IsNeededBehind (LackBefore name.now) snap.now inode.now) stop) }
     ensures pause { IfErr result (λ stop. (blocks : Image) (tree : Tree) (file : ℕ)
         → IsDirectoryOf snap.now blocks tree file inode.now → IsPause stop) }
 {
@@ -105,6 +128,7 @@ pub fn find(snap: &Snap, inode: &Inode, name: &[u8]) -> Result<Option<Entry>, St
         → option_map entry_of found
         ≡ get (entries_in snap.now.geometry.inodes (content_in snap.now.geometry blocks) inode.now) name.now) }
     ensures err { IfErr result (λ stop. MayStop snap.now stop) }
+    ensures asks { IfErr result (λ stop. IsStopFor (IsNeededBehind (LackBefore name.now) snap.now inode.now) stop) }
     ensures pause { IfErr result (λ stop. (blocks : Image) (tree : Tree) (file : ℕ)
         → IsDirectoryOf snap.now blocks tree file inode.now → IsPause stop) }
 {

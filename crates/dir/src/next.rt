@@ -7,6 +7,8 @@ ghost use Rattle.layout.specs.Decode.{span_of};
 ghost use Rattle.layout.specs.Parts.{content_in};
 ghost use Rattle.inode.specs.Over.{IsPause, MayStop};
 ghost use Rattle.dir.specs.Slots.{IsDirectoryOf, IsNext, slot_at};
+ghost use Rattle.inode.specs.Asked.{IsNeededAt, MayStopFor};
+ghost use Rattle.dir.specs.Asked.{FreeBefore, IsNeededBehind};
 
 use crate::block::next_in_block;
 use crate::span::{directory_block, span_of};
@@ -41,6 +43,7 @@ fn next_at(
         (SLOTS_PER_BLOCK * index + SLOTS_PER_BLOCK) found) }
     ensures past { IfOk result (λ found. IfSome found (λ named. from ≤ named.slot)) }
     ensures err { IfErr result (λ stop. MayStop snap.now stop) }
+    ensures asks { IfErr result (λ stop. MayStopFor (IsNeededAt snap.now inode.now index) stop) }
     ensures pause { IfErr result (λ stop. (blocks : Image) (tree : Tree) (file : ℕ)
         → IsDirectoryOf snap.now blocks tree file inode.now → index < span_of inode.now → IsPause stop) }
 {
@@ -73,6 +76,7 @@ fn next_below(
         (SLOTS_PER_BLOCK * span) found) }
     ensures past { IfOk result (λ found. IfSome found (λ named. from ≤ named.slot)) }
     ensures err { IfErr result (λ stop. MayStop snap.now stop) }
+    ensures asks { IfErr result (λ stop. MayStopFor (IsNeededBehind (FreeBefore from) snap.now inode.now) stop) }
     ensures pause { IfErr result (λ stop. (blocks : Image) (tree : Tree) (file : ℕ)
         → IsDirectoryOf snap.now blocks tree file inode.now → IsPause stop) }
 {
@@ -99,6 +103,7 @@ pub fn next_name(
         (SLOTS_PER_BLOCK * span_of inode.now) found) }
     ensures past { IfOk result (λ found. IfSome found (λ named. from ≤ named.slot)) }
     ensures err { IfErr result (λ stop. MayStop snap.now stop) }
+    ensures asks { IfErr result (λ stop. MayStopFor (IsNeededBehind (FreeBefore from) snap.now inode.now) stop) }
     ensures pause { IfErr result (λ stop. (blocks : Image) (tree : Tree) (file : ℕ)
         → IsDirectoryOf snap.now blocks tree file inode.now → IsPause stop) }
 {

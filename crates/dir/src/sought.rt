@@ -13,6 +13,8 @@ ghost use Rattle.inode.specs.Read.{Saw};
 ghost use Rattle.files.specs.Heads.{entry_of};
 ghost use Rattle.dir.specs.Slots.{IsDirectoryOf};
 ghost use Rattle.dir.specs.Sought.{IsSought};
+ghost use Rattle.inode.specs.Asked.{IsNeededAt, IsStopFor};
+ghost use Rattle.dir.specs.Asked.{IsNextSought, IsSoughtOrAnew};
 
 use crate::block::find_in_block;
 use crate::finding::find;
@@ -77,6 +79,7 @@ fn look_through(
     ensures count { OnOk result (compared.new ≤ compared.old + SLOTS_PER_BLOCK) }
     ensures none { OnErr result (compared.new ≡ compared.old) }
     ensures err { IfErr result (λ stop. MayStop snap.now stop) }
+    ensures asks { IfErr result (λ stop. IsStopFor (IsNeededAt snap.now inode.now sought.old.blocks) stop) }
 {
     let block = directory_block(snap, inode, sought.blocks as usize)?;
     let first = SLOTS_PER_BLOCK * sought.blocks;
@@ -113,6 +116,7 @@ fn go_through(
     ensures count { compared.new + SLOTS_PER_BLOCK * sought.old.blocks
         ≤ compared.old + SLOTS_PER_BLOCK * sought.new.blocks }
     ensures err { IfErr result (λ stop. MayStop snap.now stop) }
+    ensures asks { IfErr result (λ stop. IsStopFor (IsNextSought snap.now inode.now sought.new) stop) }
 {
     'indexes: for index in sought.blocks..span {
         match look_through(snap, inode, sought, compared) {
@@ -145,6 +149,7 @@ pub fn go_on(
     ensures count { compared.new + SLOTS_PER_BLOCK * sought.old.blocks
         ≤ compared.old + SLOTS_PER_BLOCK * sought.new.blocks }
     ensures err { IfErr result (λ stop. MayStop snap.now stop) }
+    ensures asks { IfErr result (λ stop. IsStopFor (IsNextSought snap.now inode.now sought.new) stop) }
 {
     if sought.found.is_some() {
         return Ok(());
@@ -163,6 +168,7 @@ pub fn find_known(snap: &Snap, inode: &Inode, sought: &Sought) -> Result<Option<
         → option_map entry_of found
         ≡ get (entries_in snap.now.geometry.inodes (content_in snap.now.geometry blocks) inode.now) sought.now.name) }
     ensures err { IfErr result (λ stop. MayStop snap.now stop) }
+    ensures asks { IfErr result (λ stop. IsStopFor (IsSoughtOrAnew snap.now inode.now sought.now) stop) }
     ensures pause { IfErr result (λ stop. (blocks : Image) (tree : Tree) (file : ℕ)
         → IsDirectoryOf snap.now blocks tree file inode.now → IsPause stop) }
 {

@@ -9,6 +9,7 @@ ghost use Rattle.inode.specs.declared.snap.Snap.{Snap};
 ghost use Rattle.inode.specs.Over.{IsPause, MayStop};
 ghost use Rattle.inode.specs.Shown.{IsShown, body_in};
 ghost use Rattle.dir.specs.Slots.{IsDirectoryOf, block_slot, slot_at};
+ghost use Rattle.inode.specs.Asked.{IsNeededAt, IsReadAt, IsStopFor};
 
 use inode::{Snap, Stop, block_number, data_block};
 use layout::Inode;
@@ -69,6 +70,8 @@ pub(crate) fn directory_block<'a>(
         → slot_at snap.now.geometry.inodes (content_in snap.now.geometry blocks) inode.now slot
         ≡ block_slot snap.now.geometry.inodes (SLOTS_PER_BLOCK * index) block.now slot) }
     ensures err { IfErr result (λ stop. MayStop snap.now stop) }
+    ensures asks { IfErr result (λ stop. IsStopFor (IsNeededAt snap.now inode.now index) stop) }
+    ensures read { IfOk result (λ block. IsReadAt snap.now inode.now index) }
     ensures pause { IfErr result (λ stop. (blocks : Image) (tree : Tree) (file : ℕ)
         → IsDirectoryOf snap.now blocks tree file inode.now → index < span_of inode.now → IsPause stop) }
 {

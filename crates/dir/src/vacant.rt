@@ -9,6 +9,8 @@ ghost use Rattle.layout.specs.Parts.{content_in};
 ghost use Rattle.inode.specs.Over.{IsPause, MayStop};
 ghost use Rattle.dir.specs.Slots.{IsDirectoryOf, block_slot, slot_at};
 ghost use Rattle.dir.specs.Vacant.{IsFirstFree};
+ghost use Rattle.inode.specs.Asked.{IsNeededAt, IsStopFor};
+ghost use Rattle.dir.specs.Asked.{IsNeededBehind, TakenBefore};
 
 use crate::span::{directory_block, span_of};
 use inode::{Snap, Stop};
@@ -38,6 +40,7 @@ fn free_at(snap: &Snap, inode: &Inode, index: usize) -> Result<Option<u32>, Stop
         → IsFirstFree (slot_at snap.now.geometry.inodes (content_in snap.now.geometry blocks) inode.now)
         (SLOTS_PER_BLOCK * index) (SLOTS_PER_BLOCK * index + SLOTS_PER_BLOCK) free) }
     ensures err { IfErr result (λ stop. MayStop snap.now stop) }
+    ensures asks { IfErr result (λ stop. IsStopFor (IsNeededAt snap.now inode.now index) stop) }
     ensures pause { IfErr result (λ stop. (blocks : Image) (tree : Tree) (file : ℕ)
         → IsDirectoryOf snap.now blocks tree file inode.now → index < span_of inode.now → IsPause stop) }
 {
@@ -54,6 +57,7 @@ pub fn free_slot(snap: &Snap, inode: &Inode) -> Result<Option<u32>, Stop>
         → free ≡ least_free_slot (directory_in snap.now.geometry.inodes (content_in snap.now.geometry blocks)
         inode.now)) }
     ensures err { IfErr result (λ stop. MayStop snap.now stop) }
+    ensures asks { IfErr result (λ stop. IsStopFor (IsNeededBehind TakenBefore snap.now inode.now) stop) }
     ensures pause { IfErr result (λ stop. (blocks : Image) (tree : Tree) (file : ℕ)
         → IsDirectoryOf snap.now blocks tree file inode.now → IsPause stop) }
 {

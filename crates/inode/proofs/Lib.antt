@@ -9,5 +9,6 @@ pub mod FileSizes
 pub mod BodyThere
 pub mod HeldThere
 pub mod Stops
+pub mod Needed
 pub mod KnownPositions
 pub mod HadAlone

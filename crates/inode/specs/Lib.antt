@@ -1,5 +1,6 @@
 pub mod Indexed
 pub mod Snap
 pub mod Read
+pub mod Asked
 pub mod Over
 pub mod Shown

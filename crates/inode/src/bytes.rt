@@ -1,5 +1,6 @@
 //! What is in regular files and in links.
-ghost use Rattle.std.specs.Prelude.{[], ◌≡◌, ◌+◌, ◌-◌, ◌%◌, ◌<◌, ◌≤◌, ◌++◌, ℕ, true, take, drop, length, IfOk, IfErr, OnOk};
+ghost use Rattle.std.specs.Prelude.{[], ◌≡◌, ◌+◌, ◌-◌, ◌%◌, ◌<◌, ◌≤◌, ◌++◌, ℕ, true, min, take, drop, length};
+ghost use Rattle.std.specs.Prelude.{IfOk, IfErr, OnOk};
 ghost use Rattle.limits.specs.declared.TheConstants.{BLOCK_BYTES, FILE_INDEXES, LARGEST_FILE};
 ghost use Rattle.disk.specs.Crash.{Image};
 ghost use Rattle.model.specs.Tree.{Tree};
@@ -7,6 +8,7 @@ ghost use Rattle.layout.specs.declared.inode.InodeKind.TheVariants as kinds;
 ghost use Rattle.layout.specs.Decode.{bytes_of, content_of};
 ghost use Rattle.layout.specs.InodeForm.{is_data_block_or_none};
 ghost use Rattle.layout.specs.Parts.{content_in};
+ghost use Rattle.inode.specs.Asked.{IsBlockAddr, IsNeededAt, IsNeededBetween, IsStopFor, MayStopFor};
 ghost use Rattle.inode.specs.Over.{HasInode, IsOver, IsPause, MayStop, all_bytes};
 
 use crate::map::{block_number, data_block};
@@ -38,6 +40,7 @@ fn add_piece(
         → out.new.items ≡ out.old.items
         ++ take len (drop from (content_of (content_in snap.now.geometry blocks) number))) }
     ensures err { IfErr result (λ stop. MayStop snap.now stop) }
+    ensures asks { IfErr result (λ stop. MayStopFor (IsBlockAddr number) stop) }
     ensures pause { IfErr result (λ stop. IsPause stop) }
 {
     if number == 0 {
@@ -68,6 +71,7 @@ fn piece_len(at: u64, end: u64) -> usize
 pub fn ask_block(snap: &Snap, inode: &Inode, index: usize) -> Result<(), Stop>
     requires { index < FILE_INDEXES }
     ensures err { IfErr result (λ stop. MayStop snap.now stop) }
+    ensures asks { IfErr result (λ stop. IsStopFor (IsNeededAt snap.now inode.now index) stop) }
     ensures pause { IfErr result (λ stop. (blocks : Image) (tree : Tree) (file : ℕ)
         → HasInode snap.now blocks tree file inode.now → IsPause stop) }
 {
@@ -82,6 +86,7 @@ pub fn ask_block(snap: &Snap, inode: &Inode, index: usize) -> Result<(), Stop>
 fn ask_between(snap: &Snap, inode: &Inode, start: u64, end: u64) -> Result<(), Stop>
     requires { end ≤ LARGEST_FILE }
     ensures err { IfErr result (λ stop. MayStop snap.now stop) }
+    ensures asks { IfErr result (λ stop. IsStopFor (IsNeededBetween snap.now inode.now start end) stop) }
     ensures pause { IfErr result (λ stop. (blocks : Image) (tree : Tree) (file : ℕ)
         → HasInode snap.now blocks tree file inode.now → IsPause stop) }
 {
@@ -107,6 +112,7 @@ fn bytes_between(
         → HasInode snap.now blocks tree file inode.now
         → bytes.items ≡ take (end - start) (drop start (all_bytes snap.now.geometry blocks inode.now))) }
     ensures err { IfErr result (λ stop. MayStop snap.now stop) }
+    ensures asks { IfErr result (λ stop. MayStopFor (IsNeededBetween snap.now inode.now start end) stop) }
     ensures pause { IfErr result (λ stop. (blocks : Image) (tree : Tree) (file : ℕ)
         → HasInode snap.now blocks tree file inode.now → IsPause stop) }
 {
@@ -135,6 +141,8 @@ pub fn piece(
         → HasInode snap.now blocks tree file inode.now → bytes.items
         ≡ take count (drop offset (take inode.now.size (all_bytes snap.now.geometry blocks inode.now)))) }
     ensures err { IfErr result (λ stop. MayStop snap.now stop) }
+    ensures asks { IfErr result (λ stop. MayStopFor
+        (IsNeededBetween snap.now inode.now offset (min inode.now.size (offset + count))) stop) }
     ensures pause { IfErr result (λ stop. (blocks : Image) (tree : Tree) (file : ℕ)
         → HasInode snap.now blocks tree file inode.now → inode.now.kind ≡ kinds.Regular → IsPause stop) }
 {
@@ -159,6 +167,7 @@ fn first_bytes(alloc: Global, snap: &Snap, number: u32, len: usize) -> Result<Ve
     ensures ok { IfOk result (λ bytes. (blocks : Image) (tree : Tree) → IsOver snap.now blocks tree
         → bytes.items ≡ [] ++ take len (drop 0 (content_of (content_in snap.now.geometry blocks) number))) }
     ensures err { IfErr result (λ stop. MayStop snap.now stop) }
+    ensures asks { IfErr result (λ stop. MayStopFor (IsBlockAddr number) stop) }
     ensures pause { IfErr result (λ stop. IsPause stop) }
 {
     let mut bytes = Vec::new(alloc);
@@ -173,6 +182,7 @@ pub fn target(alloc: Global, snap: &Snap, inode: &Inode) -> Result<Vec<u8>, Stop
         → bytes.items ≡ take inode.now.size (bytes_of (content_in snap.now.geometry blocks)
         (take 1 inode.now.direct))) }
     ensures err { IfErr result (λ stop. MayStop snap.now stop) }
+    ensures asks { IfErr result (λ stop. MayStopFor (IsNeededAt snap.now inode.now 0) stop) }
     ensures pause { IfErr result (λ stop. (blocks : Image) (tree : Tree) (file : ℕ)
         → HasInode snap.now blocks tree file inode.now → inode.now.kind ≡ kinds.Link → IsPause stop) }
 {

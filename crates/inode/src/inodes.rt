@@ -8,6 +8,8 @@ ghost use Rattle.layout.specs.Fields.{count_of, numbers_at};
 ghost use Rattle.layout.specs.InodeForm.{is_data_block_or_none};
 ghost use Rattle.layout.specs.Parts.{content_in};
 ghost use Rattle.model.specs.Tree.{Tree};
+ghost use Rattle.inode.specs.Asked.{IsBlockAddr, IsStopFor};
+ghost use Rattle.inode.specs.Read.{IsAskedInode};
 ghost use Rattle.inode.specs.Over.{HasInode, IsOver, IsPause, MayStop, are_far_placed};
 ghost use Rattle.inode.specs.Shown.{IsInodeOf, IsShown, body_in, file_kind};
 
@@ -34,6 +36,7 @@ pub fn held(snap: &Snap, number: u32) -> Result<Option<Inode>, Stop>
     ensures ok { IfOk result (λ found. (blocks : Image) (tree : Tree) → IsOver snap.now blocks tree
         → IsInodeOf snap.now blocks tree number found) }
     ensures err { IfErr result (λ stop. MayStop snap.now stop) }
+    ensures asks { IfErr result (λ stop. IsAskedInode snap.now.geometry number stop) }
     ensures pause { IfErr result (λ stop. (blocks : Image) (tree : Tree) → IsOver snap.now blocks tree
         → IsPause stop) }
 {
@@ -50,6 +53,7 @@ fn far_used(snap: &Snap, indirect: u32) -> Result<u32, Stop>
         → used ≡ cond (nat_eq indirect 0) 0
         (count_of (numbers_at INDIRECT_INDEXES 0 (content_in snap.now.geometry blocks indirect)) + 1)) }
     ensures err { IfErr result (λ stop. MayStop snap.now stop) }
+    ensures asks { IfErr result (λ stop. IsStopFor (IsBlockAddr indirect) stop) }
     ensures pause { IfErr result (λ stop. (blocks : Image) (tree : Tree) → IsOver snap.now blocks tree
         → is_data_block_or_none snap.now.geometry indirect ≡ true
         → are_far_placed snap.now.geometry blocks indirect → IsPause stop) }
@@ -74,6 +78,7 @@ pub fn used_of(snap: &Snap, inode: &Inode) -> Result<u32, Stop>
         → HasInode snap.now blocks tree file inode.now
         → IsShown inode.now used (body_in snap.now.geometry blocks inode.now)) }
     ensures err { IfErr result (λ stop. MayStop snap.now stop) }
+    ensures asks { IfErr result (λ stop. IsStopFor (IsBlockAddr inode.now.indirect) stop) }
     ensures pause { IfErr result (λ stop. (blocks : Image) (tree : Tree) (file : ℕ)
         → HasInode snap.now blocks tree file inode.now → IsPause stop) }
 {

@@ -7,6 +7,7 @@ ghost use Rattle.layout.specs.InodeForm.{is_data_block_or_none};
 ghost use Rattle.layout.specs.Parts.{content_in};
 ghost use Rattle.layout.specs.Places.{is_data};
 ghost use Rattle.inode.specs.Over.{HasInode, IsOver, IsPause, MayStop, far_at, number_at};
+ghost use Rattle.inode.specs.Asked.{IsBlockAddr, IsFarNumber, IsIndirectFor, IsNumberAt, IsStopFor, WasReadBlock};
 
 use crate::read::bytes_at;
 use crate::snap::Snap;
@@ -22,7 +23,9 @@ pub fn data_block(snap: &Snap, number: u32) -> Result<&[u8], Stop>
     ensures len { IfOk result (λ bytes. length bytes.now ≡ BLOCK_BYTES) }
     ensures ok { IfOk result (λ bytes. (blocks : Image) (tree : Tree) → IsOver snap.now blocks tree
         → bytes.now ≡ content_in snap.now.geometry blocks number) }
+    ensures read { IfOk result (λ bytes. WasReadBlock snap.now.objects.items number bytes.now) }
     ensures err { IfErr result (λ stop. MayStop snap.now stop) }
+    ensures asks { IfErr result (λ stop. IsStopFor (IsBlockAddr number) stop) }
     ensures pause { IfErr result (λ stop. IsPause stop) }
 {
     bytes_at(snap, Addr::whole(BlockNo(number)))
@@ -33,7 +36,9 @@ fn far_number(snap: &Snap, indirect: u32, index: usize) -> Result<u32, Stop>
     requires { index < INDIRECT_INDEXES }
     ensures ok { IfOk result (λ number. (blocks : Image) (tree : Tree) → IsOver snap.now blocks tree
         → number ≡ far_at (content_in snap.now.geometry blocks) indirect index) }
+    ensures read { IfOk result (λ number. IsFarNumber snap.now.objects.items indirect index number) }
     ensures err { IfErr result (λ stop. MayStop snap.now stop) }
+    ensures asks { IfErr result (λ stop. IsStopFor (IsBlockAddr indirect) stop) }
     ensures pause { IfErr result (λ stop. is_data_block_or_none snap.now.geometry indirect ≡ true → IsPause stop) }
 {
     if indirect == 0 {
@@ -51,7 +56,9 @@ fn named_number(snap: &Snap, inode: &Inode, index: usize) -> Result<u32, Stop>
     requires { index < FILE_INDEXES }
     ensures ok { IfOk result (λ number. (blocks : Image) (tree : Tree) (file : ℕ)
         → HasInode snap.now blocks tree file inode.now → number ≡ number_at snap.now.geometry blocks inode.now index) }
+    ensures read { IfOk result (λ number. IsNumberAt snap.now.objects.items inode.now index number) }
     ensures err { IfErr result (λ stop. MayStop snap.now stop) }
+    ensures asks { IfErr result (λ stop. IsStopFor (IsIndirectFor inode.now index) stop) }
     ensures pause { IfErr result (λ stop. is_data_block_or_none snap.now.geometry inode.now.indirect ≡ true
         → IsPause stop) }
 {
@@ -73,8 +80,10 @@ pub fn block_number(snap: &Snap, inode: &Inode, index: usize) -> Result<u32, Sto
     requires { index < FILE_INDEXES }
     ensures ok { IfOk result (λ number. (blocks : Image) (tree : Tree) (file : ℕ)
         → HasInode snap.now blocks tree file inode.now → number ≡ number_at snap.now.geometry blocks inode.now index) }
+    ensures read { IfOk result (λ number. IsNumberAt snap.now.objects.items inode.now index number) }
     ensures data { IfOk result (λ number. is_data_block_or_none snap.now.geometry number ≡ true) }
     ensures err { IfErr result (λ stop. MayStop snap.now stop) }
+    ensures asks { IfErr result (λ stop. IsStopFor (IsIndirectFor inode.now index) stop) }
     ensures pause { IfErr result (λ stop. (blocks : Image) (tree : Tree) (file : ℕ)
         → HasInode snap.now blocks tree file inode.now → IsPause stop) }
 {

@@ -2,4 +2,3 @@ pub mod Few
 pub mod Found
 pub mod Placed
 pub mod Rising
-pub mod Steps

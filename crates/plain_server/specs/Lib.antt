@@ -1,4 +1,3 @@
-pub mod Answered
 pub mod Indexes
 pub mod Named
 pub mod Plain

@@ -136,37 +136,3 @@ impl PlainBody {
         BLOCK_BYTES as u64 * self.cost()
     }
 }
-
-impl PlainNode {
-    /// What a reply tells of the file.
-    pub fn attributes(&self, number: u32) -> Attributes
-        ensures { result ≡ attributes_of number (node_of self.now) }
-    {
-        Attributes {
-            kind: self.body.kind(),
-            mode: self.mode,
-            nlink: self.nlink,
-            uid: self.uid,
-            gid: self.gid,
-            size: self.body.size(),
-            used: self.body.used(),
-            device: DeviceNumber { major: 0, minor: 0 },
-            file_system: FILE_SYSTEM,
-            number: number as u64,
-            atime: self.atime,
-            mtime: self.mtime,
-            ctime: self.ctime,
-        }
-    }
-
-    /// What is told of the file as it is before a change.
-    pub fn before_change(&self) -> WeakCacheAttributes
-        ensures { result ≡ before_change (node_of self.now) }
-    {
-        WeakCacheAttributes {
-            size: self.body.size(),
-            mtime: self.mtime,
-            ctime: self.ctime,
-        }
-    }
-}

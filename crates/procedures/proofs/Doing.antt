@@ -49,14 +49,14 @@ use Rattle.procedures.specs.FirstTests.{unless}
 use Rattle.procedures.specs.Fresh.{IsNewNumber, IsUnused, fresh, make, made, new_entry, nothing_given}
 use Rattle.procedures.specs.Fresh.{with_new, without_size}
 use Rattle.procedures.specs.Link.{link, link_refusal, linking, with_link}
-use Rattle.procedures.specs.MkDir.{is_full, is_there, make_directory}
+use Rattle.procedures.specs.MkDir.{is_full, is_there, make_directory, mkdir_tests}
 use Rattle.procedures.specs.Places.{is_found_directory, is_found_other, is_own_name}
 use Rattle.procedures.specs.Places.{least_free_slot, named_file}
 use Rattle.procedures.specs.Remove.{remove, remove_refusal}
 use Rattle.procedures.specs.Rename.{Place, file_in, move, move_refusal, new_slot, places_refusal, rename}
 use Rattle.procedures.specs.Rename.{rename_file, renaming, with_moved}
 use Rattle.procedures.specs.RmDir.{is_found_filled, remove_directory, rmdir_refusal}
-use Rattle.procedures.specs.SymLink.{make_link}
+use Rattle.procedures.specs.SymLink.{make_link, symlink_tests}
 use Rattle.procedures.specs.Told.{Acts, Effect, tree_after}
 use Rattle.procedures.specs.Step.{numbered_step}
 use Rattle.procedures.specs.Write.{write, write_refusal, written, written_reply}
@@ -373,11 +373,11 @@ module _ (tree : Tree) (ctx : Ctx) (fits : Type 0) where
     directory_done wanted bounds =
         leads_unless Done
         (first_of_tests (place_tests (may_change ctx.credential directory) directory name
-        ++ (is_there tree directory name, status.Exist) ∷ (is_full directory, status.MLink) ∷ []))
+        ++ mkdir_tests name directory (named_file tree directory name)))
         (make tree ctx new at directory name (without_size wanted)
         (fresh ctx NEW_DIRECTORY_MODE None (Directory map.empty 0 at))) (λ tested.
         let placed = placed_by (may_change ctx.credential directory) directory name
-        (is_there tree directory name) status.Exist ((is_full directory, status.MLink) ∷ [])
+        (is_there name (named_file tree directory name)) status.Exist ((is_full directory, status.MLink) ∷ [])
         (λ there. (neither _ _ there).0) tested in
         make_done new at directory name (without_size wanted) NEW_DIRECTORY_MODE None (Directory map.empty 0 at)
         is_new (record {
@@ -399,12 +399,11 @@ module _ (tree : Tree) (ctx : Ctx) (fits : Type 0) where
     link_done wanted target bounds bytes =
         leads_unless Done
         (first_of_tests (place_tests (may_change ctx.credential directory) directory name
-        ++ (is_there tree directory name, status.Exist) ∷ (nat_eq (length target) 0, status.Inval)
-        ∷ (nat_lt TARGET_BYTES (length target), status.NameTooLong) ∷ []))
+        ++ symlink_tests name target (named_file tree directory name)))
         (make tree ctx new at directory name (without_size wanted) (fresh ctx NEW_LINK_MODE None (Link target)))
         (λ tested.
         let placed = placed_by (may_change ctx.credential directory) directory name
-        (is_there tree directory name) status.Exist
+        (is_there name (named_file tree directory name)) status.Exist
         ((nat_eq (length target) 0, status.Inval) ∷ (
           nat_lt TARGET_BYTES (length target),
           status.NameTooLong,
@@ -481,7 +480,7 @@ module _ (tree : Tree) (ctx : Ctx) (fits : Type 0) where
       let short = passed (is_long name) _ _ lawful.1 in
       let may = passed (not (may_change ctx.credential directory)) _ _ short.1 in
       let file = passed (is_directory node.body) _ _ may.1 in
-      let there = passed (is_there tree directory name) _ _ file.1 in
+      let there = passed (is_there name (named_file tree directory name)) _ _ file.1 in
       let full = passed (is_full node) _ _ there.1 in
       let parts = entry_is (Some number) (least_free_slot directory.body) e is in
       links (record {

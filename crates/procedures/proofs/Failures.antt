@@ -1,5 +1,5 @@
 -- No procedure answers IO or SERVERFAULT, and none but MKNOD NOTSUPP.
-use Rattle.std.proofs.Common.{◌≡◌, ℕ, ap, ◌∙◌, refl, ◌+◌, ◌||◌, is_none, Bool, true, false, cond, not, ◌&&◌}
+use Rattle.std.proofs.Common.{◌≡◌, ℕ, ap, ◌∙◌, refl, ◌+◌, Bool, true, false, cond, not, ◌&&◌}
 use Rattle.std.proofs.Common.{List, [], ◌∷◌, ◌++◌, length, map}
 use Rattle.std.proofs.Common.{Option, Some, None, Result, Ok, Err, nat_eq, nat_lt}
 use Rattle.std.specs.FinMap as map
@@ -7,7 +7,6 @@ use Rattle.std.specs.List.{list_all}
 use Rattle.std.specs.Option.{ok_or, option_map}
 use Rattle.limits.specs.declared.TheConstants.{EXCLUSIVE_MODE, NEW_FILE_MODE}
 use Rattle.limits.specs.declared.TheConstants.{HANDLE_BYTES, LARGEST_FILE, NEW_DIRECTORY_MODE, NEW_LINK_MODE}
-use Rattle.limits.specs.declared.TheConstants.{TARGET_BYTES}
 use Rattle.nfs_types.specs.Verifier.{boot_verifier}
 use Rattle.nfs_types.specs.declared.attributes.Attributes.{Attributes}
 use Rattle.nfs_types.specs.declared.attributes.NewAttributes.{NewAttributes}
@@ -31,7 +30,6 @@ use Rattle.model.specs.Calls.{is_answered_stable}
 use Rattle.model.specs.Find.{find_file, is_number, number_in, same_stamp, stamp_in, stamped}
 use Rattle.model.specs.GetAttr.{attributes_found}
 use Rattle.model.specs.Node.{Node, Body, DirectoryEntry, Regular, Directory, Link}
-use Rattle.model.specs.Names.{is_directory}
 use Rattle.model.specs.Permissions.{may_write_file}
 use Rattle.model.specs.Refused.{refused}
 use Rattle.model.specs.SetAttr.{fails_guard, is_invalid, is_no_access, is_not_permitted}
@@ -42,27 +40,28 @@ use Rattle.procedures.specs.Changes.{if_entry, if_room, lacks_room, without_name
 use Rattle.procedures.specs.Commit.{commit_refusal}
 use Rattle.procedures.specs.Create.{becomes, create_at, create_new, create_over, is_made_with, no_bytes}
 use Rattle.procedures.specs.Create.{only_size, resize}
-use Rattle.procedures.specs.FirstTests.{found_then, is_long, is_no_directory, is_no_name, may_change}
+use Rattle.procedures.specs.FirstTests.{found_then, is_no_directory, may_change}
 use Rattle.procedures.specs.FirstTests.{may_list}
 use Rattle.procedures.specs.FirstTests.{may_search, place_tests, unless}
 use Rattle.procedures.specs.Fresh.{fresh, make, made, new_entry, nothing_given, with_new, without_size}
 use Rattle.procedures.specs.Kinds.{fails_with, is_failure, tells_failure, tells_one_of}
-use Rattle.procedures.specs.Link.{link, link_refusal, linking, with_link}
+use Rattle.procedures.specs.Link.{link, link_refusal, link_tests, linking, with_link}
 use Rattle.procedures.specs.Lookup.{found_under, looked}
-use Rattle.procedures.specs.MkDir.{is_full, is_there}
+use Rattle.procedures.specs.MkDir.{mkdir_tests}
 use Rattle.procedures.specs.Listing.{entry_bytes, entry_room, fitting, is_bad_cookie, is_end, is_too_small}
 use Rattle.procedures.specs.Listing.{listed_behind, listing_verifier}
-use Rattle.procedures.specs.Places.{is_found_directory, is_found_other, is_own_name, least_free_slot}
+use Rattle.procedures.specs.Places.{is_own_name, least_free_slot}
 use Rattle.procedures.specs.Places.{named_file}
 use Rattle.procedures.specs.Read.{bytes_of, may_read_file, piece, read_bytes, read_refusal}
 use Rattle.procedures.specs.ReadDir.{listing_refusal}
 use Rattle.procedures.specs.ReadDirPlus.{fitting_both, plus}
-use Rattle.procedures.specs.Remove.{remove_refusal}
-use Rattle.procedures.specs.RmDir.{is_found_filled, rmdir_refusal}
+use Rattle.procedures.specs.Remove.{remove_refusal, remove_tests}
+use Rattle.procedures.specs.RmDir.{rmdir_refusal, rmdir_tests}
+use Rattle.procedures.specs.SymLink.{symlink_tests}
 use Rattle.procedures.specs.Write.{is_wrong_count, write_refusal, written, written_reply}
 use Rattle.procedures.specs.ReadLink.{target_of}
 use Rattle.procedures.specs.Rename.{Place, file_in, move, move_refusal, new_slot, places_refusal, rename}
-use Rattle.procedures.specs.Rename.{goes_below_itself, has_no_link, is_other_sort, rename_file, renaming}
+use Rattle.procedures.specs.Rename.{move_tests, path_tests, rename_file, renaming, right_tests}
 use Rattle.procedures.specs.Rename.{with_moved}
 use Rattle.procedures.specs.Told.{Acts, Effect, Tells, answer_of}
 use Rattle.procedures.specs.Step.{numbered_step}
@@ -264,12 +263,8 @@ rename_file_fine tree ctx source target (Some file) replaced =
     (move tree ctx file.0 file.1 source target replaced) refl
     (by_unless (move_refusal tree file.0 file.1 source target replaced)
     (if_entry tree (new_entry (Some file.0) (new_slot source target))
-    (with_moved tree ctx.moment file.0 file.1 source target replaced)) (by_tests (
-    (goes_below_itself tree file.0 file.1 target, status.Inval)
-    ∷ (is_other_sort file.1 replaced, status.Exist)
-    ∷ (is_found_filled replaced, status.Exist)
-    ∷ (has_no_link file.1 source target replaced, status.MLink)
-    ∷ []) refl)
+    (with_moved tree ctx.moment file.0 file.1 source target replaced))
+    (by_tests (move_tests tree file source.number (target.number, target.directory) replaced) refl)
     (by_entry tree (new_entry (Some file.0) (new_slot source target))
     (with_moved tree ctx.moment file.0 file.1 source target replaced)))
 
@@ -278,17 +273,9 @@ rename_fine : (tree : Tree) (ctx : Ctx) (source target : Place)
 rename_fine tree ctx source target =
     by_unless (places_refusal tree ctx.credential source target)
     (rename_file tree ctx source target (file_in tree source) (file_in tree target)) (by_tests (
-    (is_no_directory source.directory, status.NotDir)
-    ∷ (is_no_directory target.directory, status.NotDir)
-    ∷ (is_no_name source.name, status.Acces)
-    ∷ (is_long source.name, status.NameTooLong)
-    ∷ (is_no_name target.name, status.Acces)
-    ∷ (is_long target.name, status.NameTooLong)
-    ∷ (not (may_change ctx.credential source.directory), status.Acces)
-    ∷ (not (may_change ctx.credential target.directory), status.Acces)
-    ∷ (is_own_name source.name || is_own_name target.name, status.Inval)
-    ∷ (is_none (file_in tree source), status.NoEnt)
-    ∷ []) refl)
+    path_tests source.directory source.name target.directory target.name
+    ++ right_tests ctx.credential source.directory source.name target.directory target.name (file_in tree source))
+    refl)
     (rename_file_fine tree ctx source target (file_in tree source) (file_in tree target))
 
 link_fine : (tree : Tree) (ctx : Ctx) (name : List ℕ) (number : ℕ) (node : Node) (at : ℕ) (directory : Node)
@@ -297,11 +284,8 @@ link_fine tree ctx name number node at directory =
     by_unless (link_refusal tree ctx.credential name node directory)
     (if_entry tree (new_entry (Some number) (least_free_slot directory.body))
     (with_link tree ctx.moment name number node at)) (place_fine
-    (may_change ctx.credential directory) directory name (
-    (is_directory node.body, status.Inval)
-    ∷ (is_there tree directory name, status.Exist)
-    ∷ (is_full node, status.MLink)
-    ∷ []) refl)
+    (may_change ctx.credential directory) directory name
+    (link_tests name node (named_file tree directory name)) refl)
     (by_entry tree (new_entry (Some number) (least_free_slot directory.body))
     (with_link tree ctx.moment name number node at))
 
@@ -384,23 +368,21 @@ untested tree next ctx new (call.Create name how) (reply.Create outcome told) e 
 untested tree next ctx new (call.MkDir name wanted) (reply.MkDir outcome told) e s =
     acted_fine tree next _ _ outcome told s (λ at directory. by_unless
     (first_of_tests (place_tests (may_change ctx.credential directory) directory name.name
-    ++ (is_there tree directory name.name, status.Exist) ∷ (is_full directory, status.MLink) ∷ []))
+    ++ mkdir_tests name.name directory (named_file tree directory name.name)))
     (make tree ctx new at directory name.name (without_size wanted)
     (fresh ctx NEW_DIRECTORY_MODE None (Directory map.empty 0 at))) (place_fine
     (may_change ctx.credential directory) directory name.name
-    ((is_there tree directory name.name, status.Exist) ∷ (is_full directory, status.MLink) ∷ []) refl)
+    (mkdir_tests name.name directory (named_file tree directory name.name)) refl)
     (make_fine tree ctx new at directory name.name (without_size wanted)
     (fresh ctx NEW_DIRECTORY_MODE None (Directory map.empty 0 at))))
 untested tree next ctx new (call.SymLink name wanted target) (reply.SymLink outcome told) e s =
     acted_fine tree next _ _ outcome told s (λ at directory. by_unless
     (first_of_tests (place_tests (may_change ctx.credential directory) directory name.name
-    ++ (is_there tree directory name.name, status.Exist) ∷ (nat_eq (length target) 0, status.Inval)
-    ∷ (nat_lt TARGET_BYTES (length target), status.NameTooLong) ∷ []))
+    ++ symlink_tests name.name target (named_file tree directory name.name)))
     (make tree ctx new at directory name.name (without_size wanted) (fresh ctx NEW_LINK_MODE None
     (Link target)))
     (place_fine (may_change ctx.credential directory) directory name.name
-    ((is_there tree directory name.name, status.Exist) ∷ (nat_eq (length target) 0, status.Inval)
-    ∷ (nat_lt TARGET_BYTES (length target), status.NameTooLong) ∷ []) refl)
+    (symlink_tests name.name target (named_file tree directory name.name)) refl)
     (make_fine tree ctx new at directory name.name (without_size wanted)
     (fresh ctx NEW_LINK_MODE None (Link target))))
 untested tree next ctx new (call.MkNod name special) (reply.MkNod outcome told) e s = cc
@@ -410,23 +392,16 @@ untested tree next ctx new (call.Remove name) (reply.Remove outcome told) e s =
     (record {
       answer = tt;
       next = without_name tree ctx.moment at name.name (named_file tree directory name.name);
-    }) (place_fine (may_change ctx.credential directory) directory name.name (
-    (is_own_name name.name, status.IsDir)
-    ∷ (is_none (named_file tree directory name.name), status.NoEnt)
-    ∷ (is_found_directory (named_file tree directory name.name), status.IsDir)
-    ∷ []) refl))
+    }) (place_fine (may_change ctx.credential directory) directory name.name
+    (remove_tests name.name (named_file tree directory name.name)) refl))
 untested tree next ctx new (call.RmDir name) (reply.RmDir outcome told) e s =
     acted_fine tree next _ _ outcome told s (λ at directory. by_ok
     (rmdir_refusal ctx.credential directory name.name (named_file tree directory name.name))
     (record {
       answer = tt;
       next = without_name tree ctx.moment at name.name (named_file tree directory name.name);
-    }) (place_fine (may_change ctx.credential directory) directory name.name (
-    (is_own_name name.name, status.Inval)
-    ∷ (is_none (named_file tree directory name.name), status.NoEnt)
-    ∷ (is_found_other (named_file tree directory name.name), status.NotDir)
-    ∷ (is_found_filled (named_file tree directory name.name), status.NotEmpty)
-    ∷ []) refl))
+    }) (place_fine (may_change ctx.credential directory) directory name.name
+    (rmdir_tests name.name (named_file tree directory name.name)) refl))
 untested tree next ctx new (call.Commit file offset count) (reply.Commit outcome told) e s =
     acted_fine tree next _ _ outcome told s (λ number node. by_ok (commit_refusal ctx.credential node)
     (record { answer = boot_verifier ctx.boot; next = tree }) (by_tests (

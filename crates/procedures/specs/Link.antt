@@ -1,5 +1,5 @@
 -- LINK (RFC 1813, section 3.3.15).
-use Rattle.std.specs.Prelude.{◌≡◌, ℕ, suc, List, [], ◌∷◌, ◌++◌, Option, Some, Result}
+use Rattle.std.specs.Prelude.{◌≡◌, ℕ, Bool, suc, List, [], ◌∷◌, ◌++◌, Option, Some, Result}
 use Rattle.nfs_types.specs.declared.attributes.Attributes.{Attributes}
 use Rattle.nfs_types.specs.declared.attributes.WeakCacheData.{WeakCacheData}
 use Rattle.nfs_types.specs.declared.ctx.Credential.{Credential}
@@ -16,16 +16,21 @@ use Rattle.procedures.specs.Changes.{changed_at, entered, if_entry}
 use Rattle.procedures.specs.FirstTests.{after_first, found_then, may_change, place_tests, unless}
 use Rattle.procedures.specs.Fresh.{new_entry}
 use Rattle.procedures.specs.MkDir.{is_full, is_there}
-use Rattle.procedures.specs.Places.{least_free_slot}
+use Rattle.procedures.specs.Places.{least_free_slot, named_file}
 use Rattle.procedures.specs.Told.{Effect, answer_of, change_told, told_in, tree_after}
+
+-- the tests of the file, of its new name and of what that leads to, behind those of the name's place
+abbrev pub link_tests : List ℕ → Node → Option (ℕ × Node) → List (Bool × Status)
+link_tests name node found =
+    (is_directory node.body, status.Inval)
+    ∷ (is_there name found, status.Exist)
+    ∷ (is_full node, status.MLink)
+    ∷ []
 
 abbrev pub link_refusal : Tree → Credential → List ℕ → Node → Node → Option Status
 link_refusal tree caller name node directory = first_of_tests (
     place_tests (may_change caller directory) directory name
-    ++ (is_directory node.body, status.Inval)
-    ∷ (is_there tree directory name, status.Exist)
-    ∷ (is_full node, status.MLink)
-    ∷ [])
+    ++ link_tests name node (named_file tree directory name))
 
 -- a file that gets one name more
 abbrev pub linked : Moment → Node → Node

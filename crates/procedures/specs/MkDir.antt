@@ -17,20 +17,25 @@ use Rattle.procedures.specs.Places.{is_own_name, named_file}
 use Rattle.procedures.specs.Told.{Acts, Effect}
 
 -- the name is there already, or is one that each directory has
-abbrev pub is_there : Tree → Node → List ℕ → Bool
-is_there tree directory name = is_own_name name || is_some (named_file tree directory name)
+abbrev pub is_there : List ℕ → Option (ℕ × Node) → Bool
+is_there name found = is_own_name name || is_some found
 
 -- it has as many links as a file may have
 abbrev pub is_full : Node → Bool
 is_full node = nat_le MOST_LINKS node.nlink
 
+-- the tests of the new name and what it leads to, behind those of its place
+abbrev pub mkdir_tests : List ℕ → Node → Option (ℕ × Node) → List (Bool × Status)
+mkdir_tests name directory found =
+    (is_there name found, status.Exist)
+    ∷ (is_full directory, status.MLink)
+    ∷ []
+
 abbrev pub make_directory : Tree → Ctx → List ℕ → NewAttributes → Option ℕ → ℕ → Node
     → Result (Effect Created) Status
 make_directory tree ctx name wanted number at directory =
     unless (first_of_tests (place_tests (may_change ctx.credential directory) directory name
-    ++ (is_there tree directory name, status.Exist)
-    ∷ (is_full directory, status.MLink)
-    ∷ []))
+    ++ mkdir_tests name directory (named_file tree directory name)))
     (make tree ctx number at directory name (without_size wanted)
     (fresh ctx NEW_DIRECTORY_MODE None (Directory map.empty 0 at)))
 

@@ -1,5 +1,5 @@
 -- REMOVE (RFC 1813, section 3.3.12).
-use Rattle.std.specs.Prelude.{ℕ, List, [], ◌∷◌, ◌++◌, is_none, Option, Result, Ok}
+use Rattle.std.specs.Prelude.{ℕ, Bool, List, [], ◌∷◌, ◌++◌, is_none, Option, Result, Ok}
 use Rattle.nfs_types.specs.declared.attributes.WeakCacheData.{WeakCacheData}
 use Rattle.nfs_types.specs.declared.ctx.Credential.{Credential}
 use Rattle.nfs_types.specs.declared.ctx.Ctx.{Ctx}
@@ -13,13 +13,17 @@ use Rattle.procedures.specs.FirstTests.{may_change, place_tests, unless}
 use Rattle.procedures.specs.Places.{is_found_directory, is_own_name, named_file}
 use Rattle.procedures.specs.Told.{Acts, Effect}
 
-abbrev pub remove_refusal : Credential → Node → List ℕ → Option (ℕ × Node) → Option Status
-remove_refusal caller directory name found = first_of_tests (
-    place_tests (may_change caller directory) directory name
-    ++ (is_own_name name, status.IsDir)
+-- the tests of the name and what it leads to, behind those of its place
+abbrev pub remove_tests : List ℕ → Option (ℕ × Node) → List (Bool × Status)
+remove_tests name found =
+    (is_own_name name, status.IsDir)
     ∷ (is_none found, status.NoEnt)
     ∷ (is_found_directory found, status.IsDir)
-    ∷ [])
+    ∷ []
+
+abbrev pub remove_refusal : Credential → Node → List ℕ → Option (ℕ × Node) → Option Status
+remove_refusal caller directory name found = first_of_tests (
+    place_tests (may_change caller directory) directory name ++ remove_tests name found)
 
 -- the name goes, and with its last name the file
 abbrev pub remove : Tree → Ctx → List ℕ → ℕ → Node → Result (Effect (Unit {0})) Status

@@ -1,5 +1,5 @@
 -- RENAME (RFC 1813, section 3.3.14).
-use Rattle.std.specs.Prelude.{◌≡◌, ℕ, Bool, true, false, cond, not, ◌&&◌, ◌||◌, List, [], ◌∷◌, nat_eq}
+use Rattle.std.specs.Prelude.{◌≡◌, ℕ, Bool, true, false, cond, not, ◌&&◌, ◌||◌, ◌++◌, List, [], ◌∷◌, nat_eq}
 use Rattle.std.specs.Prelude.{is_none}
 use Rattle.std.specs.Prelude.{Option, Some, None, Result, Ok, Err}
 use Rattle.std.specs.List.{list_any, range_with_len}
@@ -37,29 +37,40 @@ pub record Place : Type 0 where
 abbrev pub file_in : Tree → Place → Option (ℕ × Node)
 file_in tree place = named_file tree place.directory place.name
 
--- The tests of both places come before those of what they name, kind by kind.
+-- The tests of both places come before those of what they name, kind by kind: first of both directories, and then
+-- of both names,
+abbrev pub path_tests : Node → List ℕ → Node → List ℕ → List (Bool × Status)
+path_tests source name target new_name =
+    (is_no_directory source, status.NotDir)
+    ∷ (is_no_directory target, status.NotDir)
+    ∷ (is_no_name name, status.Acces)
+    ∷ (is_long name, status.NameTooLong)
+    ∷ (is_no_name new_name, status.Acces)
+    ∷ (is_long new_name, status.NameTooLong)
+    ∷ []
+
+-- and then of what the caller may do there, and of what the first name leads to.
+abbrev pub right_tests : Credential → Node → List ℕ → Node → List ℕ → Option (ℕ × Node) → List (Bool × Status)
+right_tests caller source name target new_name found =
+    (not (may_change caller source), status.Acces)
+    ∷ (not (may_change caller target), status.Acces)
+    ∷ (is_own_name name || is_own_name new_name, status.Inval)
+    ∷ (is_none found, status.NoEnt)
+    ∷ []
+
 abbrev pub places_refusal : Tree → Credential → Place → Place → Option Status
 places_refusal tree caller source target = first_of_tests (
-    (is_no_directory source.directory, status.NotDir)
-    ∷ (is_no_directory target.directory, status.NotDir)
-    ∷ (is_no_name source.name, status.Acces)
-    ∷ (is_long source.name, status.NameTooLong)
-    ∷ (is_no_name target.name, status.Acces)
-    ∷ (is_long target.name, status.NameTooLong)
-    ∷ (not (may_change caller source.directory), status.Acces)
-    ∷ (not (may_change caller target.directory), status.Acces)
-    ∷ (is_own_name source.name || is_own_name target.name, status.Inval)
-    ∷ (is_none (file_in tree source), status.NoEnt)
-    ∷ [])
+    path_tests source.directory source.name target.directory target.name
+    ++ right_tests caller source.directory source.name target.directory target.name (file_in tree source))
 
 -- the directory of a number is the file, or lies below it
 abbrev pub is_within : Tree → ℕ → ℕ → Bool
 is_within tree file number =
     list_any (λ steps. nat_eq (ancestor tree steps number) file) (range_with_len 0 tree.geometry.inodes)
 
--- a directory would become its own ancestor
-abbrev pub goes_below_itself : Tree → ℕ → Node → Place → Bool
-goes_below_itself tree number node target = is_directory node.body && is_within tree number target.number
+-- a directory would become its own ancestor, in the directory of this number
+abbrev pub goes_below_itself : Tree → ℕ × Node → ℕ → Bool
+goes_below_itself tree file target = is_directory file.1.body && is_within tree file.0 target
 
 -- what would be replaced is a directory and the file is none, or the other way round
 abbrev pub is_other_sort : Node → Option (ℕ × Node) → Bool
@@ -67,18 +78,22 @@ is_other_sort node replaced =
     cond (is_directory node.body) (is_found_other replaced) (is_found_directory replaced)
 
 -- A directory is one link more of its new parent, unless it was in it or replaces another.
-abbrev pub has_no_link : Node → Place → Place → Option (ℕ × Node) → Bool
+abbrev pub has_no_link : Node → ℕ → ℕ × Node → Option (ℕ × Node) → Bool
 has_no_link node source target replaced =
-    is_directory node.body && is_none replaced && not (nat_eq source.number target.number)
-    && is_full target.directory
+    is_directory node.body && is_none replaced && not (nat_eq source target.0) && is_full target.1
+
+-- the tests of the move itself, from one directory to another
+abbrev pub move_tests : Tree → ℕ × Node → ℕ → ℕ × Node → Option (ℕ × Node) → List (Bool × Status)
+move_tests tree file source target replaced =
+    (goes_below_itself tree file target.0, status.Inval)
+    ∷ (is_other_sort file.1 replaced, status.Exist)
+    ∷ (is_found_filled replaced, status.Exist)
+    ∷ (has_no_link file.1 source target replaced, status.MLink)
+    ∷ []
 
 abbrev pub move_refusal : Tree → ℕ → Node → Place → Place → Option (ℕ × Node) → Option Status
-move_refusal tree number node source target replaced = first_of_tests (
-    (goes_below_itself tree number node target, status.Inval)
-    ∷ (is_other_sort node replaced, status.Exist)
-    ∷ (is_found_filled replaced, status.Exist)
-    ∷ (has_no_link node source target replaced, status.MLink)
-    ∷ [])
+move_refusal tree number node source target replaced =
+    first_of_tests (move_tests tree (number, node) source.number (target.number, target.directory) replaced)
 
 -- A replaced entry keeps its slot, and so does a name that changes within its directory. Else the new name
 -- takes the least free slot.

@@ -22,14 +22,18 @@ has_names body = nat_lt 0 (length (entries_of body))
 abbrev pub is_found_filled : Option (ℕ × Node) → Bool
 is_found_filled found = given found (λ file. has_names file.1.body)
 
-abbrev pub rmdir_refusal : Credential → Node → List ℕ → Option (ℕ × Node) → Option Status
-rmdir_refusal caller directory name found = first_of_tests (
-    place_tests (may_change caller directory) directory name
-    ++ (is_own_name name, status.Inval)
+-- the tests of the name and what it leads to, behind those of its place
+abbrev pub rmdir_tests : List ℕ → Option (ℕ × Node) → List (Bool × Status)
+rmdir_tests name found =
+    (is_own_name name, status.Inval)
     ∷ (is_none found, status.NoEnt)
     ∷ (is_found_other found, status.NotDir)
     ∷ (is_found_filled found, status.NotEmpty)
-    ∷ [])
+    ∷ []
+
+abbrev pub rmdir_refusal : Credential → Node → List ℕ → Option (ℕ × Node) → Option Status
+rmdir_refusal caller directory name found = first_of_tests (
+    place_tests (may_change caller directory) directory name ++ rmdir_tests name found)
 
 -- the name goes, and the directory with it
 abbrev pub remove_directory : Tree → Ctx → List ℕ → ℕ → Node → Result (Effect (Unit {0})) Status

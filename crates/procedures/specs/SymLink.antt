@@ -1,5 +1,5 @@
 -- SYMLINK (RFC 1813, section 3.3.10).
-use Rattle.std.specs.Prelude.{ℕ, List, [], ◌∷◌, ◌++◌, length, nat_eq, nat_lt, Option, None, Result}
+use Rattle.std.specs.Prelude.{ℕ, Bool, List, [], ◌∷◌, ◌++◌, length, nat_eq, nat_lt, Option, None, Result}
 use Rattle.limits.specs.declared.TheConstants.{NEW_LINK_MODE, TARGET_BYTES}
 use Rattle.nfs_types.specs.declared.attributes.NewAttributes.{NewAttributes}
 use Rattle.nfs_types.specs.declared.attributes.WeakCacheData.{WeakCacheData}
@@ -13,16 +13,22 @@ use Rattle.model.specs.Tree.{Tree}
 use Rattle.procedures.specs.FirstTests.{may_change, place_tests, unless}
 use Rattle.procedures.specs.Fresh.{fresh, make, without_size}
 use Rattle.procedures.specs.MkDir.{is_there}
+use Rattle.procedures.specs.Places.{named_file}
 use Rattle.procedures.specs.Told.{Acts, Effect}
+
+-- the tests of the new name and what it leads to, and of the target, behind those of the name's place
+abbrev pub symlink_tests : List ℕ → List ℕ → Option (ℕ × Node) → List (Bool × Status)
+symlink_tests name target found =
+    (is_there name found, status.Exist)
+    ∷ (nat_eq (length target) 0, status.Inval)
+    ∷ (nat_lt TARGET_BYTES (length target), status.NameTooLong)
+    ∷ []
 
 abbrev pub make_link : Tree → Ctx → List ℕ → NewAttributes → List ℕ → Option ℕ → ℕ → Node
     → Result (Effect Created) Status
 make_link tree ctx name wanted target number at directory =
     unless (first_of_tests (place_tests (may_change ctx.credential directory) directory name
-    ++ (is_there tree directory name, status.Exist)
-    ∷ (nat_eq (length target) 0, status.Inval)
-    ∷ (nat_lt TARGET_BYTES (length target), status.NameTooLong)
-    ∷ []))
+    ++ symlink_tests name target (named_file tree directory name)))
     (make tree ctx number at directory name (without_size wanted) (fresh ctx NEW_LINK_MODE None
     (Link target)))
 

@@ -16,7 +16,7 @@ use Rattle.procedures.specs.MkDir.{is_full}
 use Rattle.procedures.specs.Places.{is_own_name, named_file}
 use Rattle.procs_making.proofs.Refused.{is_placed, no_names_sound, none_there, unsized}
 use Rattle.procs_making.specs.Making.{CanMake}
-use Rattle.procs_making.specs.Tests.{mkdir_tests}
+use Rattle.procedures.specs.MkDir.{mkdir_tests}
 
 pub can_make_directory : (tree : Tree) (at : ℕ) (directory : Node) (name : List ℕ) (wanted : NewAttributes)
     (allowed : Bool) → first_of_tests (place_tests allowed directory name) ≡ None

@@ -13,7 +13,7 @@ use Rattle.procedures.specs.Fresh.{without_size}
 use Rattle.procedures.specs.Places.{is_own_name, named_file}
 use Rattle.procs_making.proofs.Refused.{is_placed, none_there, target_sound, unsized}
 use Rattle.procs_making.specs.Making.{CanMake}
-use Rattle.procs_making.specs.Tests.{symlink_tests}
+use Rattle.procedures.specs.SymLink.{symlink_tests}
 
 pub can_make_link : (tree : Tree) (at : ℕ) (directory : Node) (name : List ℕ) (wanted : NewAttributes)
     (target : List ℕ) (allowed : Bool) → first_of_tests (place_tests allowed directory name) ≡ None

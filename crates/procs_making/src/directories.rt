@@ -10,7 +10,7 @@ ghost use Rattle.procedures.specs.Fresh.{IsNewNumber};
 ghost use Rattle.procedures.specs.MkDir.{MkDirStep, make_directory};
 ghost use Rattle.files.specs.Heads.{IsFileIn, IsFound, node_of};
 ghost use Rattle.procs_making.specs.Making.{IsMade};
-ghost use Rattle.procs_making.specs.Tests.{mkdir_tests};
+ghost use Rattle.procedures.specs.MkDir.{mkdir_tests};
 
 use crate::blanks::{blank_directory, without_size};
 use crate::making::make;

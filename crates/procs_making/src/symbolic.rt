@@ -10,7 +10,7 @@ ghost use Rattle.procedures.specs.Fresh.{IsNewNumber};
 ghost use Rattle.procedures.specs.SymLink.{SymLinkStep, make_link};
 ghost use Rattle.files.specs.Heads.{IsFileIn, IsFound, node_of};
 ghost use Rattle.procs_making.specs.Making.{IsMade};
-ghost use Rattle.procs_making.specs.Tests.{symlink_tests};
+ghost use Rattle.procedures.specs.SymLink.{symlink_tests};
 
 use crate::blanks::{blank_link, without_size};
 use crate::making::make;

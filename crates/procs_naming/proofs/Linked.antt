@@ -33,7 +33,7 @@ use Rattle.procs_changes.proofs.Shaped.{elsewhere}
 use Rattle.procs_changes.proofs.SoundShapes.{sound_shape}
 use Rattle.procs_changes.specs.Rooms.{IsCramped, IsRoomyIn, entry_adds}
 use Rattle.procs_changes.specs.Shapes.{CanChange, CanEnterAt, IsShaped, IsSought}
-use Rattle.procs_naming.specs.Tests.{link_tests}
+use Rattle.procedures.specs.Link.{link_tests}
 
 -- ---- a new name's slot and room
 

@@ -21,7 +21,8 @@ use Rattle.procs_changes.proofs.Doing.{behind, done_not, done_so, stopped, unles
 use Rattle.procs_changes.proofs.SoundShapes.{can_take}
 use Rattle.procs_changes.specs.Outcomes.{IsLet}
 use Rattle.procs_changes.specs.Shapes.{CanTake, IsSought}
-use Rattle.procs_naming.specs.Tests.{remove_tests, rmdir_tests}
+use Rattle.procedures.specs.Remove.{remove_tests}
+use Rattle.procedures.specs.RmDir.{rmdir_tests}
 
 -- ---- tests
 

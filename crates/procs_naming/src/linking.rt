@@ -11,7 +11,7 @@ ghost use Rattle.procedures.specs.Link.{LinkStep, link, linked};
 ghost use Rattle.procedures.specs.Told.{attributes_at};
 ghost use Rattle.files.specs.Heads.{IsBodyOf, IsDone, IsFileIn, IsFound, node_of};
 ghost use Rattle.procs_changes.specs.Shapes.{CanChange, CanEnterAt};
-ghost use Rattle.procs_naming.specs.Tests.{link_tests};
+ghost use Rattle.procedures.specs.Link.{link_tests};
 
 use files::{ChangingFiles, Entry, Files, Head, find, is_own_name, untold};
 use limits::MOST_LINKS;

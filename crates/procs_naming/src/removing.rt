@@ -8,7 +8,8 @@ ghost use Rattle.procedures.specs.Remove.{RemoveStep, remove};
 ghost use Rattle.procedures.specs.RmDir.{RmDirStep, remove_directory};
 ghost use Rattle.files.specs.Heads.{IsDone, IsFileIn, IsFound, node_of};
 ghost use Rattle.procs_changes.specs.Outcomes.{IsLet};
-ghost use Rattle.procs_naming.specs.Tests.{remove_tests, rmdir_tests};
+ghost use Rattle.procedures.specs.Remove.{remove_tests};
+ghost use Rattle.procedures.specs.RmDir.{rmdir_tests};
 
 use files::{Changed, ChangingFiles, Head, find, is_own_name};
 use nfs_types::{Ctx, DirectoryName, Status};

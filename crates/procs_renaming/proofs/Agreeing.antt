@@ -10,7 +10,7 @@ use Rattle.procedures.specs.RmDir.{has_names, is_found_filled}
 use Rattle.files.specs.declared.head.Head.{Head}
 use Rattle.files.specs.Heads.{IsFileIn, IsFound, bare, barely, node_of}
 use Rattle.files.proofs.KindsAgree.{kinds_agree}
-use Rattle.procs_renaming.specs.Moves.{has_no_link}
+use Rattle.procedures.specs.Rename.{has_no_link}
 
 -- what would be replaced is of another sort, by the heads alone
 pub sort_agrees : (tree : Tree) (file : Head) (body : Body) (found : Option (ℕ × Node)) (replaced : Option Head)

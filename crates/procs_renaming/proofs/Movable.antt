@@ -202,26 +202,26 @@ module _ (tree : Tree) (good : Sound tree) (moment : Moment) (soon : SoundTime m
       not_in_itself tree none_lacks base source.number source.directory d.source_stands source.name named.entry
       named.entry_is node named_there refl (named.number_is ∙ same)
 
-  below_test : goes_below_itself tree number node target ≡ false
-  below_test = (passed (goes_below_itself tree number node target) _ _ d.tested).0
+  below_test : goes_below_itself tree (number, node) target.number ≡ false
+  below_test = (passed (goes_below_itself tree (number, node) target.number) _ _ d.tested).0
 
   sort_test : is_other_sort node (file_in tree target) ≡ false
   sort_test =
       (passed (is_other_sort node (file_in tree target)) _ _
-      (passed (goes_below_itself tree number node target) _ _ d.tested).1).0
+      (passed (goes_below_itself tree (number, node) target.number) _ _ d.tested).1).0
 
   empty_test : is_found_filled (file_in tree target) ≡ false
   empty_test =
-      let below = passed (goes_below_itself tree number node target) _ _ d.tested in
+      let below = passed (goes_below_itself tree (number, node) target.number) _ _ d.tested in
       let sort = passed (is_other_sort node (file_in tree target)) _ _ below.1 in
       (passed (is_found_filled (file_in tree target)) _ _ sort.1).0
 
-  link_test : has_no_link node source target (file_in tree target) ≡ false
+  link_test : has_no_link node source.number (target.number, target.directory) (file_in tree target) ≡ false
   link_test =
-      let below = passed (goes_below_itself tree number node target) _ _ d.tested in
+      let below = passed (goes_below_itself tree (number, node) target.number) _ _ d.tested in
       let sort = passed (is_other_sort node (file_in tree target)) _ _ below.1 in
       let filled = passed (is_found_filled (file_in tree target)) _ _ sort.1 in
-      (passed (has_no_link node source target (file_in tree target)) _ _ filled.1).0
+      (passed (has_no_link node source.number (target.number, target.directory) (file_in tree target)) _ _ filled.1).0
 
   number_is_some : 0 < number
   number_is_some = (good.files number node named.stands).least
@@ -354,8 +354,8 @@ module _ (tree : Tree) (good : Sound tree) (moment : Moment) (soon : SoundTime m
   room_for_link : file_in tree target ≡ None → target.number ≢ source.number → is_directory node.body ≡ true
       → is_full target.directory ≡ false
   room_for_link none apart dir =
-      let test : has_no_link node source target None ≡ false =
-      ap (has_no_link node source target) (sym none) ∙ link_test in
+      let test : has_no_link node source.number (target.number, target.directory) None ≡ false =
+      ap (has_no_link node source.number (target.number, target.directory)) (sym none) ∙ link_test in
       third (is_directory node.body) (nat_eq source.number target.number) (is_full target.directory) test dir
       (unequal source.number target.number (λ same. apart (sym same)))
 

@@ -13,7 +13,8 @@ use Rattle.procedures.specs.Rename.{file_in, places_refusal}
 use Rattle.files.specs.declared.head.Head.{Head}
 use Rattle.files.specs.Heads.{IsFileIn, IsFound, bare, barely, first_of, node_of}
 use Rattle.files.proofs.KindsAgree.{kinds_agree}
-use Rattle.procs_renaming.specs.Moves.{path_tests, place_of, right_tests}
+use Rattle.procs_renaming.specs.Moves.{place_of}
+use Rattle.procedures.specs.Rename.{path_tests, right_tests}
 
 joined_one : (b : Bool) (why : Status) (rest other : List (Bool × Status))
     → first_of_tests (rest ++ other) ≡ first_of (first_of_tests rest) (first_of_tests other)

@@ -4,7 +4,8 @@ ghost use Rattle.model.specs.Node.{Body};
 ghost use Rattle.model.specs.SetAttr.{first_of_tests};
 ghost use Rattle.model.specs.Tree.{Tree};
 ghost use Rattle.files.specs.Heads.{IsFileIn, bare, barely, first_of};
-ghost use Rattle.procs_renaming.specs.Moves.{IsSoughtFile, path_tests, place_of, right_tests};
+ghost use Rattle.procs_renaming.specs.Moves.{IsSoughtFile, place_of};
+ghost use Rattle.procedures.specs.Rename.{path_tests, right_tests};
 
 use files::{Files, Head, first_of, is_no_name, is_own_name, may_change, named_file};
 use limits::NAME_BYTES;

@@ -8,7 +8,7 @@ ghost use Rattle.model.specs.Tree.{Tree};
 ghost use Rattle.procedures.specs.Rename.{is_other_sort, is_within};
 ghost use Rattle.procedures.specs.RmDir.{is_found_filled};
 ghost use Rattle.files.specs.Heads.{IsFileIn, IsFound, bare, barely, node_of};
-ghost use Rattle.procs_renaming.specs.Moves.{has_no_link, move_tests};
+ghost use Rattle.procedures.specs.Rename.{has_no_link, move_tests};
 
 use crate::ancestors::is_within;
 use files::{ChangingFiles, Files, Head};

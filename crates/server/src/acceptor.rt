@@ -2,11 +2,11 @@
 ghost use Rattle.std.specs.Thread.{IsSend, IsSync};
 
 use crate::reader::read_all;
+use crate::state::ServerState;
+use disk::{Port, Source};
 use limits::{
     ACCEPT_SLEEP_MILLISECONDS, IDLE_SECONDS, MOST_CONNECTIONS, SILENT_SECONDS, WRITE_SECONDS,
 };
-use crate::state::ServerState;
-use disk::{Port, Source};
 use pool::{ConnectionKey, Connections, Whole};
 use server_parts::{Silent, steady_second};
 use server_replies::{Connection, Incoming};

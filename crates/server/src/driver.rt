@@ -1,10 +1,10 @@
 //! Driving a seat: locked steps and reads by turns.
 use crate::batch::Batch;
+use crate::state::{ServerState, is_crowded};
+use disk::{Port, Source};
 use limits::{
     BATCH_CALLS, FIRST_SLEEP_MICROSECONDS, FULL_MILLISECONDS, LONGEST_SLEEP_MICROSECONDS, YIELDS,
 };
-use crate::state::{ServerState, is_crowded};
-use disk::{Port, Source};
 use pool::{Answer, Job, Look, NoGate, Seat, Told, Turn, Whole, worker_io};
 use server_parts::{Parked, SeatKey};
 use std::sync::Wait;

@@ -1,7 +1,7 @@
 //! The thread that brings settled changes home.
-use limits::INSTALL_MILLISECONDS;
 use crate::state::ServerState;
 use disk::Port;
+use limits::INSTALL_MILLISECONDS;
 use pool::{Gate, Point, Turn, Whole, installer_io};
 use server_parts::Notice;
 use std::sync::Wait;

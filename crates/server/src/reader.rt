@@ -1,9 +1,9 @@
 //! The thread that reads a connection.
 use crate::batch::Batch;
 use crate::driver::{Seen, drive_batch, see_through, wait_while_crowded};
-use limits::{MOST_WAITING_BYTES, REPLY_BATCH_BYTES, STREAM_PIECE_BYTES};
 use crate::state::ServerState;
 use disk::{Port, Source};
+use limits::{MOST_WAITING_BYTES, REPLY_BATCH_BYTES, STREAM_PIECE_BYTES};
 use pool::{Answer, ConnectionKey, Put, Received, ReplyBytes, Stream, Whole};
 use server_parts::SeatKey;
 use server_replies::Connection;

@@ -2,8 +2,8 @@
 ghost use Rattle.model.specs.Sound.{SoundTime};
 
 use crate::jobs::Jobs;
-use limits::{CROWDING_COMMITS, URGENT_COMMITS};
 use disk::Port;
+use limits::{CROWDING_COMMITS, URGENT_COMMITS};
 use nfs_types::Moment;
 use pool::{Answer, Connections, IoSeat, Look, Pool, Put, ReplyBytes, Seat, Shared, Whole};
 use server_parts::{FreeSeats, Moments, Notifier, Parking, Rounds, Seats, moment_of};

@@ -3,6 +3,7 @@
 use crate::tests::served::INODES;
 use nfs_types::{Call, Credential, Ctx, ProgramCall, Reply};
 use plain_server::PlainTree;
+use plain_steps::answer;
 use session_wire::{Judged, judge};
 use std::alloc::{AllocError, Global};
 use std::test::Fail;
@@ -46,10 +47,13 @@ pub fn plain_reply_to(
         boot,
         transaction: 1,
     };
-    let served = plain_server::serve(tree, &ctx, &call);
+    let answered = answer(alloc, tree, &ctx, &call);
     drop(ctx);
     drop(call);
-    Ok(served?)
+    match answered? {
+        Some(reply) => Ok(reply),
+        None => Err(Fail::from("the call of NULL")),
+    }
 }
 
 /// The tree of a fresh image after this message.

@@ -1,4 +1,4 @@
-//! With ample memory nothing is refused for want of it, at sizes far past the smallest, and 128 blocks stay in memory
+//! With ample memory nothing is refused for want of it, at sizes far past the smallest, and 256 blocks stay in memory
 //! that nobody needs.
 
 use crate::tests::bench::{Bench, Ended, Seen, Step};
@@ -10,9 +10,9 @@ use txn::Change;
 use wal::Seq;
 
 // Steps that read so many whole blocks, each until it is held.
-fn reads(alloc: Global, count: u8) -> Result<Vec<Step>, AllocError> {
+fn reads(alloc: Global, count: u32) -> Result<Vec<Step>, AllocError> {
     let mut steps = Vec::new(alloc);
-    for index in 0..u32::from(count) {
+    for index in 0..count {
         steps.push(Step::Read(At::Whole(index)))?;
     }
     Ok(steps)
@@ -30,13 +30,13 @@ fn many_blocks_are_held_at_once(rt: HostRuntime) -> Result<(), Fail> {
 #[test]
 fn the_blocks_that_were_needed_last_stay(rt: HostRuntime) -> Result<(), Fail> {
     let mut bench = Bench::new(rt.alloc(), 0, &[])?;
-    let steps = reads(rt.alloc(), 200)?;
-    let zeros = vec![in rt.alloc(); Seen::Bytes(0); 200]?;
+    let steps = reads(rt.alloc(), 300)?;
+    let zeros = vec![in rt.alloc(); Seen::Bytes(0); 300]?;
     assert!(rt; bench.sees(1, steps.as_slice(), zeros.as_slice()));
     let later = [
-        Step::Want(At::Whole(199)),
-        Step::Want(At::Whole(72)),
-        Step::Want(At::Whole(71)),
+        Step::Want(At::Whole(299)),
+        Step::Want(At::Whole(44)),
+        Step::Want(At::Whole(43)),
     ];
     assert!(rt; bench.sees(2, &later, &[Seen::Bytes(0), Seen::Bytes(0), Seen::Fetched]));
     Ok(())

@@ -1,7 +1,7 @@
-use Rattle.std.proofs.Common.{Some, arith}
+use Rattle.std.proofs.Common.{Some, arith, rules}
 use Rattle.layout.specs.Parts.{content_in}
 use Rattle.dir.proofs.FoundIn.{is_found}
-use Rattle.dir.proofs.Passed.{ok_more}
+use Rattle.dir.proofs.Passed.{at_err, ok_more}
 use Rattle.dir.proofs.SlotBlocks.{of_directory}
 use Rattle.dir.proofs.finding.find.Goals as goal
 
@@ -25,3 +25,10 @@ returns-clause-ok c =
     is_found snap.geometry (content_in snap.geometry blocks) c.args.inode.now c.args.name.now found
     (of_directory snap blocks tree file c.args.inode.now directory) (is blocks tree file directory))
     c.find_among.ensures.ok
+
+pub returns-in_err-place-clause-asks : goal.returns-in_err-place-clause-asks
+returns-in_err-place-clause-asks c =
+    let spans = c.in-Some.ensures.some in
+    let below = c.if-index-span.true in
+    at_err c.from_residual.result c.in_err-place.field-0.0 _ (search rules)
+    (c.in_err-place.ensures.asks (omega (arith, spans, below)))

@@ -3,6 +3,8 @@ use Rattle.limits.specs.declared.TheConstants.{SLOTS_PER_BLOCK}
 use Rattle.layout.specs.Decode.{span_of}
 use Rattle.layout.specs.Parts.{content_in}
 use Rattle.dir.specs.Slots.{slot_at}
+use Rattle.dir.specs.Asked.{LackBefore}
+use Rattle.dir.proofs.Needed.{behind}
 use Rattle.dir.proofs.Passed.{at_err}
 use Rattle.dir.proofs.FoundIn.{found_within, none_more}
 use Rattle.dir.proofs.finding.find_among.Goals as goal
@@ -40,3 +42,12 @@ returns-in_err-place-clause-pause c =
     let below = c.indexes-test.true in
     at_err c.from_residual.result c.in_err-place.field-0.0 _ (search rules) (λ blocks tree file is.
     c.in_err-place.ensures.pause blocks tree file is (omega (arith, spans, below)))
+
+pub returns-in_err-place-clause-asks : goal.returns-in_err-place-clause-asks
+returns-in_err-place-clause-asks c =
+    let spans = c.requires.spans in
+    let below = c.indexes-test.true in
+    at_err c.from_residual.result c.in_err-place.field-0.0 _ (search rules)
+    (behind (LackBefore c.args.name.now) c.args.snap.now c.args.inode.now c.indexes.index (omega (arith, spans, below))
+    (λ blocks tree file is slot number low less. c.indexes.invariant blocks tree file is slot number (omega arith) less)
+    c.in_err-place.field-0.0 c.in_err-place.ensures.asks)

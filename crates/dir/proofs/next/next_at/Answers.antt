@@ -1,8 +1,10 @@
-use Rattle.std.proofs.Common.{◌*◌, ◌+◌, arith}
+use Rattle.std.proofs.Common.{rules, ◌*◌, ◌+◌, arith}
 use Rattle.limits.specs.declared.TheConstants.{SLOTS_PER_BLOCK}
 use Rattle.layout.specs.Parts.{content_in}
 use Rattle.dir.specs.Slots.{block_slot, slot_at}
 use Rattle.dir.proofs.Moved.{moved_next}
+use Rattle.dir.proofs.Needed.{still_needed}
+use Rattle.dir.proofs.Passed.{at_err}
 use Rattle.dir.proofs.SlotBlocks.{no_fault_there}
 use Rattle.dir.proofs.next.next_at.Goals as goal
 
@@ -20,3 +22,8 @@ returns-in-Err-clause-pause c = λ blocks tree file is less.
     no_fault_there c.args.snap.now blocks tree file c.args.inode.now c.args.index c.args.from
     c.in_ok-block.block.now is less (c.in_ok-block.ensures.ok blocks tree file is less) c.requires.from
     (rw c.in-Err.is at c.in_ok-found.ensures.err)
+
+pub returns-in_err-block-clause-asks : goal.returns-in_err-block-clause-asks
+returns-in_err-block-clause-asks c =
+    at_err c.from_residual.result c.in_err-block.field-0.0 _ (search rules)
+    (still_needed c.args.snap.now c.args.inode.now c.args.index c.in_err-block.field-0.0 c.in_err-block.ensures.asks)

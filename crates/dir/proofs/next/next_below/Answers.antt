@@ -1,7 +1,9 @@
-use Rattle.std.proofs.Common.{rules, ◌*◌, ◌+◌, arith}
+use Rattle.std.proofs.Common.{rules, ◌/◌, ◌≤◌, ◌*◌, ◌+◌, arith}
 use Rattle.limits.specs.declared.TheConstants.{SLOTS_PER_BLOCK}
 use Rattle.layout.specs.Parts.{content_in}
 use Rattle.dir.specs.Slots.{slot_at}
+use Rattle.dir.specs.Asked.{FreeBefore}
+use Rattle.dir.proofs.Needed.{may_behind}
 use Rattle.dir.proofs.Passed.{at_err}
 use Rattle.dir.proofs.Moved.{first_next, free_more}
 use Rattle.dir.proofs.next.next_below.Goals as goal
@@ -44,3 +46,13 @@ returns-in_err-named-clause-pause c =
     let below = c.indexes-test.true in
     at_err c.from_residual.result c.in_err-named.field-0.0 _ (search rules) (λ blocks tree file is.
     c.in_err-named.ensures.pause blocks tree file is (omega (arith, spans, below)))
+
+pub returns-in_err-named-clause-asks : goal.returns-in_err-named-clause-asks
+returns-in_err-named-clause-asks c =
+    let spans = c.requires.spans in
+    let below = c.indexes-test.true in
+    let past : c.args.from / SLOTS_PER_BLOCK ≤ c.indexes.index = search rules in
+    at_err c.from_residual.result c.in_err-named.field-0.0 _ (search rules)
+    (may_behind (FreeBefore c.args.from) c.args.snap.now c.args.inode.now c.indexes.index (omega (arith, spans, below))
+    (λ blocks tree file is. (past, c.indexes.invariant blocks tree file is)) c.in_err-named.field-0.0
+    c.in_err-named.ensures.asks)

@@ -4,6 +4,8 @@ use Rattle.layout.specs.Decode.{entries_in}
 use Rattle.layout.specs.Parts.{content_in}
 use Rattle.dir.proofs.FoundIn.{is_found}
 use Rattle.dir.proofs.Grown.{known_none, known_some}
+use Rattle.std.proofs.lemmas.Result.{IfErr-weaker}
+use Rattle.dir.proofs.Needed.{known_anew, known_next}
 use Rattle.dir.proofs.Passed.{ok_more}
 use Rattle.dir.proofs.SlotBlocks.{of_directory}
 use Rattle.dir.proofs.sought.find_known.Goals as goal
@@ -38,3 +40,16 @@ returns-in-Ok-clause-ok c =
     told blocks tree c.args.sought.now.directory directory
     ∙ ap (λ (name : List ℕ). get (entries_in snap.geometry.inodes (content_in snap.geometry blocks) c.args.inode.now)
     name) c.as_slice.ensures) c.find.ensures.ok
+
+pub returns-in-Ok-clause-asks : goal.returns-in-Ok-clause-asks
+returns-in-Ok-clause-asks c =
+    IfErr-weaker c.find.result _ _
+    (known_anew c.args.snap.now c.args.inode.now c.args.sought.now c.as_slice.result.now c.as_slice.ensures)
+    c.find.ensures.asks
+
+pub returns-in-Err-clause-asks : goal.returns-in-Err-clause-asks
+returns-in-Err-clause-asks c =
+    let spans = c.in-Some.ensures.some in
+    let more = c.if-sought-span.false in
+    known_next c.args.snap.now c.args.inode.now c.args.sought.now c.in_default-found.is (omega (arith, spans, more))
+    c.in-Err.stop c.in-Err.ensures.asks

@@ -1,7 +1,8 @@
 use Rattle.std.proofs.Common.{rules, ◌≡◌, true, false, sym, ◌∙◌, nat_eq}
-use Rattle.std.proofs.lemmas.Result.{IfOk-weaker}
+use Rattle.std.proofs.lemmas.Result.{IfErr-weaker, IfOk-weaker}
 use Rattle.layout.specs.Places.{is_data}
 use Rattle.inode.proofs.InodeThere.{data_of}
+use Rattle.inode.proofs.Needed.{indirect_at, mapped_at}
 use Rattle.dir.proofs.Passed.{at_err}
 use Rattle.dir.proofs.SlotBlocks.{slot_there, some_there}
 use Rattle.dir.proofs.span.directory_block.Goals as goal
@@ -29,3 +30,23 @@ pub returns-in_err-number-clause-pause : goal.returns-in_err-number-clause-pause
 returns-in_err-number-clause-pause c =
     at_err c.from_residual.result c.in_err-number.field-0.0 _ (search rules) (λ blocks tree file is less.
     c.in_err-number.ensures.pause blocks tree file is.has)
+
+pub returns-in_err-number-clause-asks : goal.returns-in_err-number-clause-asks
+returns-in_err-number-clause-asks c =
+    at_err c.from_residual.result c.in_err-number.field-0.0 _ (search rules)
+    (indirect_at c.args.snap.now c.args.inode.now c.args.index c.in_err-number.field-0.0 c.in_err-number.ensures.asks)
+
+pub returns-clause-asks : goal.returns-clause-asks
+returns-clause-asks c =
+    IfErr-weaker c.data_block.result _ _
+    (mapped_at c.args.snap.now c.args.inode.now c.args.index c.in_ok-number.number c.in_ok-number.ensures.read)
+    c.data_block.ensures.asks
+
+pub returns-clause-read : goal.returns-clause-read
+returns-clause-read c =
+    IfOk-weaker c.data_block.result _ _ (λ block read. record {
+      number = c.in_ok-number.number;
+      at = c.in_ok-number.ensures.read;
+      bytes = block.now;
+      read = read;
+    }) c.data_block.ensures.read

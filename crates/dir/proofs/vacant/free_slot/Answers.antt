@@ -3,6 +3,8 @@ use Rattle.limits.specs.declared.TheConstants.{SLOTS_PER_BLOCK}
 use Rattle.layout.specs.Decode.{span_of}
 use Rattle.layout.specs.Parts.{content_in}
 use Rattle.dir.specs.Slots.{slot_at}
+use Rattle.dir.specs.Asked.{TakenBefore}
+use Rattle.dir.proofs.Needed.{behind}
 use Rattle.dir.proofs.Passed.{at_err}
 use Rattle.dir.proofs.SlotBlocks.{none_refused, of_directory, small}
 use Rattle.dir.proofs.VacantIn.{first_more, least_behind, least_within, no_least, none_more}
@@ -65,3 +67,11 @@ returns-in_err-slot-clause-pause c =
     let below = c.indexes-test.true in
     at_err c.from_residual.result c.in_err-slot.field-0.0 _ (search rules) (λ blocks tree file is.
     c.in_err-slot.ensures.pause blocks tree file is (omega (arith, spans, below)))
+
+pub returns-in_err-slot-clause-asks : goal.returns-in_err-slot-clause-asks
+returns-in_err-slot-clause-asks c =
+    let spans = c.in-Some.ensures.some in
+    let below = c.indexes-test.true in
+    at_err c.from_residual.result c.in_err-slot.field-0.0 _ (search rules)
+    (behind TakenBefore c.args.snap.now c.args.inode.now c.indexes.index (omega (arith, spans, below))
+    c.indexes.invariant c.in_err-slot.field-0.0 c.in_err-slot.ensures.asks)

@@ -1,5 +1,9 @@
-use Rattle.std.proofs.Common.{◌≡◌, ℕ, ◌-◌, take, drop, ap, ◌∙◌, arith}
+use Rattle.std.proofs.Common.{◌/◌, rules, ◌≡◌, ℕ, ◌-◌, take, drop, ap, ◌∙◌, arith}
 use Rattle.inode.specs.Over.{all_bytes}
+use Rattle.limits.specs.declared.TheConstants.{BLOCK_BYTES}
+use Rattle.inode.specs.Asked.{IsNeededBetween}
+use Rattle.inode.proofs.Needed.{may_between, may_indirect_at, may_mapped_at}
+use Rattle.inode.proofs.Stops.{at_err, stop_may}
 use Rattle.inode.proofs.Pieces.{grown, next_piece}
 use Rattle.inode.proofs.bytes.bytes_between.Goals as goal
 
@@ -29,3 +33,30 @@ returns-clause-ok c = λ blocks tree file has.
     c.pieces.invariant.2 blocks tree file has
     ∙ ap (λ (at : ℕ). take (at - c.args.start) (drop c.args.start
     (all_bytes c.args.snap.now.geometry blocks c.args.inode.now))) end
+
+pub returns-in_err-ask_between-clause-asks : goal.returns-in_err-ask_between-clause-asks
+returns-in_err-ask_between-clause-asks c =
+    at_err c.from_residual.result c.in_err-ask_between.field-0.0 _ (search rules)
+    (stop_may (IsNeededBetween c.args.snap.now c.args.inode.now c.args.start c.args.end)
+    (IsNeededBetween c.args.snap.now c.args.inode.now c.args.start c.args.end) (λ addr needed. needed)
+    c.in_err-ask_between.field-0.0 c.in_err-ask_between.ensures.asks)
+
+pub returns-in_err-number-clause-asks : goal.returns-in_err-number-clause-asks
+returns-in_err-number-clause-asks c =
+    let from = c.pieces.invariant.0 in
+    let below = c.pieces-test.true in
+    at_err c.from_residual-in_err-number.result c.in_err-number.field-0.0 _ (search rules)
+    (may_between c.args.snap.now c.args.inode.now (c.pieces.at / BLOCK_BYTES) c.args.start c.args.end
+    (omega (arith, from)) (omega (arith, below)) c.in_err-number.field-0.0
+    (may_indirect_at c.args.snap.now c.args.inode.now (c.pieces.at / BLOCK_BYTES) c.in_err-number.field-0.0
+    c.in_err-number.ensures.asks))
+
+pub returns-in_err-add_piece-clause-asks : goal.returns-in_err-add_piece-clause-asks
+returns-in_err-add_piece-clause-asks c =
+    let from = c.pieces.invariant.0 in
+    let below = c.pieces-test.true in
+    at_err c.from_residual-in_err-add_piece.result c.in_err-add_piece.field-0.0 _ (search rules)
+    (may_between c.args.snap.now c.args.inode.now (c.pieces.at / BLOCK_BYTES) c.args.start c.args.end
+    (omega (arith, from)) (omega (arith, below)) c.in_err-add_piece.field-0.0
+    (may_mapped_at c.args.snap.now c.args.inode.now (c.pieces.at / BLOCK_BYTES) c.in_ok-number.number
+    c.in_ok-number.ensures.read c.in_err-add_piece.field-0.0 c.in_err-add_piece.ensures.asks))

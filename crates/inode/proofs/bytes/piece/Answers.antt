@@ -1,6 +1,7 @@
-use Rattle.std.proofs.Common.{◌∙◌, arith}
+use Rattle.std.proofs.Common.{◌+◌, ◌∙◌, min, arith}
 use Rattle.std.proofs.lemmas.Result.{IfErr-weaker, IfOk-weaker}
 use Rattle.inode.specs.Over.{all_bytes}
+use Rattle.inode.proofs.Needed.{may_within}
 use Rattle.inode.proofs.Pieces.{all_that_is_left, as_many_as_asked, regular_small}
 use Rattle.inode.proofs.bytes.piece.Goals as goal
 
@@ -40,3 +41,21 @@ returns-else-rest-count-clause-pause c =
     IfErr-weaker c.bytes_between-else-rest-count.result _ _
     (λ stop pause blocks tree file has kind. pause blocks tree file has)
     c.bytes_between-else-rest-count.ensures.pause
+
+pub returns-then-rest-count-clause-asks : goal.returns-then-rest-count-clause-asks
+returns-then-rest-count-clause-asks c =
+    let inside = c.if-offset-inode.false in
+    let few = c.if-rest-count.true in
+    IfErr-weaker c.bytes_between.result _ _
+    (may_within c.args.snap.now c.args.inode.now c.args.offset c.args.inode.now.size
+    (min c.args.inode.now.size (c.args.offset + c.args.count)) (omega (arith, inside, few)))
+    c.bytes_between.ensures.asks
+
+pub returns-else-rest-count-clause-asks : goal.returns-else-rest-count-clause-asks
+returns-else-rest-count-clause-asks c =
+    let inside = c.if-offset-inode.false in
+    let many = c.if-rest-count.false in
+    IfErr-weaker c.bytes_between-else-rest-count.result _ _
+    (may_within c.args.snap.now c.args.inode.now c.args.offset (c.args.offset + c.args.count)
+    (min c.args.inode.now.size (c.args.offset + c.args.count)) (omega (arith, inside, many)))
+    c.bytes_between-else-rest-count.ensures.asks

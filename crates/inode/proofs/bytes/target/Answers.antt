@@ -1,5 +1,6 @@
 use Rattle.std.proofs.Common.{◌∙◌, arith}
-use Rattle.std.proofs.lemmas.Result.{IfOk-weaker}
+use Rattle.std.proofs.lemmas.Result.{IfErr-weaker, IfOk-weaker}
+use Rattle.inode.proofs.Needed.{may_mapped_at}
 use Rattle.inode.proofs.Pieces.{first_block, link_small}
 use Rattle.inode.proofs.bytes.target.Goals as goal
 
@@ -19,3 +20,8 @@ returns-in-Ok-clause-ok c =
 
 pub returns-in-Err-clause-pause : goal.returns-in-Err-clause-pause
 returns-in-Err-clause-pause c = λ blocks tree file has kind. c.in-Err.ensures.pause blocks tree file has
+
+pub returns-in-Ok-clause-asks : goal.returns-in-Ok-clause-asks
+returns-in-Ok-clause-asks c =
+    IfErr-weaker c.first_bytes.result _ _
+    (may_mapped_at c.args.snap.now c.args.inode.now 0 c.in-Ok.number c.in-Ok.ensures.read) c.first_bytes.ensures.asks

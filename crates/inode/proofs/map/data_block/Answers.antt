@@ -2,7 +2,7 @@ use Rattle.std.proofs.Common.{ap}
 use Rattle.std.proofs.lemmas.Result.{IfErr-weaker, IfOk-weaker}
 use Rattle.disk.specs.declared.block.BlockNo.{BlockNo}
 use Rattle.inode.proofs.Placed.{content_there}
-use Rattle.inode.proofs.Stops.{block_pause, block_stop, both_err}
+use Rattle.inode.proofs.Stops.{block_asked, block_pause, block_stop, both_err}
 use Rattle.inode.proofs.map.data_block.Goals as goal
 
 pub returns-clause-ok : goal.returns-clause-ok
@@ -22,3 +22,24 @@ returns-clause-err c =
 pub returns-clause-pause : goal.returns-clause-pause
 returns-clause-pause c =
     IfErr-weaker c.bytes_at.result _ _ (λ why e. block_pause c.whole.result c.args.snap.now.asks why e) c.bytes_at.ensures.need
+
+pub returns-clause-asks : goal.returns-clause-asks
+returns-clause-asks c =
+    IfErr-weaker c.bytes_at.result _ _ (λ why e.
+    block_asked c.args.number c.whole.result c.args.snap.now.asks why (record {
+      block = ap (λ (b : BlockNo). b.0) c.whole.ensures.value.0;
+      offset = c.whole.ensures.value.1;
+      len = c.whole.ensures.value.2;
+    }) e) c.bytes_at.ensures.need
+
+pub returns-clause-read : goal.returns-clause-read
+returns-clause-read c =
+    IfOk-weaker c.bytes_at.result _ _ (λ bytes read. record {
+      addr = c.whole.result;
+      at = record {
+        block = ap (λ (b : BlockNo). b.0) c.whole.ensures.value.0;
+        offset = c.whole.ensures.value.1;
+        len = c.whole.ensures.value.2;
+      };
+      read = read;
+    }) c.bytes_at.ensures.read

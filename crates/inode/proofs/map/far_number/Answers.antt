@@ -1,5 +1,6 @@
-use Rattle.std.proofs.Common.{rules, ◌∙◌}
+use Rattle.std.proofs.Common.{refl, rules, ◌∙◌}
 use Rattle.layout.specs.Parts.{content_in}
+use Rattle.inode.specs.Asked.IsFarNumber.{named, none}
 use Rattle.inode.proofs.HeldThere.{no_data}
 use Rattle.inode.proofs.Placed.{none_far, some_far}
 use Rattle.inode.proofs.map.far_number.Goals as goal
@@ -19,3 +20,9 @@ returns-clause-ok c = λ blocks tree over.
     c.at.ensures
     ∙ some_far (content_in c.args.snap.now.geometry blocks) c.args.indirect c.args.index c.in_ok-bytes.bytes.now
     (let h = c.if-indirect-eq0.false in search rules) (c.in_ok-bytes.ensures.ok blocks tree over)
+
+pub returns-then-indirect-eq0-clause-read : goal.returns-then-indirect-eq0-clause-read
+returns-then-indirect-eq0-clause-read c = none c.if-indirect-eq0.true refl
+
+pub returns-clause-read : goal.returns-clause-read
+returns-clause-read c = named c.in_ok-bytes.bytes.now c.in_ok-bytes.ensures.read c.at.ensures

@@ -1,7 +1,10 @@
-use Rattle.std.proofs.Common.{rules, ◌∙◌}
-use Rattle.std.proofs.lemmas.Result.{IfOk-weaker}
+use Rattle.std.proofs.Common.{refl, rules, ◌∙◌}
+use Rattle.std.proofs.lemmas.Result.{IfErr-weaker, IfOk-weaker}
+use Rattle.inode.specs.Asked.{IsBlockAddr, IsIndirectFor}
+use Rattle.inode.specs.Asked.IsNumberAt.{direct as direct_number, far as named_far}
 use Rattle.inode.proofs.Pieces.{direct}
 use Rattle.inode.proofs.Placed.{direct_at, far_there}
+use Rattle.inode.proofs.Stops.{stop_more}
 use Rattle.inode.proofs.map.named_number.Goals as goal
 
 pub returns-then-index-lt-DIRECT_INDEXES-clause-ok : goal.returns-then-index-lt-DIRECT_INDEXES-clause-ok
@@ -15,3 +18,16 @@ returns-clause-ok c =
     is blocks tree has.over
     ∙ far_there c.args.snap.now.geometry blocks c.args.inode.now c.args.index
     (direct c.args.snap.now blocks tree file c.args.inode.now has) (search rules)) c.far_number.ensures.ok
+
+pub returns-then-index-lt-DIRECT_INDEXES-clause-read : goal.returns-then-index-lt-DIRECT_INDEXES-clause-read
+returns-then-index-lt-DIRECT_INDEXES-clause-read c = direct_number (search rules) refl
+
+pub returns-clause-read : goal.returns-clause-read
+returns-clause-read c =
+    IfOk-weaker c.far_number.result _ _ (λ number far. named_far (search rules) far) c.far_number.ensures.read
+
+pub returns-clause-asks : goal.returns-clause-asks
+returns-clause-asks c =
+    IfErr-weaker c.far_number.result _ _
+    (stop_more (IsBlockAddr c.args.inode.now.indirect) (IsIndirectFor c.args.inode.now c.args.index)
+    (λ addr at. record { far = search rules; at = at })) c.far_number.ensures.asks

@@ -10,7 +10,7 @@ use Rattle.files.specs.Heads.{node_of}
 use Rattle.procs_making.proofs.MadeDirectories.{can_make_directory}
 use Rattle.procs_making.proofs.Refused.{not_refused, refused_first, refused_then}
 use Rattle.procs_making.specs.Making.{CanMake, IsMade}
-use Rattle.procs_making.specs.Tests.{mkdir_tests}
+use Rattle.procedures.specs.MkDir.{mkdir_tests}
 use Rattle.procs_making.proofs.directories.make_directory_in.Goals as goal
 
 pub returns-in-Err-clause-ok : goal.returns-in-Err-clause-ok

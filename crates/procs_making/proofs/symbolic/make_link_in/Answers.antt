@@ -9,7 +9,7 @@ use Rattle.files.specs.Heads.{node_of}
 use Rattle.procs_making.proofs.MadeLinks.{can_make_link}
 use Rattle.procs_making.proofs.Refused.{not_refused, refused_first, refused_then}
 use Rattle.procs_making.specs.Making.{CanMake, IsMade}
-use Rattle.procs_making.specs.Tests.{symlink_tests}
+use Rattle.procedures.specs.SymLink.{symlink_tests}
 use Rattle.procs_making.proofs.symbolic.make_link_in.Goals as goal
 
 pub returns-in-Err-clause-ok : goal.returns-in-Err-clause-ok

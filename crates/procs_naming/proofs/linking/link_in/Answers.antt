@@ -8,7 +8,7 @@ use Rattle.procedures.specs.Places.{named_file}
 use Rattle.files.specs.Heads.{IsFileIn, node_of}
 use Rattle.procs_naming.proofs.Linked.{can_be_entered, can_be_linked, link_cramped, link_done, link_refused}
 use Rattle.procs_naming.proofs.Linked.{link_stopped}
-use Rattle.procs_naming.specs.Tests.{link_tests}
+use Rattle.procedures.specs.Link.{link_tests}
 use Rattle.procs_naming.proofs.linking.link_in.Goals as goal
 
 pub returns-in-Err-clause-ok : goal.returns-in-Err-clause-ok

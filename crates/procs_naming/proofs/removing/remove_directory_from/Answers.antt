@@ -4,7 +4,7 @@ use Rattle.model.specs.Sound.{Sound, SoundCtx}
 use Rattle.model.specs.Tree.{Tree}
 use Rattle.files.specs.Heads.{IsFileIn}
 use Rattle.procs_naming.proofs.Removed.{can_be_taken, stopped_first, stopped_then, taken, there}
-use Rattle.procs_naming.specs.Tests.{rmdir_tests}
+use Rattle.procedures.specs.RmDir.{rmdir_tests}
 use Rattle.procs_naming.proofs.removing.remove_directory_from.Goals as goal
 
 pub returns-in-Err-clause-ok : goal.returns-in-Err-clause-ok

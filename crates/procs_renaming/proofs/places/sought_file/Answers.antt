@@ -4,7 +4,7 @@ use Rattle.model.specs.SetAttr.{first_of_tests}
 use Rattle.procedures.specs.FirstTests.{may_change}
 use Rattle.procedures.specs.Places.{is_own_name}
 use Rattle.files.specs.Heads.{bare, barely, first_of}
-use Rattle.procs_renaming.specs.Moves.{path_tests, right_tests}
+use Rattle.procedures.specs.Rename.{path_tests, right_tests}
 use Rattle.procs_renaming.proofs.Sought.{places_agree, some_there}
 use Rattle.procs_renaming.proofs.places.sought_file.Goals as goal
 
