@@ -55,12 +55,15 @@ impl<'a> Draft<'a> {
         ensures is { IfOk result (λ draft. (blocks : Image) (tree : Tree)
             → Holds seen.now.geometry blocks tree → Saw blocks seen.now → IsDraft draft blocks tree) }
     {
+        let objects = on_grid(&seen.geometry, &seen.objects)?;
+        let alone = seen.alone.clone()?;
+        let claims = seen.claims.clone()?;
         let there = Snap {
             geometry: seen.geometry,
             asks: seen.asks,
-            objects: on_grid(&seen.geometry, &seen.objects)?,
-            alone: seen.alone.clone()?,
-            claims: seen.claims.clone()?,
+            objects,
+            alone,
+            claims,
             from: seen.from,
             index: None,
         };
