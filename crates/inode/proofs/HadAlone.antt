@@ -1,7 +1,8 @@
 -- What was asked for alone, and what is had in a mode.
 use Rattle.std.proofs.Common.{◌≡◌, refl, sym, ap, ◌∙◌, subst, ℕ, Bool, true, false, ◌||◌, ◌&&◌, if◌then◌else◌}
 use Rattle.std.proofs.Common.{◌⊎◌, inl, inr, List, [], ◌∷◌, ◌++◌, nat_eq, arith}
-use Rattle.std.proofs.lemmas.List.Folds.{list_any-append}
+use Rattle.std.specs.Prelude.{Contains}
+use Rattle.std.proofs.lemmas.List.Folds.{list_any-append, list_any_at}
 use Rattle.std.proofs.lemmas.Bool.Decides.{nat_tests}
 use Rattle.objects.specs.declared.addr.Addr.{Addr}
 use Rattle.objects.specs.declared.mode.Mode.{Mode}
@@ -39,6 +40,13 @@ one_addr a b is =
 
 pub itself : (a : Addr) → same_addr a a ≡ true
 itself a = λ i. equal a.block.0 a.block.0 refl i && equal a.offset a.offset refl i && equal a.len a.len refl i
+
+-- an address is that of an object that was read
+pub seen_by : (addr : Addr) (object : ObjectBytes) (objects : List ObjectBytes) → Contains objects object
+    → same_addr addr object.addr ≡ true → is_seen addr objects ≡ true
+seen_by addr object objects there is =
+    list_any_at (λ (one : ObjectBytes). same_addr addr one.addr) objects there.0 object there.1
+    (ap (λ (one : ObjectBytes). same_addr addr one.addr) there.2 ∙ is)
 
 -- ---- one more was read
 

@@ -78,7 +78,7 @@ impl Snap {
         ensures from { self.new.from ≡ self.old.from }
     {
         note(&mut self.alone, addr, mode);
-        if self.get(addr).is_some() {
+        if self.has_read(addr) {
             return;
         }
         self.push(addr, bytes);
@@ -128,11 +128,21 @@ impl Snap {
         self.claims.iter().any(|claim| block.0 == claim.0)
     }
 
+    // Whether an object of this address was read.
+    fn has_read(&self, addr: Addr) -> bool
+        ensures { result ≡ is_seen addr self.now.objects.items }
+    {
+        match self.get(addr) {
+            Some(_) => true,
+            None => false,
+        }
+    }
+
     /// Whether an object of this address was read, and was asked for alone.
     pub fn has_alone(&self, addr: Addr) -> bool
         ensures { result ≡ is_had addr modes.Exclusive self.now.objects.items self.now.alone.items }
     {
-        self.get(addr).is_some() && is_among(addr, &self.alone)
+        self.has_read(addr) && is_among(addr, &self.alone)
     }
 
     /// The object of an address, if it was read.
