@@ -97,11 +97,11 @@ some_hold a b same = ap (λ (o : Option Hold). elim o [ None ↦ a | Some one �
 pub among_so : (P : Addr → Type 0) (addr : Addr) (addrs : List Addr) → All P addrs → is_among addr addrs ≡ true
     → P addr
 among_so P addr [] all none = absurd (true≢false (sym none))
-among_so P addr (a ∷ as) all some = by (among_so P addr as (All-tail P a as all)) (same_addr addr a) refl some
+among_so P addr (a ∷ later) all some = by (among_so P addr later (All-tail P a later all)) (same_addr addr a) refl some
   where
-    by : (is_among addr as ≡ true → P addr) → (t : Bool) → same_addr addr a ≡ t
-        → (t || is_among addr as) ≡ true → P addr
-    by rest true same some = subst P (sym (one_addr addr a same)) (All-head P a as all)
+    by : (is_among addr later ≡ true → P addr) → (t : Bool) → same_addr addr a ≡ t
+        → (t || is_among addr later) ≡ true → P addr
+    by rest true same some = subst P (sym (one_addr addr a same)) (All-head P a later all)
     by rest false other some = rest some
 
 -- what is so of all that was claimed is so of a block that is among it

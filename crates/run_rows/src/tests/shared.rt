@@ -31,7 +31,12 @@ fn two_readers(alloc: Global) -> Result<(Vec<Event>, usize), Fail> {
     hand(alloc, &mut events, 2, create(alloc, b'a')?)?;
     work(&mut events, 2, 60)?;
     let bytes = [1, 2, 3, 4, 5];
-    hand(alloc, &mut events, 3, write(alloc, made(alloc, 2, 1)?, &bytes)?)?;
+    hand(
+        alloc,
+        &mut events,
+        3,
+        write(alloc, made(alloc, 2, 1)?, &bytes)?,
+    )?;
     work(&mut events, 3, 60)?;
     for worker in 0..2 {
         let read = Call::Read {
@@ -109,7 +114,11 @@ fn a_change_waits_for_all_that_share(rt: HostRuntime) -> Result<(), Fail> {
     ];
     let first = count.saturating_sub(wanted.len());
     for (index, one) in wanted.iter().enumerate() {
-        assert_eq!(rt; came(run.steps.get(first.saturating_add(index))), *one, "{index}");
+        assert_eq!(rt;
+            came(run.steps.get(first.saturating_add(index))),
+            *one,
+            "{index}"
+        );
     }
     Ok(())
 }

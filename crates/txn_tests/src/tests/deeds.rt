@@ -101,9 +101,21 @@ fn raise<D: CrashDisk>(bench: &mut Bench<D>, wishes: &[Seen]) -> Result<Option<[
         return Err("none begins")?;
     };
     let (one, shares) = bench.take_all(one, &[Step::Share(at)], wishes.get(..1).unwrap_or(&[]));
-    let (other, shares_too) = bench.take_all(other, &[Step::Share(at)], wishes.get(1..2).unwrap_or(&[]));
-    let (one, is_kept_off) = bench.take_all(one, &[Step::Want(at)], wishes.get(2..3).unwrap_or(&[]));
-    let (other, is_kept_off_too) = bench.take_all(other, &[Step::Want(at)], wishes.get(3..4).unwrap_or(&[]));
+    let (other, shares_too) = bench.take_all(
+        other,
+        &[Step::Share(at)],
+        wishes.get(1..2).unwrap_or(&[]),
+    );
+    let (one, is_kept_off) = bench.take_all(
+        one,
+        &[Step::Want(at)],
+        wishes.get(2..3).unwrap_or(&[]),
+    );
+    let (other, is_kept_off_too) = bench.take_all(
+        other,
+        &[Step::Want(at)],
+        wishes.get(3..4).unwrap_or(&[]),
+    );
     bench.core.abort(one);
     let (other, raises) = bench.take_all(other, &[Step::Want(at)], wishes.get(4..5).unwrap_or(&[]));
     let first = change_of(bench.alloc, &[(at, 0)], &[(at, 7)])?;
