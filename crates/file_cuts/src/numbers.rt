@@ -10,13 +10,13 @@ ghost use Rattle.model.specs.Tree.{Tree};
 ghost use Rattle.inode.specs.Over.{HasInode, IsPause, MayStop};
 ghost use Rattle.file_cuts.specs.Cut.{first_of, is_far, is_some, numbered};
 
-use inode::{Snap, Stop, block_number};
+use inode::{Snap, Stop, block_number, indirect_numbers};
 use layout::Inode;
-use limits::{DIRECT_INDEXES, FILE_INDEXES};
+use limits::DIRECT_INDEXES;
 use std::alloc::{AllocError, Global};
 
-/// The numbers of the blocks of all indexes of a file, 0 where no block is mapped. Only where it has an indirect
-/// block are there more than those of the direct indexes.
+/// The numbers of the blocks of all indexes of a file, 0 where no block is mapped: those that its inode names itself,
+/// then those in its pointer block.
 pub(crate) fn all_numbers(alloc: Global, snap: &Snap, inode: &Inode) -> Result<Vec<u32>, Stop>
     ensures len { IfOk result (λ numbers. length numbers.items ≡ FILE_INDEXES) }
     ensures placed { IfOk result
@@ -28,13 +28,9 @@ pub(crate) fn all_numbers(alloc: Global, snap: &Snap, inode: &Inode) -> Result<V
     ensures pause { IfErr result (λ stop. (blocks : Image) (tree : Tree) (file : ℕ)
         → HasInode snap.now blocks tree file inode.now → IsPause stop) }
 {
+    let far = indirect_numbers(alloc, snap, inode)?;
     let mut numbers = Vec::new(alloc);
-    let count = if inode.indirect == 0 {
-        DIRECT_INDEXES
-    } else {
-        FILE_INDEXES
-    };
-    'indexes: for index in 0..count {
+    'indexes: for index in 0..DIRECT_INDEXES {
         match block_number(snap, inode, index) {
             Ok(number) => match numbers.push(number) {
                 Ok(()) => {}
@@ -43,7 +39,7 @@ pub(crate) fn all_numbers(alloc: Global, snap: &Snap, inode: &Inode) -> Result<V
             Err(stop) => return Err(stop),
         }
     }
-    numbers.resize(FILE_INDEXES, 0)?;
+    numbers.extend_from_slice(&far)?;
     Ok(numbers)
 }
 

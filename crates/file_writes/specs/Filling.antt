@@ -1,6 +1,6 @@
 -- What a file's blocks and its inode are, where a piece of bytes was written in one of them.
-use Rattle.std.specs.Prelude.{◌≡◌, ℕ, ◌+◌, ◌/◌, ◌%◌, ◌<◌, ◌≤◌, ◌^◌, max, true, false, not, ◌||◌, List, ◌∷◌}
-use Rattle.std.specs.Prelude.{length, get_or, drop, set, filter, nat_eq, count_by, Some, Ok}
+use Rattle.std.specs.Prelude.{◌≡◌, ℕ, ◌+◌, ◌/◌, ◌%◌, ◌<◌, ◌≤◌, ◌^◌, max, true, false, not, ◌||◌, ◌++◌, List}
+use Rattle.std.specs.Prelude.{length, get_or, set, filter, nat_eq, count_by, Some, Ok}
 use Rattle.std.specs.List.{AllByRecursion, list_all, list_any}
 use Rattle.limits.specs.declared.TheConstants.{BLOCK_BYTES, DIRECT_INDEXES, LARGEST_FILE}
 use Rattle.disk.specs.Crash.{Image}
@@ -9,7 +9,7 @@ use Rattle.model.specs.Tree.{Tree}
 use Rattle.layout.specs.declared.geometry.Geometry.{Geometry}
 use Rattle.layout.specs.declared.inode.Inode.{Inode}
 use Rattle.layout.specs.declared.inode.InodeKind.TheVariants as kinds
-use Rattle.layout.specs.Decode.{IsMapped, content_of, inode_at, numbers_of}
+use Rattle.layout.specs.Decode.{IsMapped, content_of, inode_at, numbers_in, numbers_of, pointer_blocks}
 use Rattle.layout.specs.Holds.{Holds}
 use Rattle.layout.specs.InodeForm.{is_data_block_or_none}
 use Rattle.layout.specs.Owners.{owned_by}
@@ -59,8 +59,7 @@ pub record Fills (g : Geometry) (base : Image) (inode : Inode) (offset : ℕ) (p
       → nat_eq (get_or (numbers_of (content_in g base) inode) j 0) 0 ≡ false
       → content (get_or (numbers_of (content_in g base) inode) j 0)
       ≡ content_in g base (get_or (numbers_of (content_in g base) inode) j 0)
-  pub used : (nat_eq far 0 || list_any (λ number. not (nat_eq number 0))
-      (drop (length numbers) (set (numbers_of (content_in g base) inode) (offset / BLOCK_BYTES) b))) ≡ true
+  pub used : (nat_eq far 0 || list_any (λ number. not (nat_eq number 0)) (numbers_in content far)) ≡ true
   pub count : length numbers ≡ DIRECT_INDEXES
   pub fit : AllByRecursion (λ number. number < 2 ^ 32) numbers
   pub placed : list_all (is_data_block_or_none g) numbers ≡ true
@@ -70,7 +69,8 @@ pub record Fills (g : Geometry) (base : Image) (inode : Inode) (offset : ℕ) (p
       → count_by (λ one. nat_eq one q) gained ≡ 0 → content q ≡ content_in g base q
   pub counted : (q : ℕ)
       → count_by (λ one. nat_eq one q) (filter (λ number. not (nat_eq number 0))
-      (far ∷ set (numbers_of (content_in g base) inode) (offset / BLOCK_BYTES) b))
+      (pointer_blocks content (mapping inode (grown_size inode.size offset piece) numbers far)
+      ++ set (numbers_of (content_in g base) inode) (offset / BLOCK_BYTES) b))
       ≡ count_by (λ one. nat_eq one q) gained
       + count_by (λ one. nat_eq one q) (owned_by (content_in g base) (Ok (Some inode)))
   pub were_free : AllByRecursion (IsFreeBlock g base) gained

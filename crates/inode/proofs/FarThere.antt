@@ -1,6 +1,6 @@
 -- An indirect block that names what is no data block is in no blocks that hold the files of a tree.
-use Rattle.std.proofs.Common.{◌≡◌, ℕ, sym, ap, ◌∙◌, Bool, true, false, List, [], ◌∷◌}
-use Rattle.std.proofs.Common.{◌++◌, nat_eq, nat_le, is_none}
+use Rattle.std.proofs.Common.{◌≡◌, ℕ, sym, ap, ◌∙◌, Bool, true, false, List}
+use Rattle.std.proofs.Common.{nat_eq, nat_le, is_none}
 use Rattle.std.specs.List.{list_all}
 use Rattle.limits.specs.declared.TheConstants.{INDIRECT_INDEXES, TARGET_BYTES}
 use Rattle.disk.specs.Crash.{Image}
@@ -8,17 +8,13 @@ use Rattle.layout.specs.declared.geometry.Geometry.{Geometry}
 use Rattle.layout.specs.declared.inode.Inode.{Inode}
 use Rattle.layout.specs.declared.inode.InodeKind.{InodeKind}
 use Rattle.layout.specs.declared.inode.InodeKind.TheVariants.{Regular, Directory, Link}
-use Rattle.layout.specs.Decode.{numbers_in, numbers_of, IsMapped, IsOfKind}
+use Rattle.layout.specs.Decode.{IsMapped, IsOfKind}
 use Rattle.layout.specs.Fields.{numbers_at}
 use Rattle.layout.specs.InodeForm.{is_data_block_or_none, is_sound_kind, is_sound_file, is_sound_map}
 use Rattle.layout.specs.InodeForm.{is_sound_link, names_first}
+use Rattle.layout.proofs.FileNumbers.{parts_pass}
 use Rattle.layout.proofs.NumbersIn.{some_in}
 use Rattle.inode.proofs.AllTests.{all_three, all_five, all_two}
-
--- a test that all pass is passed by the last ones
-last_pass : (test : ℕ → Bool) (xs ys : List ℕ) → list_all test (xs ++ ys) ≡ true → list_all test ys ≡ true
-last_pass test [] ys e = e
-last_pass test (x ∷ xs) ys e = last_pass test xs ys (all_two (test x) (list_all test (xs ++ ys)) e).1
 
 module _ (g : Geometry) (content : Image) (inode : Inode) (some : nat_eq inode.indirect 0 ≡ false) where
   abbrev far : List ℕ
@@ -28,10 +24,9 @@ module _ (g : Geometry) (content : Image) (inode : Inode) (some : nat_eq inode.i
   test = is_data_block_or_none g
 
   mapped_far : IsMapped g content inode → list_all test far ≡ true
-  unfolding numbers_of
   mapped_far mapped =
       ap (list_all test) (sym (some_in content inode.indirect some))
-      ∙ last_pass test inode.direct (numbers_in content inode.indirect) mapped.numbers
+      ∙ (parts_pass content inode test mapped.numbers).1
 
   pub far_pass : (kind : InodeKind) → is_sound_kind g kind inode ≡ true
       → IsOfKind g content kind inode → list_all test far ≡ true

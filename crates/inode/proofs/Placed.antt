@@ -1,5 +1,5 @@
 -- Where the blocks of a file that was read lie.
-use Rattle.std.proofs.Common.{◌≡◌, ℕ, zero, suc, ◌-◌, ◌<◌, ◌≤◌, sym, ap, ◌∙◌, refl, Bool, true, false, cond}
+use Rattle.std.proofs.Common.{◌≡◌, ℕ, zero, suc, ◌+◌, ◌-◌, ◌<◌, ◌≤◌, sym, ap, ◌∙◌, refl, Bool, true, false, cond}
 use Rattle.std.proofs.Common.{List, [], ◌∷◌, ◌++◌, length, get_or, replicate, nat_eq, nat_le, nat_lt, arith}
 use Rattle.std.specs.List.{list_all}
 use Rattle.limits.specs.declared.TheConstants.{BLOCK_BYTES, DIRECT_INDEXES, INDIRECT_INDEXES}
@@ -15,6 +15,7 @@ use Rattle.layout.specs.InodeForm.{is_data_block_or_none}
 use Rattle.layout.specs.Parts.{content_in}
 use Rattle.layout.specs.Places.{is_data}
 use Rattle.layout.proofs.AllNumbers as all
+use Rattle.layout.proofs.FileNumbers as numbers
 use Rattle.layout.proofs.NumbersIn.{none_at, some_in}
 use Rattle.txn.specs.Window.{object_at}
 use Rattle.inode.specs.declared.snap.Snap.{Snap}
@@ -63,15 +64,11 @@ module _ (g : Geometry) (blocks : Image) (inode : Inode) (index : ℕ) (direct :
     content = content_in g blocks
 
     pub direct_at : index < DIRECT_INDEXES → get_or inode.direct index 0 ≡ number_at g blocks inode index
-    unfolding numbers_of
-    direct_at less = sym (early inode.direct _ index (omega (arith, less, direct)))
+    direct_at less = sym (numbers.direct_at content inode direct index less)
 
-    pub far_there : DIRECT_INDEXES ≤ index
+    pub far_there : DIRECT_INDEXES ≤ index → index < DIRECT_INDEXES + INDIRECT_INDEXES
         → far_at content inode.indirect (index - DIRECT_INDEXES) ≡ number_at g blocks inode index
-    unfolding numbers_of
-    far_there more =
-        ap (λ k. far_at content inode.indirect (index - k)) (sym direct)
-        ∙ sym (behind inode.direct _ index (omega (arith, more, direct)))
+    far_there more within = sym (numbers.indirect_at content inode direct index more within)
 
 pub none_far : (content : Image) (indirect index : ℕ) → nat_eq indirect 0 ≡ true
     → 0 ≡ far_at content indirect index

@@ -2,19 +2,19 @@
 use Rattle.std.proofs.Common.{◌≡◌, ℕ, ◌+◌, ◌≤◌, sym, ap, ◌∙◌, refl, Bool, true, false, cond, not}
 use Rattle.std.proofs.Common.{List, length, take, drop, nat_eq, nat_lt, count_by, arith}
 use Rattle.std.specs.List.{list_all}
-use Rattle.std.proofs.lemmas.List.Sums.{sum_by-append}
 use Rattle.limits.specs.declared.TheConstants.{DIRECT_INDEXES, INDIRECT_INDEXES, LARGEST_DIRECTORY}
 use Rattle.disk.specs.Crash.{Image}
 use Rattle.model.specs.Cost.{file_cost}
 use Rattle.layout.specs.declared.geometry.Geometry.{Geometry}
 use Rattle.layout.specs.declared.inode.Inode.{Inode}
-use Rattle.layout.specs.Decode.{numbers_in, numbers_of, mapped_of, span_of, IsMapped}
+use Rattle.layout.specs.Decode.{numbers_in, numbers_of, mapped_of, pointer_blocks, span_of, IsMapped}
 use Rattle.layout.specs.Fields.{numbers_at, count_of}
 use Rattle.layout.specs.InodeForm.{names_first}
 use Rattle.layout.proofs.Mapped.{is_some}
-use Rattle.layout.proofs.Used.{regular_held, first_count}
+use Rattle.layout.proofs.Used.{regular_held, first_count, pointers_counted}
 use Rattle.inode.proofs.AllTests.{all_two}
 use Rattle.layout.proofs.AllNumbers.{all-length}
+use Rattle.layout.proofs.FileNumbers.{counted_parts}
 use Rattle.layout.proofs.NumbersIn.{none_count, some_in}
 
 -- what is counted of an inode: what it names directly, and, where it has one, the indirect block and what
@@ -35,13 +35,13 @@ module _ (g : Geometry) (content : Image) (inode : Inode) (direct : length inode
     abbrev far : List ℕ
     far = numbers_at INDIRECT_INDEXES 0 (content inode.indirect)
 
-    all_counted : count_by is_some (numbers_of content inode) + cond (nat_eq inode.indirect 0) 0 1
+    pub all_counted : count_of (numbers_of content inode) + count_of (pointer_blocks content inode)
         ≡ counted content inode
-    unfolding numbers_of
     all_counted =
-        let both = sum_by-append (λ n. cond (is_some n) 1 0) inode.direct (numbers_in content inode.indirect) in
+        let both = counted_parts content inode in
+        let pointers = pointers_counted content inode in
         let rest = far_count content inode.indirect (nat_eq inode.indirect 0) refl in
-        omega (arith, both, rest)
+        omega (arith, both, pointers, rest)
 
     pub regular_counted : IsMapped g content inode
         → file_cost (mapped_of (numbers_of content inode)) ≡ counted content inode
@@ -61,7 +61,8 @@ module _ (g : Geometry) (content : Image) (inode : Inode) (direct : length inode
         let count : count_by is_some (numbers_of content inode) ≡ span_of inode =
         first_count (span_of inode) (numbers_of content inode) few parts.0 parts.1 in
         (λ i. sym count i
-        + one_more (nat_lt DIRECT_INDEXES (span_of inode)) (nat_eq inode.indirect 0) right i)
+        + (one_more (nat_lt DIRECT_INDEXES (span_of inode)) (nat_eq inode.indirect 0) right
+        ∙ sym (pointers_counted content inode)) i)
         ∙ all_counted
       where
         one_more : (far none : Bool) → cond far (not none) none ≡ true

@@ -13,7 +13,7 @@ mod stop;
 pub use bytes::{ask_block, piece, target};
 pub use index::AddressIndex;
 pub use inodes::{file_kind, held, used_of};
-pub use map::{block_number, data_block};
+pub use map::{block_number, data_block, indirect_numbers};
 pub use read::{bytes_at, inode_of};
 pub use snap::Snap;
 pub use stop::Stop;

@@ -1,8 +1,7 @@
 -- The numbers of a file's blocks: how many there are, and where they lie.
-use Rattle.std.proofs.Common.{◌≡◌, ℕ, ◌∙◌, Bool, true, false, ◌&&◌}
+use Rattle.std.proofs.Common.{◌≡◌, ℕ, Bool, true, false}
 use Rattle.std.proofs.Common.{length-append, length, List, nat_eq, arith}
 use Rattle.std.specs.List.{list_all}
-use Rattle.std.proofs.lemmas.List.Folds.{list_all-append}
 use Rattle.limits.specs.declared.TheConstants.{DIRECT_INDEXES, FILE_INDEXES, INDIRECT_INDEXES}
 use Rattle.disk.specs.Crash.{Image}
 use Rattle.layout.specs.declared.geometry.Geometry.{Geometry}
@@ -14,6 +13,7 @@ use Rattle.layout.specs.Fields.{numbers_at}
 use Rattle.layout.specs.InodeForm.{SoundInode, is_data_block_or_none, is_sound_inode, is_sound_kind}
 use Rattle.layout.specs.InodeForm.{is_sound_file, is_sound_map, is_sound_regular, is_sound_directory}
 use Rattle.layout.specs.InodeForm.{is_sound_link}
+use Rattle.layout.proofs.FileNumbers.{all_pass}
 use Rattle.layout.proofs.NumbersIn.{in_length, placed_in}
 use Rattle.layout.proofs.Respelled.{all_two, all_three}
 
@@ -50,7 +50,6 @@ module _ (g : Geometry) where
       → (nat_eq inode.indirect 0 ≡ false
       → are_placed (numbers_at INDIRECT_INDEXES 0 (content inode.indirect)) ≡ true)
       → are_placed (numbers_of content inode) ≡ true
-  unfolding numbers_of
   all_placed content inode sound placed =
-      list_all-append (is_data_block_or_none g) inode.direct (numbers_in content inode.indirect)
-      ∙ (λ i. (maps inode sound).0 i && placed_in content inode.indirect g placed i)
+      all_pass content inode (is_data_block_or_none g) (maps inode sound).0
+      (placed_in content inode.indirect g placed)

@@ -27,6 +27,8 @@ pub mod OneGeometry
 pub mod Versions
 pub mod AllNumbers
 pub mod NumbersIn
+pub mod FileNumbers
+pub mod ChangedNumbers
 pub mod OnGrid
 pub mod Holding
 pub mod CountedAt

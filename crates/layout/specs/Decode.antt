@@ -23,8 +23,8 @@ use Rattle.layout.specs.Places.{inode_block, inode_offset}
 use Rattle.layout.specs.SlotForm.{read_slot}
 
 -- the numbers of the blocks that hold numbers themselves, 0 where there is none: the indirect block
-abbrev pub pointer_blocks : Inode → List ℕ
-pointer_blocks inode = inode.indirect ∷ []
+abbrev pub pointer_blocks : Image → Inode → List ℕ
+pointer_blocks blocks inode = inode.indirect ∷ []
 
 -- the numbers in a block that holds numbers, zeros where there is none
 unfoldable pub numbers_in : Image → ℕ → List ℕ
@@ -128,8 +128,7 @@ inode_at g blocks number =
 pub record IsMapped (g : Geometry) (blocks : Image) (inode : Inode) : Type 0 where
   pub numbers : list_all (is_data_block_or_none g) (numbers_of blocks inode) ≡ true
   pub used : nat_eq inode.indirect 0
-      || list_any (λ number. not (nat_eq number 0)) (drop (length inode.direct) (numbers_of blocks inode))
-      ≡ true
+      || list_any (λ number. not (nat_eq number 0)) (numbers_in blocks inode.indirect) ≡ true
 
 -- a regular file's bytes past its size are zero
 pub record IsRegular (g : Geometry) (blocks : Image) (inode : Inode) : Type 0 where
