@@ -41,12 +41,12 @@ module _ (g : Geometry) (content : Image) (i : Inode) (direct : length i.direct 
       (nat_lt 0 i.parent) (nat_lt i.parent g.inodes)
       (names_first (min (i.size / BLOCK_BYTES) DIRECT_INDEXES) i.direct)
       (cond (nat_lt DIRECT_INDEXES (i.size / BLOCK_BYTES)) (not (nat_eq i.indirect 0)) (nat_eq i.indirect 0))
-      (all_two _ (is_none i.verifier) three.2).0 in
+      (all_two _ (nat_eq i.double 0) (all_two _ (is_none i.verifier) three.2).0).0 in
       directory_counted g content i direct file.spans (no_more i.size LARGEST_DIRECTORY rules.1) rules.6
   costs Link good file =
       let three = all_three (is_sound_file i) (is_sound_map g i) (is_sound_link i) good in
       let rules = all_five (nat_le 1 i.size) (nat_le i.size TARGET_BYTES) (nat_eq i.parent 0)
-      (names_first 1 i.direct) (nat_eq i.indirect 0) (all_two _ (is_none i.verifier) three.2).0 in
+      (names_first 1 i.direct) (nat_eq i.indirect 0) (all_two _ (nat_eq i.double 0) (all_two _ (is_none i.verifier) three.2).0).0 in
       link_counted g content i direct rules.3 rules.4
 
   has_length : length (owned_by content (Ok (Some i))) ≡ counted content i
@@ -88,7 +88,7 @@ module _ (g : Geometry) (blocks : Image) (tree : Tree) (holds : Holds g blocks t
   mapped i read Link good file =
       let three = all_three (is_sound_file i) (is_sound_map g i) (is_sound_link i) good in
       let rules = all_five (nat_le 1 i.size) (nat_le i.size TARGET_BYTES) (nat_eq i.parent 0)
-      (names_first 1 i.direct) (nat_eq i.indirect 0) (all_two _ (is_none i.verifier) three.2).0 in
+      (names_first 1 i.direct) (nat_eq i.indirect 0) (all_two _ (nat_eq i.double 0) (all_two _ (is_none i.verifier) three.2).0).0 in
       record {
         numbers = all_placed g content i (is_read g blocks tree n i holds less read)
             (λ some. let clash : true ≡ false = sym rules.4 ∙ some in cc);

@@ -25,7 +25,9 @@ pub mod NumbersBytes
 pub mod SuperBytes
 pub mod OneGeometry
 pub mod Versions
+pub mod NewestVersion
 pub mod AllNumbers
+pub mod Pieces
 pub mod NumbersIn
 pub mod FileNumbers
 pub mod ChangedNumbers

@@ -1,6 +1,6 @@
 -- A file's node and rules look at the file's own blocks alone.
 use Rattle.std.proofs.Common.{◌≡◌, ℕ, zero, suc, sym, ap, ◌∙◌, refl, subst, Bool, true, false, cond, not}
-use Rattle.std.proofs.Common.{◌||◌, List, [], ◌∷◌, ◌++◌, length, take, drop, nat_eq, replicate, filter, All}
+use Rattle.std.proofs.Common.{◌||◌, ◌&&◌, List, [], ◌∷◌, ◌++◌, length, take, drop, nat_eq, replicate, filter, All}
 use Rattle.std.proofs.Common.{IsOk, Ok, Err, Result, Option, Some, None, ◌*◌, arith}
 use Rattle.std.specs.List.{AllByRecursion, filter_map, list_all, list_any}
 use Rattle.std.specs.Cmp.Lexicographic.{slice_cmp}
@@ -17,14 +17,14 @@ use Rattle.layout.specs.declared.inode.InodeKind.TheVariants.{Regular, Directory
 use Rattle.layout.specs.Decode.{numbers_of, content_of, bytes_of, mapped_of, span_of, slot_bytes}
 use Rattle.layout.specs.declared.slot.TheConstants.{SLOT_BYTES}
 use Rattle.layout.specs.Decode.{slots_of, entry_in, named_in, node_with, body_of, file_of, IsMapped}
-use Rattle.layout.specs.Decode.{IsOfKind, IsFile, pointer_blocks}
+use Rattle.layout.specs.Decode.{IsOfKind, IsFile, is_used_pointer, numbers_in, pointer_blocks}
 use Rattle.layout.specs.Fields.{is_zeros}
 use Rattle.layout.specs.InodeForm.{is_data_block_or_none, names_first}
 use Rattle.layout.specs.Owners.{owned_by}
 use Rattle.layout.specs.SlotForm.{read_slot}
-use Rattle.layout.proofs.ChangedNumbers.{ArePointersSame, same_numbers}
+use Rattle.layout.proofs.ChangedNumbers.{ArePointersSame, same_numbers, same_pointers}
 use Rattle.layout.proofs.FileNumbers.{first_numbers}
-use Rattle.layout.proofs.NumbersIn.{either, same_in}
+use Rattle.layout.proofs.NumbersIn.{either}
 use Rattle.model.specs.Node as model
 
 module _ (P : ℕ → Type 0) where
@@ -74,6 +74,13 @@ module _ (a b : Image) where
   same_bytes [] same = refl
   same_bytes (n ∷ numbers) same = λ i. same.0 i ++ same_bytes numbers same.1 i
 
+  -- pointer blocks in which the same numbers lie are used alike
+  used_alike : (pointers : List ℕ) → AllByRecursion (λ number. numbers_in b number ≡ numbers_in a number) pointers
+      → list_all (is_used_pointer b) pointers ≡ list_all (is_used_pointer a) pointers
+  used_alike [] same = refl
+  used_alike (n ∷ pointers) same =
+      λ i. (nat_eq n 0 || list_any (λ one. not (nat_eq one 0)) (same.0 i)) && used_alike pointers same.1 i
+
   module _ (inode : Inode) (same : AreSame (owned_by a (Ok (Some inode)))) where
     both : ArePointersSame a b (pointer_blocks a inode) × AreSame (some (numbers_of a inode))
     both = parted (pointer_blocks a inode) (numbers_of a inode) same
@@ -114,9 +121,10 @@ module _ (a b : Image) where
 
     mapped : (g : Geometry) → IsMapped g a inode → IsMapped g b inode
     mapped g m = record {
+      pointers = ap (list_all (is_data_block_or_none g)) kept.1 ∙ m.pointers;
       numbers = ap (list_all (is_data_block_or_none g)) numbers ∙ m.numbers;
-      used = ap (λ ns. nat_eq inode.indirect 0 || list_any (λ number. not (nat_eq number 0)) ns)
-          (same_in b a inode.indirect both.0.0) ∙ m.used;
+      used = ap (list_all (is_used_pointer b)) kept.1
+          ∙ used_alike (pointer_blocks a inode) (same_pointers a b (pointer_blocks a inode) both.0) ∙ m.used;
     }
 
     of_kind : (g : Geometry) (kind : InodeKind) → IsOfKind g a kind inode → IsOfKind g b kind inode

@@ -2,7 +2,7 @@ use Rattle.std.proofs.Common.{rules, ◌≡◌, replicate}
 use Rattle.limits.specs.declared.TheConstants.{INDIRECT_INDEXES}
 use Rattle.layout.specs.Parts.{content_in}
 use Rattle.inode.proofs.PointersThere.{spelled_in, zeros_in}
-use Rattle.inode.proofs.map.numbers_in.Goals as goal
+use Rattle.inode.proofs.map.pointer_numbers.Goals as goal
 
 pub returns-then-pointer-eq0-clause-ok : goal.returns-then-pointer-eq0-clause-ok
 returns-then-pointer-eq0-clause-ok c = λ blocks tree over.
