@@ -113,7 +113,7 @@ none_mapped numbers e =
 
 module _ (inodes : ℕ) (content : Image) (inode : Inode) where
   no_numbers : list_all (λ n. nat_eq n 0) (numbers_of content (emptied inode)) ≡ true
-  no_numbers = near_pass content (emptied inode) refl (λ n. nat_eq n 0) refl refl
+  no_numbers = near_pass content (emptied inode) refl refl (λ n. nat_eq n 0) refl refl
 
   pub regular_empty : body_of inodes content kinds.Regular (emptied inode) ≡ model.Regular [] set.empty
   regular_empty = ap (model.Regular []) (none_mapped (numbers_of content (emptied inode)) no_numbers)

@@ -67,7 +67,7 @@ module _ (content : Image) (inode : Inode) (target : List ℕ) (block : ℕ) (so
   new_content = put content block (filled target)
 
   pub owns_it : owned_by new_content (Ok (Some new_inode)) ≡ block ∷ []
-  owns_it = near_owned new_content new_inode refl ∙ ap {B = List ℕ} (λ t. cond (not t) (block ∷ []) []) some
+  owns_it = near_owned new_content new_inode refl refl ∙ ap {B = List ℕ} (λ t. cond (not t) (block ∷ []) []) some
 
   its_bytes : bytes_of new_content (take 1 new_inode.direct) ≡ filled target
   unfolding bytes_of

@@ -1,5 +1,5 @@
 //! The indexes of the blocks that a regular file has.
-ghost use Rattle.std.specs.Prelude.{◌≡◌, ℕ, ◌+◌, ◌*◌, ◌<◌, ◌≤◌, nat_lt, count_by, length, filter, IfOk, OnOk};
+ghost use Rattle.std.specs.Prelude.{◌≡◌, ℕ, ◌+◌, ◌*◌, ◌<◌, ◌≤◌, cond, nat_lt, count_by, length, filter, IfOk, OnOk};
 ghost use Rattle.std.specs.Prelude.{OnErr};
 ghost use Rattle.std.specs.List.{list_any, range_with_len};
 ghost use Rattle.std.specs.FinSet as set;
@@ -75,14 +75,9 @@ impl MappedIndexes {
         ensures cost { result ≡ file_cost self.now }
         ensures small { result ≤ FILE_INDEXES + INDIRECT_INDEXES + 2 }
     {
-        let indirect = if any_is_indirect(&self.indexes) { 1 } else { 0 };
-        let double = if any_is_double(&self.indexes) { 1 } else { 0 };
-        let inner = if double == 1 {
-            inner_cost(&self.indexes)
-        } else {
-            0
-        };
-        self.indexes.len() as u64 + indirect + double + inner
+        let indirect = one_if(any_is_indirect(&self.indexes));
+        let double = one_if(any_is_double(&self.indexes));
+        self.indexes.len() as u64 + indirect + double + inner_cost(&self.indexes)
     }
 
     /// Drops the indexes that lie at or past the new end of the file.
@@ -91,6 +86,13 @@ impl MappedIndexes {
     {
         retain_below(&mut self.indexes, size);
     }
+}
+
+// 1 where it is so.
+fn one_if(is: bool) -> u64
+    ensures { result ≡ cond is 1 0 }
+{
+    if is { 1 } else { 0 }
 }
 
 fn any_is_indirect(indexes: &[u32]) -> bool
@@ -124,6 +126,9 @@ fn inner_cost(indexes: &[u32]) -> u64
         (range_with_len 0 INDIRECT_INDEXES) }
 {
     let mut cost = 0;
+    if !any_is_double(indexes) {
+        return 0;
+    }
     'inner: for inner in 0..INDIRECT_INDEXES {
         if any_is_inner(inner, indexes) {
             cost += 1;

@@ -40,6 +40,7 @@ fn inode_of_file() -> Inode {
         verifier: None,
         direct: [527, 0, 0, 528, 0, 0, 0, 0],
         indirect: 529,
+        double: 0,
     }
 }
 
