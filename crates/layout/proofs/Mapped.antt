@@ -7,7 +7,7 @@ use Rattle.std.specs.FinSet as set
 use Rattle.std.specs.List.{list_any, range_with_len}
 use Rattle.std.specs.Ordering.{nat_cmp, eq_by_cmp}
 use Rattle.std.proofs.lemmas.List.Sums.{sum_by-cons}
-use Rattle.std.proofs.Math.Seq.{drop-nil, take-nil}
+use Rattle.std.proofs.Math.Seq.{drop-nil}
 use Rattle.std.proofs.lemmas.Bool.{cases_lt, le-ltb, lt-ltb}
 use Rattle.std.proofs.lemmas.Bool.Decides.{leb_tells}
 use Rattle.limits.specs.declared.TheConstants.{DIRECT_INDEXES, FIRST_DOUBLE_INDEX, INDIRECT_INDEXES}
@@ -117,6 +117,10 @@ mapped-far c numbers =
 
 -- ---- whether an index between two is kept
 
+no_take : (n : ℕ) → ◌≡◌ {A = List ℕ} (take n []) []
+no_take zero = refl
+no_take (suc n) = refl
+
 module _ (lo hi : ℕ) (f q : ℕ → Bool) where
   abbrev between : ℕ → Bool
   between index = nat_le lo index && nat_lt index hi
@@ -139,7 +143,7 @@ module _ (lo hi : ℕ) (f q : ℕ → Bool) where
       ≡ list_any q (take (hi - (a + (lo - a))) (drop (lo - a) xs))
   between_is [] a same =
       sym (ap (λ l. list_any q (take (hi - (a + (lo - a))) l)) (drop-nil (lo - a))
-      ∙ ap (list_any q) (take-nil (hi - (a + (lo - a)))))
+      ∙ ap (list_any q) (no_take (hi - (a + (lo - a)))))
   between_is (x ∷ xs) a same =
       let here : f a ≡ q x = ap f (omega arith) ∙ same 0 in
       let rest : list_any between (filter f (range_with_len (a + 1) (length xs)))
