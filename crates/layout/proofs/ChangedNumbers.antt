@@ -21,21 +21,28 @@ one_of P (x ∷ xs) all zero less = all.0
 one_of P (x ∷ xs) all (suc i) less = one_of P xs all.1 i (omega (arith, less))
 
 -- a file whose pointer blocks are as they were has its numbers, and its pointer blocks, as they were
-pub same_numbers : (blocks after : Image) (inode : Inode) → ArePointersSame blocks after (pointer_blocks blocks inode)
-    → (numbers_of after inode ≡ numbers_of blocks inode) × (pointer_blocks after inode ≡ pointer_blocks blocks inode)
-unfolding numbers_of pointer_blocks
-same_numbers blocks after inode same =
-    let far = same_in after blocks inode.indirect same.0 in
-    let top : numbers_in after inode.double ≡ numbers_in blocks inode.double =
-    same_in after blocks inode.double same.1.0 in
-    let long = in_length blocks inode.double in
-    let further : doubled_in after inode.double ≡ doubled_in blocks inode.double =
-    same_doubled after blocks inode.double inode.double
-    (λ i less. ap (λ l. numbers_in after (get_or l i 0)) top
-    ∙ same_in after blocks (get_or (numbers_in blocks inode.double) i 0)
-    (one_of (λ number. nat_eq number 0 ≡ false → after number ≡ blocks number)
-    (numbers_in blocks inode.double) same.1.1 i (omega (arith, less, long)))) in
-    ((λ t. inode.direct ++ far t ++ further t), (λ t. inode.indirect ∷ inode.double ∷ top t))
+module _ (blocks after : Image) (inode : Inode) (same : ArePointersSame blocks after (pointer_blocks blocks inode)) where
+  pub same_parts : (numbers_in after inode.indirect ≡ numbers_in blocks inode.indirect)
+      × (numbers_in after inode.double ≡ numbers_in blocks inode.double)
+      × (doubled_in after inode.double ≡ doubled_in blocks inode.double)
+  unfolding pointer_blocks
+  same_parts =
+      let top : numbers_in after inode.double ≡ numbers_in blocks inode.double =
+      same_in after blocks inode.double same.1.0 in
+      let long = in_length blocks inode.double in
+      (same_in after blocks inode.indirect same.0, top,
+      same_doubled after blocks inode.double inode.double
+      (λ i less. ap (λ l. numbers_in after (get_or l i 0)) top
+      ∙ same_in after blocks (get_or (numbers_in blocks inode.double) i 0)
+      (one_of (λ number. nat_eq number 0 ≡ false → after number ≡ blocks number)
+      (numbers_in blocks inode.double) same.1.1 i (omega (arith, less, long)))))
+
+  pub same_numbers : (numbers_of after inode ≡ numbers_of blocks inode)
+      × (pointer_blocks after inode ≡ pointer_blocks blocks inode)
+  unfolding numbers_of pointer_blocks
+  same_numbers =
+      let parts = same_parts in
+      ((λ t. inode.direct ++ parts.0 t ++ parts.2 t), (λ t. inode.indirect ∷ inode.double ∷ parts.1 t))
 
 -- its pointer blocks hold the numbers that they held
 pub same_pointers : (blocks after : Image) (pointers : List ℕ) → ArePointersSame blocks after pointers
