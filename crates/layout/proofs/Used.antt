@@ -38,7 +38,7 @@ any_pieces content (n ∷ inners) used =
     ∙ (λ i. used_is content n both.0 i || any_pieces content inners both.1 i)
 
 -- as many pass of a range as pass of a list, where each place of it passes like its element
-places : (f q : ℕ → Bool) (xs : List ℕ) (a : ℕ) → ((k : ℕ) → k < length xs → f (a + k) ≡ q (get_or xs k 0))
+pub places : (f q : ℕ → Bool) (xs : List ℕ) (a : ℕ) → ((k : ℕ) → k < length xs → f (a + k) ≡ q (get_or xs k 0))
     → count_by f (range_with_len a (length xs)) ≡ count_by q xs
 places f q [] a same = refl
 places f q (x ∷ xs) a same =
@@ -90,7 +90,7 @@ module _ (g : Geometry) (content : Image) (inode : Inode) (direct : length inode
       ∙ any_pieces content (numbers_in content inode.double) parts.2
       ∙ used_is content inode.double parts.1
 
-  inner_any : (inner : ℕ) → inner < length (numbers_in content inode.double)
+  pub inner_any : (inner : ℕ) → inner < length (numbers_in content inode.double)
       → list_any is_some (inner_numbers (numbers_of content inode) (0 + inner))
       ≡ is_some (get_or (numbers_in content inode.double) inner 0)
   inner_any inner less =
@@ -102,7 +102,7 @@ module _ (g : Geometry) (content : Image) (inode : Inode) (direct : length inode
       ∙ used_is content (get_or (numbers_in content inode.double) inner 0)
       (all_at (is_used_pointer content) (numbers_in content inode.double) parts.2 inner less)
 
-  inner_count : count_by (λ inner. list_any is_some (inner_numbers (numbers_of content inode) inner))
+  pub inner_count : count_by (λ inner. list_any is_some (inner_numbers (numbers_of content inode) inner))
       (range_with_len 0 INDIRECT_INDEXES) ≡ count_of (numbers_in content inode.double)
   inner_count =
       ap (λ n. count_by (λ inner. list_any is_some (inner_numbers (numbers_of content inode) inner))
