@@ -158,14 +158,12 @@ behind_filled numbers first (suc k) lo low =
 
 -- ---- how many of a list pass or lie in a part of it
 
-one_of : Bool → Bool → Bool
-one_of here some = here || some
-
-in_part : ℕ → ℕ → ℕ → Bool
-in_part lo m k = nat_le lo k && nat_lt k (lo + m)
+none_below : (k : ℕ) → nat_lt k 0 ≡ false
+none_below zero = refl
+none_below (suc k) = refl
 
 first_part : (xs : List ℕ) (a lo m : ℕ) → lo + m ≤ length xs → (f : ℕ → Bool)
-    → ((k : ℕ) → k < length xs → f (a + k) ≡ one_of (in_part lo m k) (is_some (get_or xs k 0)))
+    → ((k : ℕ) → k < length xs → f (a + k) ≡ ((nat_le lo k && nat_lt k (lo + m)) || is_some (get_or xs k 0)))
     → count_by f (range_with_len a (length xs))
     ≡ count_by is_some xs + count_by (λ n. nat_eq n 0) (take m (drop lo xs))
 first_part [] a lo zero room f same = refl
@@ -176,7 +174,8 @@ first_part (x ∷ xs) a zero zero room f same =
     ap (λ t. cond t 1 0) (ap f (omega arith) ∙ same 0 (omega arith)) in
     let was = sum_by-cons (λ y. cond (is_some y) 1 0) x xs in
     let rest = first_part xs (a + 1) zero zero (omega arith) f
-    (λ k less. ap f (omega arith) ∙ same (suc k) (omega (arith, less))) in
+    (λ k less. ap f (omega arith) ∙ same (suc k) (omega (arith, less))
+    ∙ ap (λ t. t || is_some (get_or xs k 0)) (sym (none_below k))) in
     omega (arith, all, here, was, rest)
 first_part (x ∷ xs) a zero (suc m) room f same =
     let all = sum_by-cons (λ i. cond (f i) 1 0) a (range_with_len (a + 1) (length xs)) in
