@@ -199,6 +199,18 @@ first_part (x ∷ xs) a (suc lo) m room f same =
     (λ k less. ap f (omega arith) ∙ same (suc k) (omega (arith, less))) in
     omega (arith, all, here, was, rest)
 
+-- one more of those of no block
+pub next_missing : (xs : List ℕ) (first k : ℕ) → first + k < length xs
+    → missing_between xs first (suc k) ≡ missing_between xs first k + cond (nat_eq (get_or xs (first + k) 0) 0) 1 0
+next_missing [] first k less = absurd (omega (arith, less))
+next_missing (x ∷ xs) zero zero less =
+    let one = sum_by-cons (λ (n : ℕ). cond (nat_eq n 0) 1 0) x [] in omega (arith, one)
+next_missing (x ∷ xs) zero (suc k) less =
+    let one = sum_by-cons (λ (n : ℕ). cond (nat_eq n 0) 1 0) x (take (suc k) xs) in
+    let two = sum_by-cons (λ (n : ℕ). cond (nat_eq n 0) 1 0) x (take k xs) in
+    let rest = next_missing xs zero k (omega (arith, less)) in omega (arith, one, two, rest)
+next_missing (x ∷ xs) (suc first) k less = next_missing xs first k (omega (arith, less))
+
 -- ---- what they add
 
 abbrev one_if : Bool → ℕ
