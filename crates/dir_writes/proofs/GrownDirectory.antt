@@ -15,13 +15,13 @@ use Rattle.std.proofs.lemmas.List.{append_assoc, drop-drop, length-replicate, ge
 use Rattle.std.proofs.lemmas.List.{length-set, length-take-le}
 use Rattle.std.proofs.lemmas.List.FromFn.{get_or-range_with_len, length-range_with_len}
 use Rattle.std.proofs.lemmas.List.Elements.{All-from_get_or}
-use Rattle.limits.specs.declared.TheConstants.{BLOCK_BYTES, DIRECT_INDEXES, FILE_INDEXES, INDIRECT_INDEXES, LARGEST_DIRECTORY}
+use Rattle.limits.specs.declared.TheConstants.{BLOCK_BYTES, DIRECT_INDEXES, FILE_INDEXES, LARGEST_DIRECTORY}
 use Rattle.limits.specs.declared.TheConstants.{MOST_SPAN, SLOTS_PER_BLOCK}
 use Rattle.disk.specs.Crash.{Image}
 use Rattle.objects.specs.Spliced.{spliced}
 use Rattle.model.specs.Node.{Body, DirectoryEntry, Entries, Node}
 use Rattle.model.specs.Node as nodes
-use Rattle.model.specs.Tree.{Tree, node_at, with_node}
+use Rattle.model.specs.Tree.{Tree, with_node}
 use Rattle.model.specs.Tree as trees
 use Rattle.procedures.specs.Changes.{with_entry}
 use Rattle.files.specs.Changing.{IsOwnSlot, adds}
@@ -45,7 +45,7 @@ use Rattle.layout.specs.Parts.{content_in}
 use Rattle.layout.specs.SlotForm.{SoundSlot, read_slot, used_bytes}
 use Rattle.layout.proofs.SlotBytes.{free_read}
 use Rattle.inode.specs.declared.snap.Snap.{Snap}
-use Rattle.inode.proofs.AllTests.{all_three, all_two}
+use Rattle.inode.proofs.AllTests.{all_three}
 use Rattle.inode.proofs.Pieces.{in_block}
 use Rattle.bitmap.proofs.Gained.{grown, grown_holds}
 use Rattle.dir.specs.Slots.{Lying, slot_at}

@@ -1,9 +1,9 @@
 -- What a piece adds to the blocks that a file uses: its own, and the pointer blocks that the file doesn't have.
-use Rattle.std.proofs.Common.{◌≡◌, ℕ, zero, suc, ◌+◌, ◌-◌, ◌*◌, ◌/◌, ◌<◌, ◌≤◌, sym, ap, ◌∙◌, refl, Bool, true, false}
-use Rattle.std.proofs.Common.{cond, not, ◌&&◌, List, [], ◌∷◌, length, get_or, drop, set, nat_eq, nat_le, nat_lt, take}
+use Rattle.std.proofs.Common.{◌≡◌, ℕ, zero, suc, ◌+◌, ◌-◌, ◌*◌, ◌/◌, ◌<◌, ◌≤◌, ap, ◌∙◌, Bool, true}
+use Rattle.std.proofs.Common.{cond, not, ◌&&◌, List, [], ◌∷◌, length, get_or, drop, set, nat_eq, take}
 use Rattle.std.proofs.Common.{count_by, arith}
 use Rattle.std.specs.Cmp.{nat_cmp_total}
-use Rattle.std.specs.FinSet.{FinSet, contains, insert, items, len, len-insert}
+use Rattle.std.specs.FinSet.{FinSet, insert, items, len, len-insert}
 use Rattle.std.specs.List.{list_any, range_with_len}
 use Rattle.std.specs.Ordering.{nat_cmp}
 use Rattle.std.proofs.lemmas.Bool.{le-leb, lt-ltb}

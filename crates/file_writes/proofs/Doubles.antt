@@ -18,7 +18,6 @@ use Rattle.layout.specs.Fields.{four_bytes, numbers_at}
 use Rattle.layout.specs.InodeForm.{is_data_block_or_none}
 use Rattle.layout.specs.Owners.{owned_by}
 use Rattle.layout.specs.Parts.{put}
-use Rattle.layout.specs.Places.{is_data}
 use Rattle.layout.specs.Version.{has_double}
 use Rattle.layout.proofs.ChangedNumbers.{double_set}
 use Rattle.layout.proofs.FileNumbers.{pass_pointers}

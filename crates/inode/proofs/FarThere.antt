@@ -1,5 +1,5 @@
 -- A pointer block that names what is no data block is in no blocks that hold the files of a tree.
-use Rattle.std.proofs.Common.{◌≡◌, ℕ, sym, ap, ◌∙◌, refl, Bool, true, false, ◌||◌, List}
+use Rattle.std.proofs.Common.{◌≡◌, ℕ, sym, ap, ◌∙◌, refl, Bool, true, false, ◌||◌}
 use Rattle.std.proofs.Common.{nat_eq, nat_le, is_none}
 use Rattle.std.specs.List.{list_all}
 use Rattle.limits.specs.declared.TheConstants.{INDIRECT_INDEXES, TARGET_BYTES}

@@ -1,5 +1,5 @@
 -- What is known of an inode that was read in blocks that hold the files of a tree, and of its blocks.
-use Rattle.std.proofs.Common.{◌≡◌, ℕ, ◌+◌, ◌%◌, ◌<◌, sym, ap, ◌∙◌, refl, subst, Bool, true, false, cond}
+use Rattle.std.proofs.Common.{◌≡◌, ℕ, ◌%◌, ◌<◌, ap, ◌∙◌, refl, subst, Bool, true, false, cond}
 use Rattle.std.proofs.Common.{◌||◌, length, take, drop, replicate, nat_eq, nat_le, nat_lt, List, Some, Ok, Err}
 use Rattle.std.proofs.Common.{arith}
 use Rattle.std.specs.List.{list_all}

@@ -1,5 +1,5 @@
 -- What the numbers of a file's blocks look at, and what they are with another at one index.
-use Rattle.std.proofs.Common.{◌≡◌, ℕ, ◌+◌, ◌-◌, ◌*◌, ◌<◌, ◌≤◌, sym, ap, ◌∙◌, refl, false, List, [], ◌∷◌, ◌++◌, length, set}
+use Rattle.std.proofs.Common.{◌≡◌, ℕ, ◌+◌, ◌-◌, ◌*◌, ◌<◌, ◌≤◌, sym, ap, ◌∙◌, false, List, [], ◌∷◌, ◌++◌, length, set}
 use Rattle.std.proofs.Common.{zero, suc, get_or, nat_eq, arith, length-append}
 use Rattle.std.specs.List.{AllByRecursion}
 use Rattle.std.proofs.lemmas.List.{set-append_left, set-append_right}

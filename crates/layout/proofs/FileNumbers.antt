@@ -15,10 +15,10 @@ use Rattle.disk.specs.Crash.{Image}
 use Rattle.layout.specs.declared.inode.Inode.{Inode}
 use Rattle.layout.specs.Decode.{doubled_in, numbers_in, numbers_of, pointer_blocks}
 use Rattle.layout.specs.Fields.{count_of}
-use Rattle.layout.proofs.NumbersIn.{doubled_at, doubled_length, in_length, no_double_left, no_double_pass}
+use Rattle.layout.proofs.NumbersIn.{doubled_at, in_length, no_double_left, no_double_pass}
 use Rattle.layout.proofs.NumbersIn.{none_left, none_pass}
 use Rattle.layout.proofs.Pieces.{piece_of}
-use Rattle.layout.proofs.Respelled.{all_three, all_two}
+use Rattle.layout.proofs.Respelled.{all_two}
 
 abbrev is_some : ℕ → Bool
 is_some number = not (nat_eq number 0)

@@ -1,8 +1,8 @@
 -- Blocks stand for the same tree whether their image has an older version or the newest one.
 use Rattle.std.proofs.Common.{◌≡◌, ℕ, ◌<◌, inl, inr, sym, ap, ◌∙◌, refl, subst, Bool, true, false, cond, ◌&&◌, ◌||◌}
-use Rattle.std.proofs.Common.{List, Option, Some, None, Result, Ok, Err, nat_eq, nat_lt, take, drop, arith}
+use Rattle.std.proofs.Common.{List, Option, Some, None, Result, Ok, Err, nat_eq, nat_lt, take, drop}
 use Rattle.std.specs.List.{list_all}
-use Rattle.std.proofs.lemmas.Bool.{cases_lt, le-ltb, lt-ltb}
+use Rattle.std.proofs.lemmas.Bool.{cases_lt, le-ltb}
 use Rattle.limits.specs.declared.TheConstants.{INODE_BYTES}
 use Rattle.disk.specs.Crash.{Image}
 use Rattle.model.specs.Tree.{Tree}
@@ -21,10 +21,10 @@ use Rattle.layout.specs.InodeForm.{kind_of_number, read_inode, rest_is_zero}
 use Rattle.layout.specs.Owners.{IsMarked, owned}
 use Rattle.layout.specs.Parts.{Parts, content_in, parts_of, table_of}
 use Rattle.layout.specs.Places.{inode_block, inode_offset}
-use Rattle.layout.specs.Stands.{HasFiles, PartsStand, Stands}
+use Rattle.layout.specs.Stands.{PartsStand, Stands}
 use Rattle.layout.specs.Version.{has_double}
 use Rattle.layout.proofs.OneGeometry.{one_geometry}
-use Rattle.layout.proofs.Respelled.{all_four, all_three, all_two}
+use Rattle.layout.proofs.Respelled.{all_four, all_three}
 
 -- the same image in the newest version
 abbrev newest : Geometry → Geometry

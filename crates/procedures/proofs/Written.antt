@@ -1,14 +1,14 @@
 -- What a WRITE that is answered OK leaves, what a READ behind it gives, and what both take of the blocks.
 use Rattle.std.proofs.Common.{◌≡◌, ℕ, ◌+◌, ◌-◌, ◌<◌, ◌≤◌, min, ◌⊎◌, inl, inr, not, nat_lt, sym, ap, subst}
 use Rattle.std.proofs.Common.{◌∙◌, refl, Bool, true, false}
-use Rattle.std.proofs.Common.{cond, ◌||◌, List, [], ◌∷◌, length, get_or, drop, nat_eq, nat_le, Option, Some}
+use Rattle.std.proofs.Common.{cond, ◌||◌, List, [], ◌∷◌, length, get_or, drop, nat_eq, Option, Some}
 use Rattle.std.proofs.Common.{None}
 use Rattle.std.proofs.Common.{Result, Ok, Err, arith, rules}
 use Rattle.std.proofs.lemmas.Bool.Decides.{nat_tests}
 use Rattle.std.proofs.lemmas.List.{ext_get_or, get_or-drop, get_or-take, length-drop, length-take}
 use Rattle.std.specs.Cmp.{nat_cmp_total}
 use Rattle.std.specs.FinMap.{nat_cmp-IsAntisymmetric}
-use Rattle.std.specs.FinSet.{FinSet, contains, contains-insert, contains-items, insert, items, len}
+use Rattle.std.specs.FinSet.{FinSet, contains, contains-insert, contains-items, insert, len}
 use Rattle.std.specs.FinSet.{len-insert}
 use Rattle.std.specs.Ordering.{eq_by_cmp, nat_cmp}
 use Rattle.limits.specs.declared.TheConstants.{TRANSFER_BYTES}

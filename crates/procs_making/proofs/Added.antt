@@ -1,6 +1,6 @@
 -- New files under their numbers, and their sizes.
 use Rattle.std.proofs.Common.{◌≡◌, ℕ, ◌+◌, ◌*◌, ◌≤◌, sym, ap, subst, ◌∙◌, refl, Bool, true, false, cond, not, ◌||◌}
-use Rattle.std.proofs.Common.{◌&&◌, nat_le, nat_lt, List, [], ◌∷◌, is_some, Option, Some, None, arith}
+use Rattle.std.proofs.Common.{◌&&◌, nat_lt, List, [], ◌∷◌, is_some, Option, Some, None, arith}
 use Rattle.std.proofs.lemmas.Bool.Decides.{nat_tests}
 use Rattle.std.specs.Cmp.{nat_cmp_total}
 use Rattle.std.specs.FinMap.{FinMap, get-insert, insert, nat_cmp-IsAntisymmetric, same_map}

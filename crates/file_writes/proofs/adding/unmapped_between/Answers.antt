@@ -1,8 +1,8 @@
-use Rattle.std.proofs.Common.{◌≡◌, ◌+◌, cond, nat_lt, inl, inr, sym, ap, ◌∙◌, subst, ℕ, arith}
+use Rattle.std.proofs.Common.{◌≡◌, cond, nat_lt, inl, inr, ap, ℕ, arith}
 use Rattle.std.proofs.lemmas.Bool.{cases_lt, le-ltb, lt-ltb}
 use Rattle.limits.specs.declared.TheConstants.{FIRST_DOUBLE_INDEX}
 use Rattle.layout.specs.Parts.{content_in}
-use Rattle.file_writes.specs.Adding.{new_indirect, new_inner}
+use Rattle.file_writes.specs.Adding.{new_inner}
 use Rattle.file_writes.proofs.FilledUp.{double_added, near_added}
 use Rattle.file_writes.proofs.adding.unmapped_between.Goals as goal
 

@@ -1,6 +1,6 @@
-use Rattle.std.proofs.Common.{refl, ℕ, ◌≡◌, ◌≤◌, ◌<◌, ◌*◌, ◌/◌, true, nat_eq, [], ◌∷◌, List, length, replicate, sym, ap}
+use Rattle.std.proofs.Common.{refl, ℕ, ◌≡◌, ◌≤◌, ◌<◌, ◌*◌, ◌/◌, nat_eq, [], ◌∷◌, List, length, replicate, sym, ap}
 use Rattle.std.proofs.Common.{◌∙◌, subst, arith}
-use Rattle.limits.specs.declared.TheConstants.{BLOCK_BYTES, FILE_INDEXES, FIRST_DOUBLE_INDEX, INDIRECT_INDEXES}
+use Rattle.limits.specs.declared.TheConstants.{BLOCK_BYTES, FIRST_DOUBLE_INDEX, INDIRECT_INDEXES}
 use Rattle.nfs_types.specs.Fits.{AreBytes}
 use Rattle.objects.specs.Spliced.{spliced}
 use Rattle.layout.specs.declared.geometry.Geometry.{Geometry}

@@ -1,5 +1,4 @@
-use Rattle.std.proofs.Common.{rules, ◌≡◌, ◌/◌, true, nat_eq, sym, ap, ◌∙◌, subst, arith}
-use Rattle.limits.specs.declared.TheConstants.{BLOCK_BYTES}
+use Rattle.std.proofs.Common.{rules, ◌≡◌, true, nat_eq, sym, ap, ◌∙◌, subst, arith}
 use Rattle.disk.specs.Crash.{Image}
 use Rattle.model.specs.Tree.{Tree}
 use Rattle.layout.specs.Parts.{content_in}

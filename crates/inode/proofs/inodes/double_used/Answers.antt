@@ -1,12 +1,9 @@
-use Rattle.std.proofs.Common.{rules, ◌≡◌, ℕ, suc, ◌+◌, ap, ◌∙◌, get_or, sum_by, subst, sym, true, arith}
+use Rattle.std.proofs.Common.{rules, ◌≡◌, ℕ, ◌+◌, ap, ◌∙◌, sum_by, arith}
 use Rattle.std.specs.List.{range_with_len}
-use Rattle.layout.specs.Decode.{numbers_in}
-use Rattle.layout.specs.InodeForm.{is_data_block_or_none}
 use Rattle.layout.specs.Parts.{content_in}
-use Rattle.layout.proofs.NumbersIn.{in_length}
 use Rattle.inode.specs.Over.{far_at}
 use Rattle.inode.proofs.HeldThere.{no_data}
-use Rattle.inode.proofs.Placed.{inner_data, inner_far_placed, some_far}
+use Rattle.inode.proofs.Placed.{some_far}
 use Rattle.inode.proofs.UsedBlocks.{double_rows, no_double, row_held, rows_at}
 use Rattle.inode.proofs.inodes.double_used.Goals as goal
 
