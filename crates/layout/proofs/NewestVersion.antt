@@ -18,6 +18,7 @@ use Rattle.layout.specs.Fields.{four_at, is_zeros}
 use Rattle.layout.specs.InodeForm.{fields_of, inode_of_kind, is_data_block_or_none, is_sound_directory, is_sound_file}
 use Rattle.layout.specs.InodeForm.{is_sound_inode, is_sound_kind, is_sound_link, is_sound_map, is_sound_regular}
 use Rattle.layout.specs.InodeForm.{kind_of_number, read_inode, rest_is_zero}
+use Rattle.layout.specs.Newest.{newest}
 use Rattle.layout.specs.Owners.{IsMarked, owned}
 use Rattle.layout.specs.Parts.{Parts, content_in, parts_of, table_of}
 use Rattle.layout.specs.Places.{inode_block, inode_offset}
@@ -25,10 +26,6 @@ use Rattle.layout.specs.Stands.{PartsStand, Stands}
 use Rattle.layout.specs.Version.{has_double}
 use Rattle.layout.proofs.OneGeometry.{one_geometry}
 use Rattle.layout.proofs.Respelled.{all_four, all_three}
-
--- the same image in the newest version
-abbrev newest : Geometry → Geometry
-newest g = record { version = Second; blocks = g.blocks; inodes = g.inodes; lawful = g.lawful }
 
 or_true : (a : Bool) → (a || true) ≡ true
 or_true true = refl
@@ -160,7 +157,7 @@ module _ (g : Geometry) where
     marked = marked_alike parts is.marked;
   }
 
-  newest_stands : (blocks : Image) (tree : Tree) → Stands g blocks tree → Stands (newest g) blocks tree
+  pub newest_stands : (blocks : Image) (tree : Tree) → Stands g blocks tree → Stands (newest g) blocks tree
   newest_stands blocks tree is = record {
     bytes = is.bytes;
     parts = subst (λ parts. PartsStand (newest g) parts tree) (sym (parts_alike blocks is.parts.has.inodes))
