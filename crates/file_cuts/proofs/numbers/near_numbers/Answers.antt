@@ -6,11 +6,10 @@ use Rattle.layout.specs.Decode.{numbers_of}
 use Rattle.layout.specs.InodeForm.{is_data_block_or_none}
 use Rattle.layout.specs.Parts.{content_in}
 use Rattle.layout.proofs.AllNumbers.{all-length}
-use Rattle.layout.proofs.FileNumbers.{in_parts}
-use Rattle.layout.proofs.NumbersIn.{first_direct}
+use Rattle.layout.proofs.FileNumbers.{first_direct}
 use Rattle.inode.proofs.Pieces.{direct}
 use Rattle.file_cuts.proofs.CutNumbers.{all_both}
-use Rattle.file_cuts.proofs.numbers.all_numbers.Goals as goal
+use Rattle.file_cuts.proofs.numbers.near_numbers.Goals as goal
 
 pub indexes-preserved : goal.indexes-preserved
 indexes-preserved c =
@@ -31,12 +30,14 @@ indexes-preserved c =
           ∙ sym (take_more (numbers_of content c.args.inode.now) c.indexes.index 0 (omega (arith, long, below))),
     )
 
+pub returns-clause-len : goal.returns-clause-len
+returns-clause-len c =
+    let past = c.indexes-test.false in
+    let most = c.indexes.auto.index-end in
+    let count = c.indexes.invariant.0 in omega (arith, past, most, count)
+
 pub returns-clause-placed : goal.returns-clause-placed
-returns-clause-placed c =
-    let test = is_data_block_or_none c.args.snap.now.geometry in
-    ap (list_all test) (c.in_ok-extend_from_slice.ensures.items
-    ∙ ap (λ l. c.indexes.numbers.items ++ l) c.deref.ensures.value)
-    ∙ all_both test c.indexes.numbers.items c.in_ok-far.far.items c.indexes.invariant.1 c.in_ok-far.ensures.placed
+returns-clause-placed c = c.indexes.invariant.1
 
 pub returns-clause-ok : goal.returns-clause-ok
 returns-clause-ok c = λ blocks tree file has.
@@ -46,7 +47,5 @@ returns-clause-ok c = λ blocks tree file has.
     let past = c.indexes-test.false in
     let most = c.indexes.auto.index-end in
     let end : c.indexes.index ≡ DIRECT_INDEXES = omega (arith, past, most) in
-    let near = c.indexes.invariant.2 blocks tree file has
-    ∙ ap (λ k. take k (numbers_of content inode)) end ∙ first_direct content inode few in
-    let far = c.deref.ensures.value ∙ c.in_ok-far.ensures.ok blocks tree file has in
-    c.in_ok-extend_from_slice.ensures.items ∙ (λ i. near i ++ far i) ∙ sym (in_parts content inode)
+    c.indexes.invariant.2 blocks tree file has
+    ∙ ap (λ k. take k (numbers_of content inode)) end ∙ first_direct content inode few
