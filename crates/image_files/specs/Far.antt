@@ -10,8 +10,8 @@ use Rattle.layout.specs.Fields.{numbers_at}
 use Rattle.layout.specs.InodeForm.{is_data_block_or_none}
 use Rattle.layout.specs.Places.{is_data}
 
--- A block of this number that holds numbers has these numbers: it is a data block, each of them is 0 or that of one, and not all
--- are 0.
+-- A block of this number that holds numbers has these numbers: it is a data block, each of them is 0 or that of one,
+-- and not all are 0.
 pub record AreFar (g : Geometry) (image : Image) (indirect : ℕ) (numbers : List ℕ) : Type 0 where
   pub lies : is_data g indirect ≡ true
   pub are : numbers ≡ numbers_at INDIRECT_INDEXES 0 (image indirect)
