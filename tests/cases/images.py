@@ -126,7 +126,7 @@ class Image:
         self.inode_bitmap = BITMAP + -(-blocks // BITS)
         self.table = self.inode_bitmap + -(-inodes // BITS)
         self.data = self.table + inodes // INODES_PER_BLOCK
-        self.files, self.content = [], {0: wire.super_block(blocks, inodes, boot, version)}
+        self.files, self.content, self.pointers = [], {0: wire.super_block(blocks, inodes, boot, version)}, []
         root.stamp = (0, 0)
         self.number_files()
         free = iter(order(list(range(self.data, blocks))))
@@ -164,9 +164,11 @@ class Image:
             """The number of a block that has these numbers, by their places in it, or 0 where there are none."""
             if not found:
                 return 0
-            taken.append(next(free))
-            self.content[taken[-1]] = struct.pack("<1024I", *(found.get(it, 0) for it in range(INDIRECT)))
-            return taken[-1]
+            number = next(free)
+            taken.append(number)
+            self.pointers.append(number)
+            self.content[number] = struct.pack("<1024I", *(found.get(it, 0) for it in range(INDIRECT)))
+            return number
 
         direct = [numbers.get(it, 0) for it in range(DIRECT)]
         indirect = pointers({index - DIRECT: it for index, it in numbers.items() if DIRECT <= index < SPAN})

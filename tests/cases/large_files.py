@@ -280,12 +280,11 @@ def test_the_plain_program_answers_calls_at_the_borders_as_the_server_does(place
         files = [client.create(ROOT, b"f") for client in (server, other)]
         same("the file", files[0], files[1])
         for number in range(60):
-            asked_now = drawn.drawn.choice((
+            procedure, *values = drawn.drawn.choice((
                 (nfs.WRITE, drawn.offset(), drawn.bytes()), (nfs.WRITE, drawn.offset(), drawn.bytes()),
                 (nfs.SETATTR, nfs.new_attributes(size=drawn.offset()), None), (nfs.READ, drawn.offset(), 20_000),
                 (nfs.WRITE, LARGEST - drawn.drawn.randrange(2), b"far"), (nfs.SETATTR, nfs.new_attributes(size=LARGEST + 1), None),
             ))
-            procedure, *values = asked_now
             if procedure is nfs.WRITE:
                 values = [values[0], len(values[1]), nfs.FILE_SYNC, values[1]]
             record = procedure.call(number, CALLER, files[0], *values)
@@ -480,21 +479,16 @@ def far_images():
     yield "from the last block on", images.Image(far_tree(), 4096, boot=2**40, version=2, order=lambda it: it[::-1])
     yield "past the first bitmap", images.Image(far_tree(), 40_000, 4096, version=2, order=lambda it: it[33_000:])
     image = images.Image(far_tree(), 4096, version=2)
-    image.into_log([image.table, BITMAP, image.inode_bitmap, *pointer_numbers(image)[:200]], 505)
-    yield "with blocks of numbers in its log", image
-
-
-def pointer_numbers(image):
-    """Data blocks of an image that have numbers, and then others."""
-    numbers = range(image.data, image.blocks - image.free_blocks)
-    return sorted(numbers, key=lambda it: set(image.block(it)[8:]) == {0} or image.block(it)[4:8] == bytes(4))
+    image.into_log([image.table, BITMAP, image.inode_bitmap, *image.pointers], 505)
+    yield "with its pointer blocks in its log", image
 
 
 def near_images(boot=7):
     """The same of version 1."""
     yield "as it is", images.Image(near_tree(), boot=boot, version=1)
     image = images.Image(near_tree(), boot=boot, version=1)
-    image.into_log([image.table, BITMAP, image.inode_bitmap, *range(image.data, image.data + 12)], 505)
+    # (each block more has twice as many images of a crash)
+    image.into_log([image.table, BITMAP, image.inode_bitmap, image.data, image.pointers[0]], 508)
     yield "with a log", image
 
 
@@ -735,8 +729,8 @@ def all_of(image):
 
 
 def opened_at_each_stop(place, shared, before, what, drawn):
-    """The images that an opening may leave that is stopped at any of its calls of the file: each has the old version and boot
-    number, or version 2 and the next boot number, and the same files."""
+    """The images that an opening may leave that is stopped at any of its calls of the file have the old version and boot number, or
+    version 2 and the next boot number, and the same files. Gives some of them."""
     wanted, (version, boot) = all_of(before), version_and_boot(before)
     ran, events = run_noted(place, shared, ["once", set_image(place, before), "--time", str(NOW)])
     expect(what, ran, 0, b"", b"")
@@ -744,22 +738,23 @@ def opened_at_each_stop(place, shared, before, what, drawn):
     heads = [at for at, (kind, number, _) in enumerate(events) if (kind, number) == ("w", 0)]
     same(f"{what}: how often block 0 is written", len(heads), 1)
     same(f"{what}: what follows", [kind for kind, _, _ in events[heads[0] + 1 :]], ["s"])
-    found = {}
+    seen, found, some = set(), set(), []
     for stop in range(len(events) + 1):
-        for left in left_by_a_crash(before, events[:stop], drawn):
-            if left not in found:
+        for left in left_by_a_crash(before, events[:stop], drawn, 8):
+            if hash(left) not in seen:
+                seen.add(hash(left))
                 same(f"{what}, stop {stop}: the files", all_of(left), wanted)
-                found[left] = version_and_boot(left)
-                is_so(f"{what}, stop {stop}: version and boot {found[left]}", found[left] in ((version, boot), (2, boot + 1)))
-    same(f"{what}: versions and boots that are left", set(found.values()), {(version, boot), (2, boot + 1)})
-    return list(found)
+                found.add(version_and_boot(left))
+                some += [left] if drawn.random() < 0.2 else []
+    same(f"{what}: versions and boots that are left", found, {(version, boot), (2, boot + 1)})
+    return some
 
 
 def test_an_opening_of_version_1_that_is_stopped_at_each_of_its_calls(place):
     shared, drawn = shared_library(place), random.Random(14)
     for what, image in near_images():
         before = contents(image.write(place.path("image")))
-        for number, left in enumerate(opened_at_each_stop(place, shared, before, what, drawn)):
+        for number, left in enumerate(opened_at_each_stop(place, shared, before, what, drawn)[:6]):
             # Another opening of what was left is stopped too.
             opened_at_each_stop(place, shared, left, f"{what}, image {number}", drawn)
 
@@ -774,7 +769,7 @@ def test_an_opening_of_version_1_of_which_each_call_fails_once(place):
             set_image(place, before)
             ran, found = run_noted(place, shared, arguments, wire.null_call(1), FAILED_CALL=str(failed), **given)
             expect(f"{what}: call {failed} fails", ran, 1, b"", b"nfsd: 5 Device\n")
-            for left in left_by_a_crash(before, found, drawn):
+            for left in left_by_a_crash(before, found, drawn, 4):
                 same(f"{what}: the files behind call {failed}", all_of(left), wanted)
                 is_so(f"{what}: version and boot behind call {failed}", version_and_boot(left) in ((1, 7), (2, 8)))
 
