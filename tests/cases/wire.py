@@ -6,7 +6,7 @@ import struct
 
 PROGRAM, VERSION = 100003, 3
 # The version of the images that the program makes (docs/FORMAT.md).
-FORMAT = 1
+FORMAT = 2
 NULL, GETATTR, SETATTR = 0, 1, 2
 NFS3_OK, NFS3ERR_IO = 0, 5
 DIRECTORY = 2

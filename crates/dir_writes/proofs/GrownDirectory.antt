@@ -1,12 +1,12 @@
 -- A directory that has one block more, in whose first slot a name lies.
 use Rattle.std.proofs.Common.{◌≡◌, ℕ, zero, suc, ◌+◌, ◌-◌, ◌*◌, ◌/◌, ◌%◌, ◌<◌, ◌≤◌, max, min, inl, inr, sym, ap, ◌∙◌, refl}
-use Rattle.std.proofs.Common.{subst, Bool, true, false, cond, not, ◌&&◌, ◌||◌, List, [], ◌∷◌, length, take, drop}
+use Rattle.std.proofs.Common.{subst, Bool, true, false, cond, not, ◌&&◌, List, [], ◌∷◌, length, take, drop}
 use Rattle.std.proofs.Common.{get_or, set, replicate, nat_eq, nat_le, nat_lt, is_none, IsOk, Some, None, Ok, arith}
 use Rattle.std.proofs.Math.Seq.{take-append_seam, drop-append_seam}
 use Rattle.std.specs.Cmp.Lexicographic.{nat_list_cmp_total, slice_cmp}
 use Rattle.std.specs.FinMap as map
 use Rattle.std.specs.FinMap.{find, from_entries, get, get-from_entries, insert}
-use Rattle.std.specs.List.{flat_map, list_all, list_any}
+use Rattle.std.specs.List.{flat_map, list_all}
 use Rattle.std.specs.Ordering.{nat_cmp}
 use Rattle.std.proofs.lemmas.Bool.Decides.{nat_tests}
 use Rattle.std.proofs.lemmas.Bool.{cases_eq, cases_lt, eq-eqb, le-leb, le-ltb, lt-ltb}
@@ -512,7 +512,7 @@ module _ (snap : Snap) (base : Image) (tree : Tree) (n : ℕ) (inode : Inode) (n
         numbers = ap (list_all (is_data_block_or_none g)) fills.now
             ∙ all_still (is_data_block_or_none g) numbers (offset / BLOCK_BYTES) b dir.mapped.numbers
             (or_data g b fills.lies);
-        used = ap (λ l. nat_eq far 0 || list_any is_some (drop (length direct) l)) fills.now ∙ fills.used;
+        used = fills.used;
       };
       spans = spans_now;
       slots = All-from_get_or (λ k. IsOk (read_slot g.inodes (slot_bytes after new k))) (slots_of new) 0

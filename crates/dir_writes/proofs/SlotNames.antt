@@ -1,7 +1,7 @@
 -- The names of a directory of which a slot got other bytes.
 use Rattle.std.proofs.Common.{◌≡◌, ℕ, zero, suc, ◌+◌, ◌*◌, ◌/◌, ◌<◌, ◌≤◌, inl, inr, sym, ap, ◌∙◌, refl, subst}
-use Rattle.std.proofs.Common.{Bool, true, false, cond, not, ◌||◌, List, [], ◌∷◌, ◌++◌, length, take, drop, get_or}
-use Rattle.std.proofs.Common.{replicate, nat_eq, IsOk, Option, Ok, arith}
+use Rattle.std.proofs.Common.{Bool, true, false, cond, not, ◌||◌, List, [], ◌∷◌, length, take, drop, get_or}
+use Rattle.std.proofs.Common.{nat_eq, IsOk, Option, Ok, arith}
 use Rattle.std.specs.Cmp.Lexicographic.{slice_cmp}
 use Rattle.std.specs.FinMap as map
 use Rattle.std.specs.List.{cons_option, flat_map, list_all, list_any}
@@ -16,10 +16,11 @@ use Rattle.layout.specs.declared.geometry.Geometry.{Geometry}
 use Rattle.layout.specs.declared.inode.Inode.{Inode}
 use Rattle.layout.specs.declared.slot.Slot.{Slot}
 use Rattle.layout.specs.declared.slot.TheConstants.{SLOT_BYTES}
-use Rattle.layout.specs.Decode.{IsDirectory, bytes_of, content_of, entries_in, entry_in, named_in, numbers_of}
+use Rattle.layout.specs.Decode.{IsDirectory, bytes_of, content_of, entries_in, entry_in, named_in, numbers_in, numbers_of}
 use Rattle.layout.specs.Decode.{slot_bytes, slots_of, span_of}
 use Rattle.layout.specs.InodeForm.{is_data_block_or_none, names_first}
 use Rattle.layout.specs.SlotForm.{read_slot}
+use Rattle.layout.proofs.ChangedNumbers.{alike_numbers}
 use Rattle.layout.proofs.NumbersIn.{same_in}
 use Rattle.layout.proofs.Written.{not_same}
 use Rattle.inode.proofs.AllTests.{all_two}
@@ -101,10 +102,12 @@ module _ (g : Geometry) (content : Image) (inode : Inode) (s : ℕ) (bytes : Lis
       once.index j (s / SLOTS_PER_BLOCK) (omega (arith, low, all, spans)) (omega (arith, first, spans))
       (sym (get_or-take (span_of inode) numbers j 0 (omega (arith, low, all))) ∙ e) refl
 
+  same_far : numbers_in after inode.indirect ≡ numbers_in content inode.indirect
+  same_far = same_in after content inode.indirect
+      (λ mapped. other_block content spanned s b bytes count long b_is some within alone inode.indirect once.indirect)
+
   pub same_numbers : numbers_of after inode ≡ numbers
-  unfolding numbers_of
-  same_numbers = ap (λ l. inode.direct ++ l) (same_in after content inode.indirect
-      (λ mapped. other_block content spanned s b bytes count long b_is some within alone inode.indirect once.indirect))
+  same_numbers = alike_numbers content after inode inode refl same_far
 
   -- ---- its slots
 
@@ -172,8 +175,7 @@ module _ (g : Geometry) (content : Image) (inode : Inode) (s : ℕ) (bytes : Lis
   rules is_once = record {
     mapped = record {
       numbers = ap (list_all (is_data_block_or_none g)) same_numbers ∙ dir.mapped.numbers;
-      used = ap (λ ns. nat_eq inode.indirect 0
-          || list_any (λ n. not (nat_eq n 0)) (drop (length inode.direct) ns)) same_numbers ∙ dir.mapped.used;
+      used = ap (λ l. nat_eq inode.indirect 0 || list_any (λ n. not (nat_eq n 0)) l) same_far ∙ dir.mapped.used;
     };
     spans = ap (names_first (span_of inode)) same_numbers ∙ dir.spans;
     slots = All-from_get_or (λ k. IsOk (read_slot g.inodes (slot_bytes after inode k))) (slots_of inode) 0

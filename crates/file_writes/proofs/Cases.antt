@@ -1,11 +1,11 @@
 -- How a file's blocks take a piece of bytes: its block is there, or a free one is named by the inode, by the
 -- indirect block, or by a free one that becomes the indirect block.
 use Rattle.std.proofs.Common.{◌≡◌, ℕ, zero, suc, ◌+◌, ◌-◌, ◌*◌, ◌/◌, ◌%◌, ◌<◌, ◌≤◌, ◌^◌, sym, ap, ◌∙◌, refl, subst}
-use Rattle.std.proofs.Common.{Bool, true, false, cond, ◌||◌, not, List, [], ◌∷◌, ◌++◌, length, get_or, drop, set}
+use Rattle.std.proofs.Common.{Bool, true, false, cond, ◌||◌, not, List, [], ◌∷◌, length, get_or, set}
 use Rattle.std.proofs.Common.{replicate, nat_eq, Some, Ok, Err, arith}
 use Rattle.std.specs.List.{AllByRecursion, list_all, list_any}
 use Rattle.std.proofs.lemmas.Bool.{eq-eqb, lt-ltb}
-use Rattle.std.proofs.lemmas.List.{get_or-set_other, length-set, set-append_left, set-append_right, set-get_or, set-set}
+use Rattle.std.proofs.lemmas.List.{get_or-set_other, length-set, set-get_or, set-set}
 use Rattle.std.proofs.lemmas.List.Sums.{sum_by-cons}
 use Rattle.limits.specs.declared.TheConstants.{BLOCK_BYTES, DIRECT_INDEXES, INDIRECT_INDEXES}
 use Rattle.disk.specs.Crash.{Image}
@@ -21,7 +21,8 @@ use Rattle.layout.specs.Owners.{owned, owned_by}
 use Rattle.layout.specs.Parts.{parts_of, put}
 use Rattle.layout.specs.Places.{is_data}
 use Rattle.layout.proofs.AllNumbers.{maps}
-use Rattle.layout.proofs.NumbersIn.{same_in, some_in}
+use Rattle.layout.proofs.ChangedNumbers.{alike_numbers, direct_set, indirect_set}
+use Rattle.layout.proofs.NumbersIn.{in_length, same_in, some_in}
 use Rattle.layout.proofs.OnGrid.{data_within}
 use Rattle.layout.proofs.Written.{not_same}
 use Rattle.drafts.proofs.Marks.{times}
@@ -32,7 +33,7 @@ use Rattle.bitmap.proofs.Gained.{own_part}
 use Rattle.file_writes.specs.Filling.{Fills, HasMapped, IsPiece, grown_size, mapping}
 use Rattle.file_writes.proofs.FarNumbers.{far_none, far_set}
 use Rattle.file_writes.proofs.OneNumber.{all_still, any_behind, in_front, is_some, none_in_front, once_more}
-use Rattle.file_writes.proofs.OneNumber.{same_behind, some}
+use Rattle.file_writes.proofs.OneNumber.{some}
 use Rattle.file_writes.proofs.MappedFile.{content, count, long_content, numbers, sound}
 use Rattle.file_writes.proofs.PieceWritten.{not_zero, or_data}
 
@@ -210,9 +211,11 @@ module _ (g : Geometry) (base : Image) (tree : Tree) (n : ℕ) (inode : Inode)
       far_kept some_far = put_else was b block inode.indirect
           (λ same. not_far index low there_some (sym b_is ∙ sym same))
 
+      far_there : numbers_in (put was b block) inode.indirect ≡ numbers_in was inode.indirect
+      far_there = same_in (put was b block) was inode.indirect far_kept
+
       now_there : numbers_of (put was b block) (mapping inode size inode.direct inode.indirect) ≡ all
-      unfolding numbers_of
-      now_there = ap (λ l. inode.direct ++ l) (same_in (put was b block) was inode.indirect far_kept)
+      now_there = alike_numbers was (put was b block) inode (mapping inode size inode.direct inode.indirect) refl far_there
 
       pub block_there : Fills g base inode offset piece b inode.direct inode.indirect (put was b block) []
       block_there = record {
@@ -223,8 +226,7 @@ module _ (g : Geometry) (base : Image) (tree : Tree) (n : ℕ) (inode : Inode)
             let two = twice b all j index other less low same (sym b_is) (ap not b_some) in
             let more = no_fewer b inode.indirect all in
             let most = few b in absurd (omega (arith, two, more, most)));
-        used = ap (λ l. nat_eq inode.indirect 0 || list_any is_some (drop (length inode.direct) l)) kept
-            ∙ has.mapped.used;
+        used = ap (λ l. nat_eq inode.indirect 0 || list_any is_some l) far_there ∙ has.mapped.used;
         count = direct_count;
         fit = direct_fits;
         placed = placed.0;
@@ -267,14 +269,15 @@ module _ (g : Geometry) (base : Image) (tree : Tree) (n : ℕ) (inode : Inode)
       far_still : nat_eq inode.indirect 0 ≡ false → put was b block inode.indirect ≡ was inode.indirect
       far_still some_far = put_else was b block inode.indirect (not_new inode.indirect (own_far some_far))
 
+      far_as_was : numbers_in (put was b block) inode.indirect ≡ numbers_in was inode.indirect
+      far_as_was = same_in (put was b block) was inode.indirect far_still
+
       module _ (near : index < DIRECT_INDEXES) where
         now_near : numbers_of (put was b block) (mapping inode size (set inode.direct index b) inode.indirect)
             ≡ set all index b
-        unfolding numbers_of
         now_near =
-            let long = direct_count in
-            ap (λ l. set inode.direct index b ++ l) (same_in (put was b block) was inode.indirect far_still)
-            ∙ sym (set-append_left inode.direct (numbers_in was inode.indirect) index b (omega (arith, long, near)))
+            direct_set was (put was b block) inode (mapping inode size (set inode.direct index b) inode.indirect)
+            direct_count index b near refl far_as_was
 
         pub block_named : Fills g base inode offset piece b (set inode.direct index b) inode.indirect
             (put was b block) (b ∷ [])
@@ -284,11 +287,7 @@ module _ (g : Geometry) (base : Image) (tree : Tree) (n : ℕ) (inode : Inode)
           here = put_here was b block ∙ block_is;
           others = λ j less other some_j. put_else was b block (get_or all j 0)
               (not_new (get_or all j 0) (own_at j less some_j));
-          used = ap (λ k. nat_eq inode.indirect 0 || list_any is_some (drop k (set all index b)))
-              (length-set inode.direct index b)
-              ∙ ap (λ l. nat_eq inode.indirect 0 || list_any is_some l)
-              (same_behind all index (length inode.direct) b (let long = direct_count in omega (arith, long, near)))
-              ∙ has.mapped.used;
+          used = ap (λ l. nat_eq inode.indirect 0 || list_any is_some l) far_as_was ∙ has.mapped.used;
           count = length-set inode.direct index b ∙ direct_count;
           fit = all_set (λ number. number < 2 ^ 32) inode.direct index b (data_fits b free.lies) direct_fits;
           placed = all_still (is_data_block_or_none g) inode.direct index b placed.0 (or_data g b free.lies);
@@ -310,19 +309,19 @@ module _ (g : Geometry) (base : Image) (tree : Tree) (n : ℕ) (inode : Inode)
         far_low : place < INDIRECT_INDEXES
         far_low = let many = count g base tree n inode has in let less = low in omega (arith, many, less, past)
 
-        -- the numbers, where those of the indirect block have this one too
-        named_far : (after : Image) (far : ℕ) → nat_eq far 0 ≡ false
-            → numbers_at INDIRECT_INDEXES 0 (after far) ≡ set (numbers_in was inode.indirect) place b
+        -- the numbers, where those in the indirect block have this one too
+        named_far : (after : Image) (far : ℕ) → numbers_in after far ≡ set (numbers_in was inode.indirect) place b
             → numbers_of after (mapping inode size inode.direct far) ≡ set all index b
-        unfolding numbers_of
-        named_far after far some_far is =
-            ap (λ l. inode.direct ++ l) (some_in after far some_far ∙ is)
-            ∙ sym (set-append_right inode.direct (numbers_in was inode.indirect) DIRECT_INDEXES index b direct_count past)
+        named_far after far is =
+            indirect_set was after inode (mapping inode size inode.direct far) direct_count index b past
+            (let less = far_low in omega (arith, less, past)) refl is
 
-        used_far : (far : ℕ) → (nat_eq far 0 || list_any is_some (drop (length inode.direct) (set all index b))) ≡ true
-        used_far far = or_right (nat_eq far 0)
-            (any_behind is_some all index (length inode.direct) b
-            (let long = direct_count in omega (arith, long, past)) low b_is_some)
+        used_far : (after : Image) (far : ℕ) → numbers_in after far ≡ set (numbers_in was inode.indirect) place b
+            → (nat_eq far 0 || list_any is_some (numbers_in after far)) ≡ true
+        used_far after far is = or_right (nat_eq far 0)
+            (ap (list_any is_some) is
+            ∙ any_behind is_some (numbers_in was inode.indirect) place 0 b (omega arith)
+            (let less = far_low in let many = in_length was inode.indirect in omega (arith, less, many)) b_is_some)
           where
             or_right : (t : Bool) {u : Bool} → u ≡ true → (t || u) ≡ true
             or_right true e = refl
@@ -339,23 +338,24 @@ module _ (g : Geometry) (base : Image) (tree : Tree) (n : ℕ) (inode : Inode)
           far_has = put_else (put was inode.indirect far_block) b block inode.indirect
               (not_new inode.indirect (own_far some_far)) ∙ put_here was inode.indirect far_block
 
-          now_far : numbers_of after_far (mapping inode size inode.direct inode.indirect) ≡ set all index b
-          now_far = named_far after_far inode.indirect some_far
-              (ap (numbers_at INDIRECT_INDEXES 0) far_has
+          in_far : numbers_in after_far inode.indirect ≡ set (numbers_in was inode.indirect) place b
+          in_far =
+              some_in after_far inode.indirect some_far
+              ∙ ap (numbers_at INDIRECT_INDEXES 0) far_has
               ∙ far_set (was inode.indirect) place b (long_content g base tree n inode has inode.indirect) far_low
               (data_fits b free.lies)
-              ∙ ap (λ l. set l place b) (sym (some_in was inode.indirect some_far)))
+              ∙ ap (λ l. set l place b) (sym (some_in was inode.indirect some_far))
 
           pub block_named_far : Fills g base inode offset piece b inode.direct inode.indirect after_far (b ∷ [])
           block_named_far = record {
-            now = now_far;
+            now = named_far after_far inode.indirect in_far;
             lies = free.lies;
             here = put_here (put was inode.indirect far_block) b block ∙ block_is;
             others = λ j less other some_j.
                 put_else (put was inode.indirect far_block) b block (get_or all j 0)
                 (not_new (get_or all j 0) (own_at j less some_j))
                 ∙ put_else was inode.indirect far_block (get_or all j 0) (not_far j less some_j);
-            used = used_far inode.indirect;
+            used = used_far after_far inode.indirect in_far;
             count = direct_count;
             fit = direct_fits;
             placed = placed.0;
@@ -399,11 +399,12 @@ module _ (g : Geometry) (base : Image) (tree : Tree) (n : ℕ) (inode : Inode)
           first_has : after_first far ≡ first_block
           first_has = put_else (put was far first_block) b block far far_not_b ∙ put_here was far first_block
 
-          now_first : numbers_of after_first (mapping inode size inode.direct far) ≡ set all index b
-          now_first = named_far after_first far (not_zero g far far_free.lies)
-              (ap (numbers_at INDIRECT_INDEXES 0) first_has
+          in_first : numbers_in after_first far ≡ set (numbers_in was inode.indirect) place b
+          in_first =
+              some_in after_first far (not_zero g far far_free.lies)
+              ∙ ap (numbers_at INDIRECT_INDEXES 0) first_has
               ∙ far_set (replicate BLOCK_BYTES 0) place b refl far_low (data_fits b free.lies)
-              ∙ ap (λ l. set l place b) (far_none was inode.indirect no_far))
+              ∙ ap (λ l. set l place b) (far_none was inode.indirect no_far)
 
           not_first : (q : ℕ) → 1 ≤ times q own → q ≡ far → ⊥
           not_first q some_q same =
@@ -416,14 +417,14 @@ module _ (g : Geometry) (base : Image) (tree : Tree) (n : ℕ) (inode : Inode)
 
           pub block_named_first : Fills g base inode offset piece b inode.direct far after_first (far ∷ b ∷ [])
           block_named_first = record {
-            now = now_first;
+            now = named_far after_first far in_first;
             lies = free.lies;
             here = put_here (put was far first_block) b block ∙ block_is;
             others = λ j less other some_j.
                 put_else (put was far first_block) b block (get_or all j 0)
                 (not_new (get_or all j 0) (own_at j less some_j))
                 ∙ put_else was far first_block (get_or all j 0) (not_first (get_or all j 0) (own_at j less some_j));
-            used = used_far far;
+            used = used_far after_first far in_first;
             count = direct_count;
             fit = direct_fits;
             placed = placed.0;

@@ -147,7 +147,8 @@ module _ (g : Geometry) (base : Image) (tree : Tree) (n : ℕ) (inode : Inode)
   used some_far =
       let direct = (sound g base tree n inode has).fits.count in
       ap one_if (ap (λ k. list_any is_some (drop k numbers)) (sym direct)
-      ∙ ap (λ t. t || list_any is_some (drop (length inode.direct) numbers)) (sym some_far)
+      ∙ ap (list_any is_some) (past_direct (content_in g base) inode)
+      ∙ ap (λ t. t || list_any is_some (numbers_in (content_in g base) inode.indirect)) (sym some_far)
       ∙ (rules g base tree n inode has).mapped.used)
 
   pub far_added : missing + count_of numbers ≡ count_of filled → DIRECT_INDEXES ≤ last

@@ -3,7 +3,7 @@
 use Rattle.std.proofs.Common.{◌≡◌, ℕ, suc, ◌+◌, ◌-◌, ◌*◌, ◌/◌, ◌%◌, ◌<◌, ◌≤◌, sym, ap, ◌∙◌, refl, subst}
 use Rattle.std.proofs.Common.{Bool, true, false, cond, ◌&&◌, ◌||◌, not, List, [], ◌∷◌, length, get_or, take, drop}
 use Rattle.std.proofs.Common.{replicate, nat_eq, nat_le, filter, Some, Ok, arith}
-use Rattle.std.specs.List.{flat_map, list_all, list_any, range_with_len}
+use Rattle.std.specs.List.{flat_map, list_all, range_with_len}
 use Rattle.std.proofs.lemmas.Bool.Decides.{nat_tests}
 use Rattle.limits.specs.declared.TheConstants.{BLOCK_BYTES, FILE_INDEXES, LARGEST_FILE}
 use Rattle.disk.specs.Crash.{Image}
@@ -158,7 +158,7 @@ module _ (g : Geometry) (base : Image) (tree : Tree) (n : ℕ) (inode : Inode)
       mapped = record {
         numbers = ap (list_all (is_data_block_or_none g)) fills.now
             ∙ all_still (is_data_block_or_none g) numbers index b rules.mapped.numbers (or_data g b fills.lies);
-        used = ap (λ l. nat_eq far 0 || list_any is_some (drop (length direct) l)) fills.now ∙ fills.used;
+        used = fills.used;
       };
       zeros = ap (λ l. is_zeros (drop (grown_size inode.size offset piece) l)) bytes_now
           ∙ zeros_behind (bytes_of content numbers) piece offset inode.size room few rules.zeros;

@@ -1,4 +1,6 @@
 //! What has been read for a call so far.
+ghost use Rattle.std.specs.Prelude.{◌≡◌};
+ghost use Rattle.layout.specs.declared.version.FormatVersion.TheVariants.{Second};
 ghost use Rattle.inode.specs.Indexed.{IsIndexed};
 
 use crate::finding::{find, walk, with_last};
@@ -9,8 +11,8 @@ use objects::{Addr, SharedBytes};
 use std::alloc::{AllocError, Global};
 use txn::Object;
 
-/// The geometry of the image, the objects that were read so far in their order, and the blocks that were
-/// claimed. Free blocks are looked for from a piece of their bitmap on: any does. Where there is an index it tells where
+/// The geometry of the image, which has the newest version once it is open, the objects that were read so far in their
+/// order, and the blocks that were claimed. Free blocks are looked for from a piece of their bitmap on: any does. Where there is an index it tells where
 /// each object stands.
 #[derive(Drop)]
 pub struct Snap {
@@ -20,14 +22,16 @@ pub struct Snap {
     pub from: u32,
     pub index: Option<AddressIndex>,
     pub ghost indexed: { IsIndexed index objects.items },
+    pub ghost newest: { geometry.version ≡ Second },
 }
 
 impl Snap {
-    ghost use Rattle.std.specs.Prelude.{◌≡◌, false, true, ◌∷◌, [], ◌++◌, length, Contains, IfSome, IfNone, OnOk};
+    ghost use Rattle.std.specs.Prelude.{false, true, ◌∷◌, [], ◌++◌, length, Contains, IfSome, IfNone, OnOk};
     ghost use Rattle.inode.specs.Snap.{HasRoom, is_claimed, is_seen, same_addr};
 
     /// Nothing was read yet.
     pub fn new(alloc: Global, geometry: Geometry, from: u32) -> Snap
+        requires { geometry.version ≡ Second }
         ensures geometry { result.geometry ≡ geometry }
         ensures from { result.from ≡ from }
         ensures objects { result.objects.items ≡ [] }

@@ -58,6 +58,7 @@ module _ (snap : Snap) (blocks : Image) (tree : Tree) (number : ℕ) (inode : In
       ∙ some_far content inode.indirect (index - DIRECT_INDEXES) (blocks inode.indirect)
       (some_data g inode.indirect read.lies) (content_is g blocks inode.indirect read.lies)
       ∙ far_there g blocks inode index (direct snap blocks tree number inode has) more
+      (omega (arith, within))
 
   no_fault_at : {A B : Type 0} (r : Result A B) (fault : B) → r ≡ Err fault → IsOk r → ⊥
   no_fault_at (Ok a) fault e ok = cc

@@ -65,6 +65,19 @@ impl Geometry {
         })
     }
 
+    /// The same image in the newest version of the format.
+    pub fn newest(&self) -> Geometry
+        ensures version { result.version ≡ FormatVersion.Second }
+        ensures blocks { result.blocks ≡ self.now.blocks }
+        ensures inodes { result.inodes ≡ self.now.inodes }
+    {
+        Geometry {
+            version: FormatVersion::Second,
+            blocks: self.blocks,
+            inodes: self.inodes,
+        }
+    }
+
     /// The first block of the bitmap of inodes.
     pub fn inode_bitmap(&self) -> BlockNo
         ensures { result.0 ≡ inode_bitmap_at self.now.blocks }

@@ -34,6 +34,7 @@ impl Planner {
     ghost use Rattle.model.specs.Calls.{begins_transaction};
     ghost use Rattle.model.specs.Find.{number_in};
     ghost use Rattle.layout.specs.declared.inode.Inode.{Inode};
+    ghost use Rattle.layout.specs.declared.version.FormatVersion.TheVariants.{Second};
     ghost use Rattle.layout.specs.Decode.{inode_at, span_of};
     ghost use Rattle.inode.specs.declared.snap.Snap.{Snap};
     ghost use Rattle.inode.specs.Read.{Saw};
@@ -47,6 +48,7 @@ impl Planner {
 
     /// Nothing was read yet, and free blocks are looked for from a piece of their bitmap on.
     pub fn new(alloc: Global, geometry: Geometry, from: u32) -> Planner
+        requires { geometry.version ≡ Second }
         ensures geometry { result.snap.geometry ≡ geometry }
         ensures objects { result.snap.objects.items ≡ [] }
         ensures claims { result.snap.claims.items ≡ [] }

@@ -102,7 +102,7 @@ const OBJECTS: u32 = 200;
 #[test]
 fn room_is_made_for_many_objects(rt: HostRuntime) -> Result<(), Fail> {
     let bytes = largest(rt.alloc())?;
-    let mut snap = Snap::new(rt.alloc(), Super::read(&bytes)?.geometry, 0);
+    let mut snap = Snap::new(rt.alloc(), Super::read(&bytes)?.geometry.newest(), 0);
     for number in 0..OBJECTS {
         add(rt.alloc(), &mut snap, number)?;
     }

@@ -1,4 +1,4 @@
-use Rattle.std.proofs.Common.{rules, ◌∙◌}
+use Rattle.std.proofs.Common.{rules, ◌∙◌, arith}
 use Rattle.std.proofs.lemmas.Result.{IfOk-weaker}
 use Rattle.inode.proofs.Pieces.{direct}
 use Rattle.inode.proofs.Placed.{direct_at, far_there}
@@ -14,4 +14,5 @@ returns-clause-ok c =
     IfOk-weaker c.far_number.result _ _ (λ number is blocks tree file has.
     is blocks tree has.over
     ∙ far_there c.args.snap.now.geometry blocks c.args.inode.now c.args.index
-    (direct c.args.snap.now blocks tree file c.args.inode.now has) (search rules)) c.far_number.ensures.ok
+    (direct c.args.snap.now blocks tree file c.args.inode.now has) (search rules) (omega (arith, c.requires)))
+    c.far_number.ensures.ok
