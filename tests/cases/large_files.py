@@ -308,7 +308,7 @@ def test_room_for_the_blocks_with_numbers_too(place):
         ("on both sides of the border", (), SPAN - 1, 2, 5),
         ("on both sides, behind an indirect block", (DIRECT,), SPAN - 1, 2, 4),
         ("of two inner blocks", (), SPAN + INDIRECT - 1, 2, 5),
-        ("of two inner blocks, of which one is there", (SPAN + INDIRECT,), SPAN + INDIRECT - 1, 2, 1),
+        ("of two inner blocks, of which one is there", (SPAN + INDIRECT,), SPAN + INDIRECT - 1, 2, 2),
         ("a block that is there", (SPAN,), SPAN, 1, 0),
     )
     for what, mapped, index, count, needed in rows:
