@@ -20,7 +20,7 @@ is_object g first piece addr from to block offset len =
     bits (piece % PIECES_PER_BLOCK) (omega arith) (omega (arith, from, block)) (omega (arith, to, block)) offset len
 
 pub may_stop : (snap : Snap) (why : Stop) → IsNew snap why → IsAskedObject snap.geometry why → MayStop snap why
-may_stop snap (stop.Need addr) new asked = (new, asked)
+may_stop snap (stop.Need addr mode) new asked = (new, asked)
 may_stop snap (stop.Claim block) new asked = absurd asked
 may_stop snap stop.Io new asked = tt
 may_stop snap stop.NoMemory new asked = tt

@@ -6,7 +6,7 @@ use Rattle.inode.specs.declared.stop.Stop.TheVariants as stop
 
 -- what is asked for is an object of the image
 abbrev pub IsAskedObject : Geometry → Stop → Type 0
-IsAskedObject g (stop.Need addr) = IsObject g addr
+IsAskedObject g (stop.Need addr mode) = IsObject g addr
 IsAskedObject g (stop.Claim block) = ⊥
 IsAskedObject g stop.Io = Unit {0}
 IsAskedObject g stop.NoMemory = Unit {0}

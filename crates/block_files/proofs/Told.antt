@@ -25,7 +25,7 @@ use Rattle.bitmap.specs.Pieces.{IsAskedObject}
 use Rattle.block_files.specs.Heads.{head_of}
 
 pub may_stop : (snap : Snap) (why : Stop) → IsNew snap why → IsAskedObject snap.geometry why → MayStop snap why
-may_stop snap (stop.Need addr) new asked = (new, asked)
+may_stop snap (stop.Need addr mode) new asked = (new, asked)
 may_stop snap (stop.Claim block) new asked = absurd asked
 may_stop snap stop.Io new asked = tt
 may_stop snap stop.NoMemory new asked = tt

@@ -59,12 +59,13 @@ seen_kept g addr is (o ∷ items) none =
         neither (same_addr addr o.addr) (is_seen addr items) (other at (same_addr addr o.addr) refl) (rest e)
 
 module _ (seen there : Snap) (geometry : there.geometry ≡ seen.geometry)
-    (claims : there.claims.items ≡ seen.claims.items)
+    (claims : there.claims.items ≡ seen.claims.items) (alone : there.alone.items ≡ seen.alone.items)
     (objects : there.objects.items ≡ filter (of_image seen.geometry) seen.objects.items) where
   begun_after : IsAfter seen there
   begun_after = record {
     geometry = geometry;
     claims = claims;
+    alone = alone;
     all = λ addr is none. seen_kept seen.geometry addr (subst (λ (g : Geometry). IsObject g addr) geometry is)
         seen.objects.items (subst (λ l. is_seen addr l ≡ false) objects none);
   }

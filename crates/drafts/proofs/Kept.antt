@@ -9,13 +9,15 @@ use Rattle.std.proofs.Common.{false, ◌∙◌}
 use Rattle.drafts.specs.Drafted.{IsKept}
 
 pub kept_with : (seen old new : Snap) → new.geometry ≡ old.geometry → new.claims.items ≡ old.claims.items
+    → new.alone.items ≡ old.alone.items
     → new.objects.items ≡ old.objects.items → (before after : List ObjectBytes) → after ≡ before
     → IsKept (record { seen = seen; there = old; written = before })
     → IsKept (record { seen = seen; there = new; written = after })
-kept_with seen old new geometry claims objects before after same kept = record {
+kept_with seen old new geometry claims alone objects before after same kept = record {
   after = record {
     geometry = geometry ∙ kept.after.geometry;
     claims = claims ∙ kept.after.claims;
+    alone = alone ∙ kept.after.alone;
     all = λ addr is none. kept.after.all addr (subst (λ (g : Geometry). IsObject g addr) geometry is)
         (subst (λ l. is_seen addr l ≡ false) objects none);
   };

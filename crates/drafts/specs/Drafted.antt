@@ -21,14 +21,16 @@ pub record Drafted : Type 0 where
   pub there : Snap
   pub written : List ObjectBytes
 
--- What lies there is of the same image, of all its objects that were read, and after the same claims.
+-- What lies there is of the same image, of all its objects that were read, after the same claims, and with the same
+-- objects asked for alone.
 pub record IsAfter (seen there : Snap) : Type 0 where
   pub geometry : there.geometry ≡ seen.geometry
   pub claims : there.claims.items ≡ seen.claims.items
+  pub alone : there.alone.items ≡ seen.alone.items
   pub all : (addr : Addr) → IsObject there.geometry addr → is_seen addr there.objects.items ≡ false
       → is_seen addr seen.objects.items ≡ false
 
--- A draft writes objects of its image that were read or claimed.
+-- A draft writes objects of its image that were asked for alone or claimed.
 pub record IsKept (draft : Drafted) : Type 0 where
   pub after : IsAfter draft.seen draft.there
   pub grid : All (λ (object : ObjectBytes). IsObject draft.there.geometry object.addr) draft.written

@@ -11,18 +11,19 @@ ghost use Rattle.layout.specs.Parts.{with_bytes};
 ghost use Rattle.inode.specs.declared.stop.Stop.{Stop};
 ghost use Rattle.inode.specs.Over.{IsPause, MayStop};
 ghost use Rattle.inode.specs.Read.{Saw};
-ghost use Rattle.inode.specs.Snap.{MayWrite, is_seen};
+ghost use Rattle.inode.specs.Snap.{MayWrite, is_had};
 ghost use Rattle.txn.specs.Group.{blocks_of};
 ghost use Rattle.txn.specs.Object.{ObjectBytes};
 ghost use Rattle.drafts.specs.Drafted.{IsDraft, MOST_SPENT, Shows, fresh, image_of, spent};
 ghost use Rattle.layout_records.specs.OnGrid.{is_on_grid};
 ghost use Rattle.drafts.specs.Laid.{laid};
+ghost use Rattle.objects.specs.declared.mode.Mode.TheVariants as modes;
 
 use inode::{Snap, Stop};
 use layout::Geometry;
 use layout_records::is_on_grid;
 use limits::BLOCK_BYTES;
-use objects::{Addr, SharedBytes};
+use objects::{Addr, Mode, SharedBytes};
 use std::alloc::{AllocError, Global};
 use std::marker::Model;
 use txn::Object;
@@ -54,10 +55,15 @@ impl<'a> Draft<'a> {
         ensures is { IfOk result (λ draft. (blocks : Image) (tree : Tree)
             → Holds seen.now.geometry blocks tree → Saw blocks seen.now → IsDraft draft blocks tree) }
     {
+        let objects = on_grid(&seen.geometry, &seen.objects)?;
+        let alone = seen.alone.clone()?;
+        let claims = seen.claims.clone()?;
         let there = Snap {
             geometry: seen.geometry,
-            objects: on_grid(&seen.geometry, &seen.objects)?,
-            claims: seen.claims.clone()?,
+            asks: seen.asks,
+            objects,
+            alone,
+            claims,
             from: seen.from,
             index: None,
         };
@@ -76,7 +82,8 @@ impl<'a> Draft<'a> {
         &self.there
     }
 
-    /// Writes an object of the image. One that was neither read nor claimed as a whole block is asked for.
+    /// Writes an object of the image. One that was neither asked for alone nor claimed as a whole block is asked for
+    /// alone.
     pub fn put(&mut self, addr: Addr, bytes: Vec<u8>) -> Result<(), Stop>
         requires len { length bytes.items ≡ addr.len }
         requires object { IsObject self.old.there.geometry addr }
@@ -95,7 +102,7 @@ impl<'a> Draft<'a> {
         ensures pause { IfErr result (λ stop. IsPause stop) }
     {
         if !is_given(self.seen, addr) {
-            return Err(Stop::Need(addr));
+            return Err(Stop::Need(addr, Mode::Exclusive));
         }
         let alloc = *bytes.allocator();
         let shared = SharedBytes::new(alloc, bytes)?;
@@ -132,15 +139,14 @@ fn on_grid(geometry: &Geometry, objects: &Vec<Object>) -> Result<Vec<Object>, Al
     Ok(kept)
 }
 
-// Whether an object was read, or is a whole block that was claimed.
+// Whether an object was read, and asked for alone, or is a whole block that was claimed.
 fn is_given(snap: &Snap, addr: Addr) -> bool
     ensures given { result ≡ true → MayWrite snap.now addr }
-    ensures none { result ≡ false → is_seen addr snap.now.objects.items ≡ false }
+    ensures none { result ≡ false
+        → is_had addr modes.Exclusive snap.now.objects.items snap.now.alone.items ≡ false }
 {
-    match snap.get(addr) {
-        Some(_) => true,
-        None => addr.offset == 0 && addr.len == BLOCK_BYTES && snap.has_claim(addr.block),
-    }
+    snap.has_alone(addr)
+        || addr.offset == 0 && addr.len == BLOCK_BYTES && snap.has_claim(addr.block)
 }
 
 // Makes room for one more object.
@@ -148,6 +154,7 @@ fn make_room(there: &mut Snap) -> Result<(), AllocError>
     ensures room { OnOk result (vec_len there.new.objects < vec_capacity there.new.objects) }
     ensures objects { there.new.objects.items ≡ there.old.objects.items }
     ensures geometry { there.new.geometry ≡ there.old.geometry }
+    ensures alone { there.new.alone.items ≡ there.old.alone.items }
     ensures claims { there.new.claims.items ≡ there.old.claims.items }
 {
     there.objects.reserve(1)
@@ -158,6 +165,7 @@ fn lay_there(there: &mut Snap, object: Object)
     requires { vec_len there.old.objects < vec_capacity there.old.objects }
     ensures objects { there.new.objects.items ≡ laid there.old.objects.items object }
     ensures geometry { there.new.geometry ≡ there.old.geometry }
+    ensures alone { there.new.alone.items ≡ there.old.alone.items }
     ensures claims { there.new.claims.items ≡ there.old.claims.items }
 {
     drop(there.index.take());

@@ -32,14 +32,14 @@ use Rattle.inode.proofs.UsedBlocks.{counted}
 
 pub may_stop : (snap : Snap) (number : ℕ) (why : Stop) → number < snap.geometry.inodes → IsNew snap why
     → IsAskedInode snap.geometry number why → MayStop snap why
-may_stop snap number (stop.Need addr) less new asked = (new, inode number less asked.block asked.offset asked.len)
+may_stop snap number (stop.Need addr mode) less new asked = (new, inode number less asked.block asked.offset asked.len)
 may_stop snap number (stop.Claim block) less new asked = absurd asked
 may_stop snap number stop.Io less new asked = tt
 may_stop snap number stop.NoMemory less new asked = tt
 
 pub pauses : (snap : Snap) (why : Stop) (blocks : Image) (tree : Tree) → NoneStand snap why
     → IsOver snap blocks tree → IsPause why
-pauses snap (stop.Need addr) blocks tree none over = tt
+pauses snap (stop.Need addr mode) blocks tree none over = tt
 pauses snap (stop.Claim block) blocks tree none over = tt
 pauses snap stop.Io blocks tree none over = none blocks tree over.holds over.saw
 pauses snap stop.NoMemory blocks tree none over = tt

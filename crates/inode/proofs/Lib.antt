@@ -11,3 +11,4 @@ pub mod HeldThere
 pub mod Stops
 pub mod Needed
 pub mod KnownPositions
+pub mod HadAlone

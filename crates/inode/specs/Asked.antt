@@ -12,14 +12,14 @@ use Rattle.inode.specs.Read.{WasRead}
 
 -- a reading stops for an object of which this holds, or for what the layout refuses
 abbrev pub IsStopFor : (Addr → Type 0) → Stop → Type 0
-IsStopFor P (stop.Need addr) = P addr
+IsStopFor P (stop.Need addr mode) = P addr
 IsStopFor P (stop.Claim block) = ⊥
 IsStopFor P stop.Io = Unit {0}
 IsStopFor P stop.NoMemory = ⊥
 
 -- the same of a reading that takes memory: or for want of that
 abbrev pub MayStopFor : (Addr → Type 0) → Stop → Type 0
-MayStopFor P (stop.Need addr) = P addr
+MayStopFor P (stop.Need addr mode) = P addr
 MayStopFor P (stop.Claim block) = ⊥
 MayStopFor P stop.Io = Unit {0}
 MayStopFor P stop.NoMemory = Unit {0}

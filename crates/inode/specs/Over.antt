@@ -17,7 +17,7 @@ use Rattle.inode.specs.declared.snap.Snap.{Snap}
 use Rattle.inode.specs.declared.stop.Stop.{Stop}
 use Rattle.inode.specs.declared.stop.Stop.TheVariants as stop
 use Rattle.inode.specs.Read.{Saw}
-use Rattle.inode.specs.Snap.{is_claimed, is_seen}
+use Rattle.inode.specs.Snap.{is_claimed, is_had}
 
 -- the blocks hold the tree's files and have what was read
 pub record IsOver (snap : Snap) (blocks : Image) (tree : Tree) : Type 0 where
@@ -30,9 +30,11 @@ pub record HasInode (snap : Snap) (blocks : Image) (tree : Tree) (number : ℕ) 
   pub less : number < snap.geometry.inodes
   pub there : inode_at snap.geometry blocks number ≡ Ok (Some inode)
 
--- a plan stops for an object of the image that wasn't read yet, and for a data block that wasn't claimed yet
+-- a plan stops for an object of the image that wasn't asked for yet in this mode, and for a data block that wasn't claimed
+-- yet
 abbrev pub MayStop : Snap → Stop → Type 0
-MayStop snap (stop.Need addr) = (is_seen addr snap.objects.items ≡ false) × IsObject snap.geometry addr
+MayStop snap (stop.Need addr mode) = (is_had addr mode snap.objects.items snap.alone.items ≡ false)
+    × IsObject snap.geometry addr
 MayStop snap (stop.Claim block) = (is_claimed block snap.claims.items ≡ false)
     × (is_data snap.geometry block.0 ≡ true)
 MayStop snap stop.Io = Unit {0}
@@ -40,7 +42,7 @@ MayStop snap stop.NoMemory = Unit {0}
 
 -- and not for what the layout refuses
 abbrev pub IsPause : Stop → Type 0
-IsPause (stop.Need addr) = Unit {0}
+IsPause (stop.Need addr mode) = Unit {0}
 IsPause (stop.Claim block) = Unit {0}
 IsPause stop.Io = ⊥
 IsPause stop.NoMemory = Unit {0}

@@ -40,7 +40,7 @@ pub record WasReadInode (g : Geometry) (objects : List ObjectBytes) (number : �
 
 -- a plan stops for the inode of a number
 abbrev pub IsAskedInode : Geometry → ℕ → Stop → Type 0
-IsAskedInode g number (stop.Need addr) = IsInodeAddr g number addr
+IsAskedInode g number (stop.Need addr mode) = IsInodeAddr g number addr
 IsAskedInode g number (stop.Claim block) = ⊥
 IsAskedInode g number stop.Io = Unit {0}
 IsAskedInode g number stop.NoMemory = Unit {0}
@@ -58,5 +58,5 @@ abbrev pub NoneStand : Snap → Stop → Type 0
 NoneStand snap stop.Io = (blocks : Image) (tree : Tree) → Holds snap.geometry blocks tree → Saw blocks snap
     → ⊥
 NoneStand snap stop.NoMemory = Unit {0}
-NoneStand snap (stop.Need addr) = Unit {0}
+NoneStand snap (stop.Need addr mode) = Unit {0}
 NoneStand snap (stop.Claim block) = Unit {0}

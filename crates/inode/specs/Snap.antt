@@ -1,7 +1,10 @@
 -- What has been read for a call so far, and what may come next.
-use Rattle.std.specs.Prelude.{◌≡◌, ◌⊎◌, Bool, true, false, ◌&&◌, ◌<◌, List, nat_eq, vec_len, vec_capacity}
+use Rattle.std.specs.Prelude.{◌≡◌, ◌⊎◌, ℕ, ◌<◌, Bool, true, false, ◌&&◌, if◌then◌else◌, List, [], ◌∷◌, ◌++◌, nat_eq}
+use Rattle.std.specs.Prelude.{vec_len, vec_capacity}
 use Rattle.std.specs.List.{list_any}
 use Rattle.objects.specs.declared.addr.Addr.{Addr}
+use Rattle.objects.specs.declared.mode.Mode.{Mode}
+use Rattle.objects.specs.declared.mode.Mode.TheVariants as modes
 use Rattle.disk.specs.declared.block.BlockNo.{BlockNo}
 use Rattle.txn.specs.Object.{ObjectBytes}
 use Rattle.txn.specs.Wishes.{IsWhole}
@@ -17,23 +20,47 @@ same_addr a b = nat_eq a.block.0 b.block.0 && nat_eq a.offset b.offset && nat_eq
 abbrev pub is_seen : Addr → List ObjectBytes → Bool
 is_seen addr objects = list_any (λ object. same_addr addr object.addr) objects
 
+-- the address is among these
+abbrev pub is_among : Addr → List Addr → Bool
+is_among addr addrs = list_any (λ other. same_addr addr other) addrs
+
+-- an object of this address was read, and asked for in this mode or in a higher one
+abbrev pub is_had : Addr → Mode → List ObjectBytes → List Addr → Bool
+is_had addr modes.Shared objects alone = is_seen addr objects
+is_had addr modes.Exclusive objects alone = is_seen addr objects && is_among addr alone
+
 -- the block is among those that were claimed
 abbrev pub is_claimed : BlockNo → List BlockNo → Bool
 is_claimed block claims = list_any (λ claim. nat_eq block.0 claim.0) claims
 
--- there is room for one more object and one more claim
+-- the objects that were read, with one more, where its address wasn't
+abbrev pub with_read : Addr → List ℕ → List ObjectBytes → List ObjectBytes
+with_read addr bytes objects =
+    if is_seen addr objects then objects else objects ++ record { addr = addr; bytes = bytes } ∷ []
+
+-- the addresses that were asked for alone, with one more that was asked for in this mode
+abbrev pub with_mode : Addr → Mode → List Addr → List Addr
+with_mode addr modes.Shared alone = alone
+with_mode addr modes.Exclusive alone = alone ++ addr ∷ []
+
+-- what was asked for alone was read
+pub record AreSeen (alone : List Addr) (objects : List ObjectBytes) : Type 0 where
+  pub all : (addr : Addr) → is_among addr alone ≡ true → is_seen addr objects ≡ true
+
+-- there is room for one more object, in either mode, and one more claim
 pub record HasRoom (snap : Snap) : Type 0 where
   pub objects : vec_len snap.objects < vec_capacity snap.objects
   pub claims : vec_len snap.claims < vec_capacity snap.claims
+  pub alone : vec_len snap.alone < vec_capacity snap.alone
 
--- an object of this address may be written: it was read, or is a whole block that was claimed
+-- an object of this address may be written: it was read, and asked for alone, or is a whole block that was claimed
 abbrev pub MayWrite : Snap → Addr → Type 0
-MayWrite snap addr = (is_seen addr snap.objects.items ≡ true)
+MayWrite snap addr = (is_had addr modes.Exclusive snap.objects.items snap.alone.items ≡ true)
     ⊎ ((is_claimed addr.block snap.claims.items ≡ true) × IsWhole addr.block addr)
 
--- a plan stops for what wasn't read or claimed yet
+-- a plan stops for what wasn't asked for yet in this mode, or claimed yet
 abbrev pub IsNew : Snap → Stop → Type 0
-IsNew snap (stop.Need addr) = is_seen addr snap.objects.items ≡ false
+IsNew snap (stop.Need addr mode) = is_had addr mode snap.objects.items snap.alone.items ≡ false
 IsNew snap (stop.Claim block) = is_claimed block snap.claims.items ≡ false
 IsNew snap stop.Io = Unit {0}
 IsNew snap stop.NoMemory = Unit {0}

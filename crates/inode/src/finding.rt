@@ -15,8 +15,8 @@ use txn::Object;
 // With so many objects an index is made: a walk past fewer costs less.
 const MANY: usize = 48;
 
-// Whether two addresses are one.
-fn same_addr(a: Addr, b: Addr) -> bool
+/// Whether two addresses are one.
+pub(crate) fn same_addr(a: Addr, b: Addr) -> bool
     ensures { result ≡ same_addr a b }
 {
     a.block.0 == b.block.0 && a.offset == b.offset && a.len == b.len

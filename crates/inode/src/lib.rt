@@ -1,6 +1,7 @@
 //! What was read of an image for a call, and the inodes in it.
 #![tactic(auto)]
 
+mod alone;
 mod bytes;
 mod finding;
 mod index;

@@ -12,19 +12,19 @@ use crate::stop::Stop;
 use layout::Inode;
 use objects::Addr;
 
-/// The bytes at an address, once they were read.
+/// The bytes at an address, once they were read, in whatever mode. They are asked for in the mode of all that is read.
 pub fn bytes_at(snap: &Snap, addr: Addr) -> Result<&[u8], Stop>
     ensures ok { IfOk result (λ bytes. length bytes.now ≡ addr.len) }
     ensures there { IfOk result (λ bytes. (blocks : Image) → Saw blocks snap.now
         → object_at blocks addr ≡ bytes.now) }
     ensures err { IfErr result (λ stop. IsNew snap.now stop) }
     ensures io { IfErr result (λ stop. NoneStand snap.now stop) }
-    ensures need { IfErr result (λ why. why ≡ stop.Need addr) }
+    ensures need { IfErr result (λ why. why ≡ stop.Need addr snap.now.asks) }
     ensures read { IfOk result (λ bytes. WasRead snap.now.objects.items addr bytes.now) }
 {
     match snap.get(addr) {
         Some(object) => Ok(object.bytes()),
-        None => Err(Stop::Need(addr)),
+        None => Err(Stop::Need(addr, snap.asks)),
     }
 }
 

@@ -1,21 +1,24 @@
 //! What has been read for a call so far.
 ghost use Rattle.inode.specs.Indexed.{IsIndexed};
 
+use crate::alone::{is_among, note};
 use crate::finding::{find, walk, with_last};
 use crate::index::AddressIndex;
 use disk::BlockNo;
 use layout::Geometry;
-use objects::{Addr, SharedBytes};
+use objects::{Addr, Mode, SharedBytes};
 use std::alloc::{AllocError, Global};
 use txn::Object;
 
-/// The geometry of the image, the objects that were read so far in their order, and the blocks that were
-/// claimed. Free blocks are looked for from a piece of their bitmap on: any does. Where there is an index it tells where
-/// each object stands.
+/// The geometry of the image, the mode in which a reading asks for what wasn't read yet, the objects that were read so far
+/// in their order, the addresses of those that were asked for alone, and the blocks that were claimed. Free blocks are
+/// looked for from a piece of their bitmap on: any does. Where there is an index it tells where each object stands.
 #[derive(Drop)]
 pub struct Snap {
     pub geometry: Geometry,
+    pub asks: Mode,
     pub objects: Vec<Object>,
+    pub alone: Vec<Addr>,
     pub claims: Vec<BlockNo>,
     pub from: u32,
     pub index: Option<AddressIndex>,
@@ -23,19 +26,25 @@ pub struct Snap {
 }
 
 impl Snap {
-    ghost use Rattle.std.specs.Prelude.{◌≡◌, false, true, ◌∷◌, [], ◌++◌, length, Contains, IfSome, IfNone, OnOk};
-    ghost use Rattle.inode.specs.Snap.{HasRoom, is_claimed, is_seen, same_addr};
+    ghost use Rattle.std.specs.Prelude.{◌≡◌, ◌<◌, false, true, ◌∷◌, [], ◌++◌, length, vec_len, vec_capacity};
+    ghost use Rattle.std.specs.Prelude.{Contains, IfSome, IfNone, OnOk};
+    ghost use Rattle.objects.specs.declared.mode.Mode.TheVariants as modes;
+    ghost use Rattle.inode.specs.Snap.{HasRoom, is_claimed, is_had, is_seen, same_addr, with_mode, with_read};
 
-    /// Nothing was read yet.
-    pub fn new(alloc: Global, geometry: Geometry, from: u32) -> Snap
+    /// Nothing was read yet. What is read is asked for in this mode.
+    pub fn new(alloc: Global, geometry: Geometry, from: u32, asks: Mode) -> Snap
         ensures geometry { result.geometry ≡ geometry }
         ensures from { result.from ≡ from }
+        ensures asks { result.asks ≡ asks }
         ensures objects { result.objects.items ≡ [] }
+        ensures alone { result.alone.items ≡ [] }
         ensures claims { result.claims.items ≡ [] }
     {
         Snap {
             geometry,
+            asks,
             objects: Vec::new(alloc),
+            alone: Vec::new(alloc),
             claims: Vec::new(alloc),
             from,
             index: None,
@@ -46,22 +55,45 @@ impl Snap {
     pub fn make_room(&mut self) -> Result<(), AllocError>
         ensures room { OnOk result (HasRoom self.new) }
         ensures geometry { self.new.geometry ≡ self.old.geometry }
+        ensures asks { self.new.asks ≡ self.old.asks }
         ensures objects { self.new.objects.items ≡ self.old.objects.items }
+        ensures alone { self.new.alone.items ≡ self.old.alone.items }
         ensures claims { self.new.claims.items ≡ self.old.claims.items }
         ensures from { self.new.from ≡ self.old.from }
     {
         self.objects.reserve(1)?;
+        self.alone.reserve(1)?;
         self.claims.reserve(1)
     }
 
-    /// Adds an object that was read, for which there is room.
-    pub fn add(&mut self, addr: Addr, bytes: SharedBytes)
+    /// Adds an object that was read in a mode, for which there is room. One that was read before is had in this mode, too.
+    pub fn add(&mut self, addr: Addr, mode: Mode, bytes: SharedBytes)
         requires len { length bytes ≡ addr.len }
         requires room { HasRoom self.old }
+        ensures objects { self.new.objects.items ≡ with_read addr bytes self.old.objects.items }
+        ensures alone { self.new.alone.items ≡ with_mode addr mode self.old.alone.items }
+        ensures geometry { self.new.geometry ≡ self.old.geometry }
+        ensures asks { self.new.asks ≡ self.old.asks }
+        ensures claims { self.new.claims.items ≡ self.old.claims.items }
+        ensures from { self.new.from ≡ self.old.from }
+    {
+        note(&mut self.alone, addr, mode);
+        if self.has_read(addr) {
+            return;
+        }
+        self.push(addr, bytes);
+    }
+
+    // Adds an object that wasn't read before.
+    fn push(&mut self, addr: Addr, bytes: SharedBytes)
+        requires len { length bytes ≡ addr.len }
+        requires room { vec_len self.old.objects < vec_capacity self.old.objects }
         ensures objects { self.new.objects.items ≡ self.old.objects.items
             ++ record { addr = addr; bytes = bytes } ∷ [] }
+        ensures alone { self.new.alone ≡ self.old.alone }
         ensures geometry { self.new.geometry ≡ self.old.geometry }
-        ensures claims { self.new.claims.items ≡ self.old.claims.items }
+        ensures asks { self.new.asks ≡ self.old.asks }
+        ensures claims { self.new.claims ≡ self.old.claims }
         ensures from { self.new.from ≡ self.old.from }
     {
         let index = self.index.take();
@@ -78,7 +110,9 @@ impl Snap {
         requires { HasRoom self.old }
         ensures claims { self.new.claims.items ≡ self.old.claims.items ++ block ∷ [] }
         ensures geometry { self.new.geometry ≡ self.old.geometry }
+        ensures asks { self.new.asks ≡ self.old.asks }
         ensures objects { self.new.objects.items ≡ self.old.objects.items }
+        ensures alone { self.new.alone.items ≡ self.old.alone.items }
         ensures from { self.new.from ≡ self.old.from }
     {
         match self.claims.push(block) {
@@ -92,6 +126,23 @@ impl Snap {
         ensures { result ≡ is_claimed block self.now.claims.items }
     {
         self.claims.iter().any(|claim| block.0 == claim.0)
+    }
+
+    // Whether an object of this address was read.
+    fn has_read(&self, addr: Addr) -> bool
+        ensures { result ≡ is_seen addr self.now.objects.items }
+    {
+        match self.get(addr) {
+            Some(_) => true,
+            None => false,
+        }
+    }
+
+    /// Whether an object of this address was read, and was asked for alone.
+    pub fn has_alone(&self, addr: Addr) -> bool
+        ensures { result ≡ is_had addr modes.Exclusive self.now.objects.items self.now.alone.items }
+    {
+        self.has_read(addr) && is_among(addr, &self.alone)
     }
 
     /// The object of an address, if it was read.

@@ -1,13 +1,13 @@
 //! Why a plan goes no further.
 use disk::BlockNo;
-use objects::Addr;
+use objects::{Addr, Mode};
 use std::alloc::AllocError;
 
-/// What stands in a plan's way: an object that wasn't read yet, a block that wasn't claimed yet, an object that
-/// the layout refuses, or want of memory.
+/// What stands in a plan's way: an object that wasn't asked for yet in this mode, a block that wasn't claimed yet, an object
+/// that the layout refuses, or want of memory.
 #[derive(Clone, Copy, Debug, PartialEq, Eq)]
 pub enum Stop {
-    Need(Addr),
+    Need(Addr, Mode),
     Claim(BlockNo),
     Io,
     NoMemory,

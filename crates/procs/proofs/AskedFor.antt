@@ -63,7 +63,7 @@ names_data g one good some =
 
 pub asks_inode : (snap : Snap) (number : ℕ) → number < snap.geometry.inodes → (why : Stop)
     → IsAskedInode snap.geometry number why → IsAsked snap why
-asks_inode snap number within (Need addr) at = inode number within at.block at.offset at.len
+asks_inode snap number within (Need addr mode) at = inode number within at.block at.offset at.len
 asks_inode snap number within (Claim block) at = absurd at
 asks_inode snap number within Io at = tt
 asks_inode snap number within NoMemory at = tt

@@ -67,7 +67,7 @@ module _ (snap : Snap) (ctx : Ctx) (c : Call) (boot : ctx.boot < 2 ^ 64) (transa
       → ((blocks : Image) (tree : Tree) → IsDraft begun blocks tree → Sound tree → SoundCtx ctx → CallFits c
       → IsPause why)
       → NoneStandFor ctx c snap why
-  changed_fails (stop.Need addr) pauses = tt
+  changed_fails (stop.Need addr mode) pauses = tt
   changed_fails (stop.Claim block) pauses = tt
   changed_fails stop.NoMemory pauses = tt
   changed_fails stop.Io pauses = λ blocks tree sound stands saw.
@@ -77,7 +77,7 @@ module _ (snap : Snap) (ctx : Ctx) (c : Call) (boot : ctx.boot < 2 ^ 64) (transa
 -- blocks that stand for a tree hold its files
 pub for_calls : (ctx : Ctx) (c : Call) (snap : Snap) (why : Stop) → NoneStand snap why
     → NoneStandFor ctx c snap why
-for_calls ctx c snap (stop.Need addr) none = tt
+for_calls ctx c snap (stop.Need addr mode) none = tt
 for_calls ctx c snap (stop.Claim block) none = tt
 for_calls ctx c snap stop.NoMemory none = tt
 for_calls ctx c snap stop.Io none = λ blocks tree sound stands saw.

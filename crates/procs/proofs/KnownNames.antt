@@ -1,8 +1,11 @@
 -- What is known of the names of a call, wherever they lie and however much more is read.
-use Rattle.std.proofs.Common.{◌≡◌, ◌++◌, [], List, Option, Some, None, ap, ◌∙◌, sym, subst}
+use Rattle.std.proofs.Common.{◌≡◌, ℕ, Bool, true, false, if◌then◌else◌, ◌++◌, ◌∷◌, [], List, Option, Some, None}
+use Rattle.std.proofs.Common.{ap, ◌∙◌, sym, subst}
 use Rattle.std.proofs.lemmas.List.{append-nil}
 use Rattle.nfs_types.specs.declared.call.Call.{Call}
+use Rattle.objects.specs.declared.addr.Addr.{Addr}
 use Rattle.txn.specs.Object.{ObjectBytes}
+use Rattle.inode.specs.Snap.{is_seen, with_read}
 use Rattle.inode.specs.declared.snap.Snap.{Snap}
 use Rattle.name_search.specs.declared.names.Names.{Names}
 use Rattle.name_search.specs.Known.{IsKnown, IsOfCall}
@@ -33,6 +36,21 @@ pub stays_by : (snap later : Snap) (more : List ObjectBytes) (names : Option Nam
 stays_by snap later more names same objects is = record {
   known = λ one at. stays snap later more same objects one (is.known one at);
 }
+
+-- an object more was read, or one that was read before
+pub read_by : (snap later : Snap) (addr : Addr) (bytes : List ℕ) (names : Option Names)
+    → later.geometry ≡ snap.geometry → later.objects.items ≡ with_read addr bytes snap.objects.items
+    → IsKnownBy snap names → IsKnownBy later names
+read_by snap later addr bytes names same objects is = by (is_seen addr snap.objects.items) objects
+  where
+    one : ObjectBytes
+    one = record { addr = addr; bytes = bytes }
+
+    by : (seen : Bool)
+        → later.objects.items ≡ (if seen then snap.objects.items else snap.objects.items ++ one ∷ [])
+        → IsKnownBy later names
+    by true objects = stays_by snap later [] names same (objects ∙ sym (append-nil snap.objects.items)) is
+    by false objects = stays_by snap later (one ∷ []) names same objects is
 
 pub same_by : (snap later : Snap) (names : Option Names) → later.geometry ≡ snap.geometry
     → later.objects.items ≡ snap.objects.items → IsKnownBy snap names → IsKnownBy later names

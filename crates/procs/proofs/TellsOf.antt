@@ -38,20 +38,20 @@ told_is_step snap ctx c done told is_done reply_is written_is leads =
 -- why it stops
 
 pub is_new : (snap : Snap) (why : Stop) → MayStop snap why → IsNew snap why
-is_new snap (stop.Need addr) may = may.0
+is_new snap (stop.Need addr mode) may = may.0
 is_new snap (stop.Claim block) may = may.0
 is_new snap stop.Io may = tt
 is_new snap stop.NoMemory may = tt
 
 pub is_asked : (snap : Snap) (why : Stop) → MayStop snap why → IsAsked snap why
-is_asked snap (stop.Need addr) may = may.1
+is_asked snap (stop.Need addr mode) may = may.1
 is_asked snap (stop.Claim block) may = may.1
 is_asked snap stop.Io may = tt
 is_asked snap stop.NoMemory may = tt
 
 pub none_stand : (snap : Snap) (why : Stop)
     → ((blocks : Image) (tree : Tree) → IsOver snap blocks tree → IsPause why) → NoneStand snap why
-none_stand snap (stop.Need addr) pauses = tt
+none_stand snap (stop.Need addr mode) pauses = tt
 none_stand snap (stop.Claim block) pauses = tt
 none_stand snap stop.Io pauses = λ blocks tree holds saw.
     pauses blocks tree (record { holds = holds; saw = saw })

@@ -38,7 +38,7 @@ pub record WereClaimedOnce (g : Geometry) (claims : List BlockNo) : Type 0 where
 
 -- what a plan stops for may be asked for
 abbrev pub IsAsked : Snap → Stop → Type 0
-IsAsked snap (stop.Need addr) = Asks snap.geometry addr
+IsAsked snap (stop.Need addr mode) = Asks snap.geometry addr
 IsAsked snap (stop.Claim block) = Claims snap.geometry block
 IsAsked snap stop.Io = Unit {0}
 IsAsked snap stop.NoMemory = Unit {0}

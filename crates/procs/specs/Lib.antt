@@ -8,3 +8,4 @@ pub mod Refused
 pub mod FileBytes
 pub mod Finished
 pub mod Planning
+pub mod ReadingMode

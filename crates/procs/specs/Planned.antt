@@ -4,21 +4,20 @@ use Rattle.nfs_types.specs.declared.call.Call.{Call}
 use Rattle.nfs_types.specs.declared.ctx.Ctx.{Ctx}
 use Rattle.limits.specs.declared.TheConstants.{CHANGED_BLOCKS}
 use Rattle.layout.specs.declared.geometry.Geometry.{Geometry}
-use Rattle.objects.specs.declared.mode.Mode.TheVariants as modes
 use Rattle.procs.specs.declared.next.Plan.{Plan}
 use Rattle.procs.specs.declared.next.Plan.TheVariants as plan
 use Rattle.inode.specs.declared.snap.Snap.{Snap}
 use Rattle.procs.specs.Asks.{Asks, Claims}
 use Rattle.procs.specs.Finished.{ChangesFew, EndsFrom}
-use Rattle.inode.specs.Snap.{is_claimed, is_seen}
+use Rattle.inode.specs.Snap.{is_claimed, is_had}
 use Rattle.procs.specs.Outcome.{IsMadeFor}
 use Rattle.procs.specs.Steps.{IsStepOf}
 
--- A plan asks for something new that plans may ask for, each object for its call alone, or is done with what was read,
--- and changes no more blocks than a transaction may.
+-- A plan asks for something new that plans may ask for, or is done with what was read, and changes no more blocks than a
+-- transaction may.
 abbrev pub IsPlanFor : Snap → Plan → Type 0
-IsPlanFor snap (plan.Need addr mode) = (is_seen addr snap.objects.items ≡ false) × Asks snap.geometry addr
-    × (mode ≡ modes.Exclusive)
+IsPlanFor snap (plan.Need addr mode) = (is_had addr mode snap.objects.items snap.alone.items ≡ false)
+    × Asks snap.geometry addr
 IsPlanFor snap (plan.Claim block) = (is_claimed block snap.claims.items ≡ false) × Claims snap.geometry block
 IsPlanFor snap (plan.Done done) = EndsFrom snap done × ChangesFew CHANGED_BLOCKS done
 IsPlanFor snap plan.NoMemory = Unit {0}

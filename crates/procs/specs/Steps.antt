@@ -28,5 +28,5 @@ abbrev pub NoneStandFor : Ctx → Call → Snap → Stop → Type 0
 NoneStandFor ctx call snap stop.Io = (blocks : Image) (tree : Tree)
     → SoundCall ctx.credential ctx.moment call → Stands snap.geometry blocks tree → Saw blocks snap → ⊥
 NoneStandFor ctx call snap stop.NoMemory = Unit {0}
-NoneStandFor ctx call snap (stop.Need addr) = Unit {0}
+NoneStandFor ctx call snap (stop.Need addr mode) = Unit {0}
 NoneStandFor ctx call snap (stop.Claim block) = Unit {0}

@@ -302,7 +302,9 @@ fn in_a_row(alloc: Global, call: &Call, snap: &Snap) -> Result<Ahead, Stop> {
 // Whether a plan asks for what a position asks for next.
 fn is_asked(plan: &Plan, next: &Option<Stop>) -> bool {
     match (plan, next) {
-        (Plan::Need(asked, _), Some(Stop::Need(addr))) => *asked == *addr,
+        (Plan::Need(asked, mode), Some(Stop::Need(addr, wished))) => {
+            *asked == *addr && *mode == *wished
+        }
         (Plan::Claim(asked), Some(Stop::Claim(block))) => *asked == *block,
         _ => false,
     }

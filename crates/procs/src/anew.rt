@@ -31,7 +31,9 @@ pub(crate) fn names_of(alloc: Global, call: &Call, names: Option<Names>) -> Opti
 /// Whether a run stopped for what a search stopped for.
 pub(crate) fn is_same(next: &Plan, search: &Result<(), Stop>) -> bool {
     match (next, search) {
-        (Plan::Need(addr, _), Err(Stop::Need(wanted))) => *addr == *wanted,
+        (Plan::Need(addr, mode), Err(Stop::Need(wanted, wished))) => {
+            *addr == *wanted && *mode == *wished
+        }
         _ => false,
     }
 }

@@ -1,5 +1,6 @@
 //! Plans that go on: what a call needs next, asked for as it was read.
 ghost use Rattle.std.specs.Prelude.{◌≡◌};
+ghost use Rattle.inode.specs.Snap.{AreSeen};
 ghost use Rattle.procs.specs.Planning.{IsKnownBy};
 
 use crate::ahead::{Ahead, behind};
@@ -23,6 +24,7 @@ pub struct Planner {
     searches: Option<bool>,
     ahead: Ahead,
     ghost known: { IsKnownBy snap names },
+    ghost alone: { AreSeen snap.alone.items snap.objects.items },
 }
 
 impl Planner {
@@ -37,7 +39,7 @@ impl Planner {
     ghost use Rattle.layout.specs.Decode.{inode_at, span_of};
     ghost use Rattle.inode.specs.declared.snap.Snap.{Snap};
     ghost use Rattle.inode.specs.Read.{Saw};
-    ghost use Rattle.inode.specs.Snap.{HasRoom};
+    ghost use Rattle.inode.specs.Snap.{HasRoom, with_mode, with_read};
     ghost use Rattle.name_search.specs.Known.{IsKnown, IsOfCall};
     ghost use Rattle.name_search.specs.Places.{first_place, second_place};
     ghost use Rattle.procs.specs.Planned.{IsPlanFor, IsPlanOf, IsStepPlan};
@@ -45,16 +47,19 @@ impl Planner {
     ghost use Rattle.procs.specs.Refused.{IsIoWhereRefused};
     ghost use Rattle.procs.specs.SoundCalls.{SoundCall};
 
-    /// Nothing was read yet, and free blocks are looked for from a piece of their bitmap on.
-    pub fn new(alloc: Global, geometry: Geometry, from: u32) -> Planner
+    /// Nothing was read yet. Free blocks are looked for from a piece of their bitmap on, and what is read is asked for in
+    /// a mode.
+    pub fn new(alloc: Global, geometry: Geometry, from: u32, asks: Mode) -> Planner
         ensures geometry { result.snap.geometry ≡ geometry }
+        ensures asks { result.snap.asks ≡ asks }
         ensures objects { result.snap.objects.items ≡ [] }
+        ensures alone { result.snap.alone.items ≡ [] }
         ensures claims { result.snap.claims.items ≡ [] }
         ensures from { result.snap.from ≡ from }
         ensures of { (call : Call) → AreOf call result.names }
     {
         Planner {
-            snap: Snap::new(alloc, geometry, from),
+            snap: Snap::new(alloc, geometry, from, asks),
             names: None,
             searches: None,
             ahead: Ahead::Nothing,
@@ -66,23 +71,24 @@ impl Planner {
         ensures room { OnOk result (HasRoom self.new.snap) }
         ensures geometry { self.new.snap.geometry ≡ self.old.snap.geometry }
         ensures objects { self.new.snap.objects.items ≡ self.old.snap.objects.items }
+        ensures alone { self.new.snap.alone.items ≡ self.old.snap.alone.items }
         ensures claims { self.new.snap.claims.items ≡ self.old.snap.claims.items }
         ensures names { self.new.names ≡ self.old.names }
     {
         self.snap.make_room()
     }
 
-    /// Adds an object that was read, for which there is room.
-    pub fn add(&mut self, addr: Addr, bytes: SharedBytes)
+    /// Adds an object that was read in a mode, for which there is room. One that was read before is had in this mode, too.
+    pub fn add(&mut self, addr: Addr, mode: Mode, bytes: SharedBytes)
         requires len { length bytes ≡ addr.len }
         requires room { HasRoom self.old.snap }
-        ensures objects { self.new.snap.objects.items ≡ self.old.snap.objects.items
-            ++ record { addr = addr; bytes = bytes } ∷ [] }
+        ensures objects { self.new.snap.objects.items ≡ with_read addr bytes self.old.snap.objects.items }
+        ensures alone { self.new.snap.alone.items ≡ with_mode addr mode self.old.snap.alone.items }
         ensures geometry { self.new.snap.geometry ≡ self.old.snap.geometry }
         ensures claims { self.new.snap.claims.items ≡ self.old.snap.claims.items }
         ensures names { self.new.names ≡ self.old.names }
     {
-        self.snap.add(addr, bytes);
+        self.snap.add(addr, mode, bytes);
     }
 
     /// Notes that a block was claimed, for which there is room.
@@ -91,6 +97,7 @@ impl Planner {
         ensures claims { self.new.snap.claims.items ≡ self.old.snap.claims.items ++ block ∷ [] }
         ensures geometry { self.new.snap.geometry ≡ self.old.snap.geometry }
         ensures objects { self.new.snap.objects.items ≡ self.old.snap.objects.items }
+        ensures alone { self.new.snap.alone.items ≡ self.old.snap.alone.items }
         ensures names { self.new.names ≡ self.old.names }
     {
         self.snap.claimed(block);
@@ -105,8 +112,8 @@ impl Planner {
         }
     }
 
-    /// What a call needs next, or what comes of it, by what was read so far. It asks for one object at a time, each for
-    /// its call alone, as `plan` does that begins anew: the procedure is run only where what follows isn't told by where
+    /// What a call needs next, or what comes of it, by what was read so far. It asks for one object at a time, alone for
+    /// what is written, as `plan` does that begins anew: the procedure is run only where what follows isn't told by where
     /// the last run stopped.
     pub fn next(&mut self, alloc: Global, ctx: &Ctx, call: &Call) -> Plan
         requires served { begins_transaction call.now ≡ true }
@@ -142,12 +149,12 @@ impl Planner {
     {
         let search = names.go_on(&self.snap);
         if self.searches == Some(names.is_second()) {
-            if let Err(Stop::Need(addr)) = search {
-                return Plan::Need(addr, Mode::Exclusive);
+            if let Err(Stop::Need(addr, mode)) = search {
+                return Plan::Need(addr, mode);
             }
         }
         match self.ahead.next(alloc, &self.snap) {
-            Some(Stop::Need(addr)) => return Plan::Need(addr, Mode::Exclusive),
+            Some(Stop::Need(addr, mode)) => return Plan::Need(addr, mode),
             Some(Stop::Claim(block)) => return Plan::Claim(block),
             _ => {}
         }

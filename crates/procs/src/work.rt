@@ -22,7 +22,6 @@ use inode::{Snap, Stop};
 use inspection::{is_refused, what_is_refused_is_in_no_tree};
 use name_search::Names;
 use nfs_types::{Call, Ctx, Status};
-use objects::Mode;
 use std::alloc::Global;
 
 // What comes of a call that is served, or what stands in its way, by the one body of its procedure.
@@ -146,7 +145,7 @@ pub(crate) fn run(alloc: Global, ctx: &Ctx, call: &Call, snap: &Snap, names: &Na
 {
     match work(alloc, ctx, call, snap, names) {
         Ok(done) => finish(ctx, call, snap, done),
-        Err(Stop::Need(addr)) => Plan::Need(addr, Mode::Exclusive),
+        Err(Stop::Need(addr, mode)) => Plan::Need(addr, mode),
         Err(Stop::Claim(block)) => Plan::Claim(block),
         Err(Stop::NoMemory) => Plan::NoMemory,
         Err(Stop::Io) => match told(alloc, ctx, call, snap, refused_reply(call, Status::Io)) {

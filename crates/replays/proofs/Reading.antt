@@ -1,6 +1,6 @@
 -- What a plan reads and writes of an image in whose log is nothing.
 use Rattle.std.proofs.Common.{◌≡◌, ◌∙◌, refl, sym, ap, subst, ℕ, ◌+◌, ◌-◌, ◌<◌, ◌≤◌, ◌||◌, ◌&&◌, inl, inr, arith, Bool, true, false}
-use Rattle.std.proofs.Common.{nat_eq, List, [], ◌∷◌, All}
+use Rattle.std.proofs.Common.{if◌then◌else◌, nat_eq, List, [], ◌∷◌, ◌++◌, All}
 use Rattle.std.specs.List.{Contains}
 use Rattle.std.proofs.lemmas.Bool.Decides.{nat_tests}
 use Rattle.std.proofs.lemmas.List.Elements.{All-head, All-tail, All-weaker, Contains-push_cases}
@@ -12,18 +12,20 @@ use Rattle.layout.specs.Homes.{homes_of}
 use Rattle.layout.specs.Places.{is_data}
 use Rattle.layout.proofs.FreshHomes.{home_is}
 use Rattle.objects.specs.declared.addr.Addr.{Addr}
+use Rattle.objects.specs.declared.mode.Mode.{Mode}
 use Rattle.objects.specs.Object.{ObjectBytes}
 use Rattle.objects.specs.Spliced.{extracted}
 use Rattle.txn_law.specs.Window.{IsAsRead, part}
 use Rattle.wal_law.specs.Log.{IsHomeOn}
 use Rattle.wal_law.specs.Recovery.{HasOnlyRead, image_of}
 use Rattle.inode.specs.Read.{AreAsRead, Saw}
-use Rattle.inode.specs.Snap.{MayWrite, is_claimed, is_seen, same_addr}
+use Rattle.inode.specs.Snap.{MayWrite, is_among, is_claimed, is_had, is_seen, same_addr, with_read}
 use Rattle.inode.specs.declared.snap.Snap.{Snap}
 use Rattle.procs.specs.Asks.{Asks, Claims, IsWritable, WereAskedOnce, WereClaimedOnce}
 use Rattle.procs.specs.Finished.{EndsFrom}
 use Rattle.procs.specs.Outcome.{Outcome}
-use Rattle.procs.proofs.FewAsked.{one_asked_once}
+use Rattle.procs.specs.MostAsked.{times_asked}
+use Rattle.procs.proofs.FewAsked.{asked_more, read_once}
 use Rattle.procs.proofs.FewClaimed.{claimed_object}
 use Rattle.replays.specs.AtHome.{HasAdded}
 use Rattle.replays.proofs.AtHome.{image_same}
@@ -31,8 +33,8 @@ use Rattle.replays.proofs.AtHome.{image_same}
 -- ---- what was read
 
 -- one object more was read
-module _ (size : ℕ) (image : Image) (old new : Snap) (addr : Addr) (content : Content)
-    (added : HasAdded addr old new) where
+module _ (size : ℕ) (image : Image) (old new : Snap) (addr : Addr) (mode : Mode) (content : Content)
+    (added : HasAdded addr mode old new) where
   abbrev one : ObjectBytes
   one = record { addr = addr; bytes = added.bytes }
 
@@ -45,8 +47,12 @@ module _ (size : ℕ) (image : Image) (old new : Snap) (addr : Addr) (content : 
       → added.bytes ≡ extracted content addr.offset addr.len
       → Saw (homes_of size image) old → Saw (homes_of size image) new
   saw_more home came bytes saw object there =
-      elim (Contains-push_cases old.objects.items one object
-      (subst (λ (xs : List ObjectBytes). Contains xs object) added.objects there)) [
+      by (is_seen addr old.objects.items) (subst (λ (xs : List ObjectBytes). Contains xs object) added.objects there)
+    where
+      by : (seen : Bool) → Contains (if seen then old.objects.items else old.objects.items ++ one ∷ []) object
+          → IsAsRead (homes_of size image) object
+      by true before = saw object before
+      by false more = elim (Contains-push_cases old.objects.items one object more) [
         | inl before ↦ saw object before
         | inr here ↦ subst (IsAsRead (homes_of size image)) here (as_read home came bytes)
       ]
@@ -67,17 +73,30 @@ saw_then size first mid old room new size_is reads objects more saw =
 -- ---- each round leaves less to be asked for
 
 -- all that was read was asked for
-pub read_more : (g : Geometry) (old room new : Snap) (addr : Addr) → room.geometry ≡ g
-    → room.objects.items ≡ old.objects.items → HasAdded addr room new → WereAskedOnce g old.objects.items
-    → Asks room.geometry addr → is_seen addr room.objects.items ≡ false → WereAskedOnce g new.objects.items
-read_more g old room new addr geometry objects added were asks unseen =
+pub read_more : (g : Geometry) (old room new : Snap) (addr : Addr) (mode : Mode) → room.geometry ≡ g
+    → room.objects.items ≡ old.objects.items → HasAdded addr mode room new → WereAskedOnce g old.objects.items
+    → Asks room.geometry addr → WereAskedOnce g new.objects.items
+read_more g old room new addr mode geometry objects added were asks =
     subst (λ (xs : List ObjectBytes). WereAskedOnce g xs) (sym added.objects)
-    (one_asked_once g room.objects.items (record { addr = addr; bytes = added.bytes })
+    (read_once g room.objects.items addr added.bytes
     (subst (λ (xs : List ObjectBytes). WereAskedOnce g xs) (sym objects) were)
-    (subst (λ (h : Geometry). Asks h addr) geometry asks) unseen)
+    (subst (λ (h : Geometry). Asks h addr) geometry asks))
+
+-- what is asked for then was asked for less often before
+pub more_often : (old room new : Snap) (addr : Addr) (mode : Mode) → room.objects.items ≡ old.objects.items
+    → room.alone.items ≡ old.alone.items → HasAdded addr mode room new
+    → is_had addr mode room.objects.items room.alone.items ≡ false
+    → times_asked old.objects.items old.alone.items < times_asked new.objects.items new.alone.items
+more_often old room new addr mode objects alone added unhad =
+    subst (λ (xs : List ObjectBytes). times_asked xs old.alone.items < times_asked new.objects.items new.alone.items) objects
+    (subst (λ (xs : List Addr). times_asked room.objects.items xs < times_asked new.objects.items new.alone.items) alone
+    (subst (λ (xs : List ObjectBytes). times_asked room.objects.items room.alone.items < times_asked xs new.alone.items)
+    (sym added.objects) (subst (λ (xs : List Addr). times_asked room.objects.items room.alone.items
+    < times_asked (with_read addr added.bytes room.objects.items) xs) (sym added.alone)
+    (asked_more addr mode added.bytes room.objects.items room.alone.items unhad))))
 
 pub less_left : (asked claimed objects claims more_objects more_claims : ℕ)
-    → more_objects + more_claims ≡ objects + claims + 1 → more_objects ≤ asked → more_claims ≤ claimed
+    → objects + claims < more_objects + more_claims → more_objects ≤ asked → more_claims ≤ claimed
     → asked + claimed - (more_objects + more_claims) < asked + claimed - (objects + claims)
 less_left asked claimed objects claims more_objects more_claims more few few_claims = omega arith
 
@@ -132,6 +151,7 @@ module _ (g : Geometry) (lie : (addr : Addr) → Asks g addr → IsHomeOn g.bloc
       (λ object may. by object.addr may) done.written ends.writable
     where
       by : (addr : Addr) → MayWrite snap addr → IsHomeOn g.blocks addr.block
-      by addr (inl seen) = seen_home addr snap.objects.items read.asked seen
+      by addr (inl had) = seen_home addr snap.objects.items read.asked
+          (first_of (is_seen addr snap.objects.items) (is_among addr snap.alone.items) had)
       by addr (inr whole) = lie addr (claimed_object g addr.block addr
           (claimed_data addr.block snap.claims.items claimed.asked whole.0) whole.1)

@@ -1,5 +1,5 @@
 -- An image in whose log is nothing: what it holds, and what a call's plan makes of it.
-use Rattle.std.specs.Prelude.{◌≡◌, ℕ, ◌+◌, ◌<◌, List, [], ◌∷◌, ◌++◌, Result, Ok, Err}
+use Rattle.std.specs.Prelude.{◌≡◌, ℕ, ◌+◌, ◌<◌, List, Result, Ok, Err}
 use Rattle.limits.specs.declared.TheConstants.{SUPER_BLOCK}
 use Rattle.disk.specs.Crash.{Image, IsAtRest}
 use Rattle.disk.specs.Device.{Content, Device}
@@ -15,9 +15,11 @@ use Rattle.layout.specs.Homes.{homes_of}
 use Rattle.layout.specs.Stands.{Stands}
 use Rattle.layout.specs.SuperForm.{IsSuper}
 use Rattle.objects.specs.declared.addr.Addr.{Addr}
+use Rattle.objects.specs.declared.mode.Mode.{Mode}
 use Rattle.wal_law.specs.Overlay.{HasHomes, IsInRange, end_in, logged_in, start_in}
 use Rattle.wal_law.specs.Recovery.{image_of}
 use Rattle.txn_law.specs.Window.{with_objects}
+use Rattle.inode.specs.Snap.{with_mode, with_read}
 use Rattle.inode.specs.declared.snap.Snap.{Snap}
 use Rattle.procs.specs.Outcome.{Outcome}
 use Rattle.store_promise.specs.declared.fault.OpenFault.{OpenFault}
@@ -60,11 +62,12 @@ IsFailure fault.Version before later = ⊥
 IsFailure fault.Range before later = ⊥
 IsFailure fault.Log before later = ⊥
 
--- an object of this address was read, too
-pub record HasAdded (addr : Addr) (old new : Snap) : Type 0 where
+-- an object of this address was read in a mode, too
+pub record HasAdded (addr : Addr) (mode : Mode) (old new : Snap) : Type 0 where
   pub bytes : List ℕ
   pub geometry : new.geometry ≡ old.geometry
-  pub objects : new.objects.items ≡ old.objects.items ++ record { addr = addr; bytes = bytes } ∷ []
+  pub objects : new.objects.items ≡ with_read addr bytes old.objects.items
+  pub alone : new.alone.items ≡ with_mode addr mode old.alone.items
   pub claims : new.claims.items ≡ old.claims.items
 
 -- Where these blocks stand for a tree, what came of a call is a step from there, and the blocks with what it writes stand

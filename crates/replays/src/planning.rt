@@ -14,10 +14,10 @@ use disk::{Block, CrashDisk, Failed};
 use inode::Snap;
 use layout::Geometry;
 use nfs_types::{Call, Ctx};
-use objects::{Addr, extract};
+use objects::{Addr, Mode, extract};
 use procs::{
-    Done, Plan, a_plan_asks_for_few, a_plan_claims_few, plan, what_is_claimed_was_asked_for,
-    what_is_read_was_asked_for,
+    Done, Plan, a_plan_asks_for_few, a_plan_claims_few, plan, what_is_asked_for_counts,
+    what_is_claimed_was_asked_for, what_is_read_was_asked_for,
 };
 use std::alloc::Global;
 use store_promise::OpenFault;
@@ -46,16 +46,17 @@ pub(crate) fn plan_over<D: CrashDisk>(
 {
     layout::objects_lie_at_home();
     what_is_read_was_asked_for();
+    what_is_asked_for_counts();
     a_plan_asks_for_few();
     what_is_claimed_was_asked_for();
     a_plan_claims_few();
-    let mut snap = Snap::new(alloc, geometry, 0);
+    let mut snap = Snap::new(alloc, geometry, 0, Mode::Exclusive);
     'asks: loop {
         if snap.make_room().is_err() {
             return Err(OpenFault::NoMemory);
         }
         match plan(alloc, ctx, call, &snap) {
-            Plan::Need(addr, _) => read_object(alloc, disk, block, &mut snap, addr)?,
+            Plan::Need(addr, mode) => read_object(alloc, disk, block, &mut snap, addr, mode)?,
             Plan::Claim(number) => snap.claimed(number),
             Plan::Done(done) => return Ok(done),
             Plan::NoMemory => return Err(OpenFault::NoMemory),
@@ -71,13 +72,14 @@ fn read_object<D: CrashDisk>(
     block: &mut Block,
     snap: &mut Snap,
     addr: Addr,
+    mode: Mode,
 ) -> Result<(), OpenFault>
     requires home { IsHomeOn (D.device disk.old).size addr.block }
     requires room { HasRoom snap.old }
     ensures reads { HasOnlyRead (D.device disk.old) (D.device disk.new) }
     ensures failure { MatchResult result (λ _. (D.device disk.new).failures ≡ (D.device disk.old).failures)
         (λ cause. IsFailure cause (D.device disk.old) (D.device disk.new)) }
-    ensures added { OnOk result (HasAdded addr snap.old snap.new) }
+    ensures added { OnOk result (HasAdded addr mode snap.old snap.new) }
     ensures saw { D.keeps_model disk.new → IsUnspoiled (D.device disk.old)
         → OnOk result (Saw (homes_of (D.device disk.old).size (image_of (D.device disk.old))) snap.old
         → Saw (homes_of (D.device disk.old).size (image_of (D.device disk.old))) snap.new) }
@@ -89,6 +91,6 @@ fn read_object<D: CrashDisk>(
     let Ok(bytes) = extract(alloc, block, addr) else {
         return Err(OpenFault::NoMemory);
     };
-    snap.add(addr, bytes);
+    snap.add(addr, mode, bytes);
     Ok(())
 }

@@ -6,3 +6,4 @@ mod left;
 mod one_block;
 mod one_group;
 mod refused;
+mod shared;

@@ -21,18 +21,18 @@ use Rattle.nfs_types.specs.declared.ctx.Ctx.{Ctx}
 use Rattle.nfs_types.specs.declared.reply.Reply.{Reply}
 use Rattle.wal_law.specs.Log.{Log, settled_place}
 use Rattle.wal_law.specs.declared.outcomes.Seq.{Seq}
-use Rattle.procs.specs.MostAsked.{most_asked, most_claimed}
+use Rattle.procs.specs.MostAsked.{most_asked, most_claimed, times_asked}
 use Rattle.procs.specs.Outcome.{Outcome}
 use Rattle.procs.specs.Planned.{IsPlanFor}
 use Rattle.procs.specs.declared.next.Plan.{Plan}
 use Rattle.procs.specs.declared.next.Plan.TheVariants as plan
+use Rattle.inode.specs.Snap.{with_mode, with_read}
 use Rattle.inode.specs.declared.snap.Snap.{Snap}
-use Rattle.procs.proofs.FewAsked.{few, one_asked_once}
+use Rattle.procs.proofs.FewAsked.{asked_more, few_times, read_once}
 use Rattle.procs.proofs.FewClaimed.{few_claimed, one_claimed_once}
 use Rattle.txn.specs.Core.{CoreState}
 use Rattle.txn.specs.Fetch.{Fetch}
 use Rattle.txn.specs.Group.{blocks_of}
-use Rattle.txn.specs.Object.{ObjectBytes}
 use Rattle.txn.specs.Outcomes.{IsClaimed, IsCommit, IsWanted}
 use Rattle.txn.specs.declared.outcomes.Claim.{Claim}
 use Rattle.txn.specs.declared.outcomes.Claim.TheVariants as claim
@@ -99,19 +99,21 @@ round_less rounds most blocks unread away asked there =
     more some all few = grind (arith)
 
 -- an object that was read leaves fewer
-read_less : (most count blocks away was rounds : ℕ) → count + 1 ≤ most → away ≤ blocks
-    → rounds + (3 + ((most - (count + 1)) * (blocks + 1) + away)) < rounds +
+read_less : (most count then' blocks away was rounds : ℕ) → count < then' → then' ≤ most → away ≤ blocks
+    → rounds + (3 + ((most - then') * (blocks + 1) + away)) < rounds +
     (3 + ((most - count) * (blocks + 1) + was))
-read_less most count blocks away was rounds few within =
-    let one : most - count ≡ suc (most - (count + 1)) = grind (arith) in
-    subst (λ n. rounds + (3 + ((most - (count + 1)) * (blocks + 1) + away)) < rounds +
+read_less most count then' blocks away was rounds fewer few within =
+    let extra = most - count - suc (most - then') in
+    let one : most - count ≡ suc (most - then') + extra = omega (arith, fewer, few) in
+    subst (λ n. rounds + (3 + ((most - then') * (blocks + 1) + away)) < rounds +
     (3 + (n * (blocks + 1) + was)))
-    (sym one) (more (most - (count + 1)) blocks within)
+    (sym one) (more (most - then') extra blocks within)
   where
-    more : (left all : ℕ) → away ≤ all → rounds + (3 + (left * (all + 1) + away)) < rounds +
-        (3 + (suc left * (all + 1) + was))
-    more left all there =
-        let product : suc left * (all + 1) ≡ all + 1 + left * (all + 1) = grind (arith) in grind (arith)
+    more : (left extra all : ℕ) → away ≤ all → rounds + (3 + (left * (all + 1) + away)) < rounds +
+        (3 + ((suc left + extra) * (all + 1) + was))
+    more left extra all there =
+        let product : (suc left + extra) * (all + 1) ≡ all + 1 + left * (all + 1) + extra * (all + 1) = grind (arith) in
+        grind (arith)
 
 -- ---- what a round comes to
 
@@ -178,7 +180,7 @@ goes_by phase old made what new on is unkept none =
 -- ---- what was read
 
 untaken_is : (work : Work) (seen : Seen) (blocks : ℕ) → seen_in work.planner ≡ Some seen
-    → untaken work blocks ≡ most_taken blocks - (length seen.objects + length seen.claims)
+    → untaken work blocks ≡ most_taken blocks - (times_asked seen.objects seen.alone + length seen.claims)
 untaken_is work seen blocks seen_is = ap (λ (o : Option Seen). most_taken blocks - count_of o) seen_is
 
 untaken_within : (work : Work) (blocks : ℕ) → untaken work blocks ≤ most_taken blocks
@@ -187,29 +189,28 @@ untaken_within work blocks = within (most_taken blocks) (count_of (seen_in work.
     within : (a b : ℕ) → a - b ≤ a
     within a b = omega arith
 
-all_taken : (objects claims blocks : ℕ) → objects ≤ most_asked blocks → claims ≤ most_claimed blocks
-    → objects + claims ≤ most_taken blocks
+all_taken : (times claims blocks : ℕ) → times ≤ 2 * most_asked blocks → claims ≤ most_claimed blocks
+    → times + claims ≤ most_taken blocks
 unfolding most_taken
-all_taken objects claims blocks few fewer = omega (arith, few, fewer)
+all_taken times claims blocks few fewer = omega (arith, few, fewer)
 
 -- with one more that was taken less is left
 less_taken : (old new : Side) (snap : Snap) (now_seen : Seen)
     → seen_in old.worker.work.planner ≡ Some (seen_of snap) → seen_in new.worker.work.planner ≡ Some now_seen
     → new.core.log ≡ old.core.log
-    → count_of (Some now_seen) ≡ length snap.objects.items + length snap.claims.items + 1
-    → length snap.objects.items + length snap.claims.items + 1 ≤ most_taken old.core.log.blocks
+    → count_of (Some (seen_of snap)) < count_of (Some now_seen)
+    → count_of (Some now_seen) ≤ most_taken old.core.log.blocks
     → left_in Planning new.worker.work new.core < left_in Planning old.worker.work old.core
 less_taken old new snap now_seen snap_is seen log more within =
-    let now : untaken new.worker.work b ≡ most_taken b - (count + 1) =
-    untaken_is new.worker.work now_seen b seen ∙ ap (λ n. most_taken b - n) more in
+    let now : untaken new.worker.work b ≡ most_taken b - then' = untaken_is new.worker.work now_seen b seen in
     let was = untaken_is old.worker.work (seen_of snap) b snap_is in
-    let fewer = read_less (most_taken b) count b (away new.core) (away old.core)
-    (rounds_left old.core.log) within
+    let fewer = read_less (most_taken b) count then' b (away new.core) (away old.core)
+    (rounds_left old.core.log) more within
     (subst (λ n. away new.core ≤ n) blocks (at_most_all (is_at_hand new.core) new.core.log.blocks)) in
     subst (λ (l : Log). rounds_left l
     + (3 + (untaken new.worker.work l.blocks * (l.blocks + 1) + away new.core)) < left) (sym log)
     (subst (λ u. rounds_left old.core.log + (3 + (u * (b + 1) + away new.core)) < left) (sym now)
-    (subst (λ u. rounds_left old.core.log + (3 + ((most_taken b - (count + 1)) * (b + 1) + away new.core))
+    (subst (λ u. rounds_left old.core.log + (3 + ((most_taken b - then') * (b + 1) + away new.core))
     < rounds_left old.core.log + (3 + (u * (b + 1) + away old.core))) (sym was) fewer))
   where
     blocks : new.core.log.blocks ≡ old.core.log.blocks
@@ -219,7 +220,10 @@ less_taken old new snap now_seen snap_is seen log more within =
     b = old.core.log.blocks
 
     count : ℕ
-    count = length snap.objects.items + length snap.claims.items
+    count = count_of (Some (seen_of snap))
+
+    then' : ℕ
+    then' = count_of (Some now_seen)
 
     left : ℕ
     left = left_in Planning old.worker.work old.core
@@ -272,37 +276,39 @@ module _ (old new : Side) (addr : Addr) (mode : Mode) (job : Job) (tx : ℕ) (sn
   left = left_in Planning old.worker.work old.core
 
   held : (bytes : List ℕ) → new.worker.phase ≡ Planning → new.core.log ≡ old.core.log
-      → seen_in new.worker.work.planner ≡ with_object addr bytes (seen_in old.worker.work.planner)
+      → seen_in new.worker.work.planner ≡ with_object addr mode bytes (seen_in old.worker.work.planner)
       → HasGoneOn left new.worker new.core
   held bytes phase log seen = nearer left new.worker new.core Planning phase tt less
     where
-      object : ObjectBytes
-      object = record { addr = addr; bytes = bytes }
-
       now_seen : Seen
-      now_seen = record (seen_of snap) { objects = snap.objects.items ++ object ∷ [] }
+      now_seen = record (seen_of snap) {
+        objects = with_read addr bytes snap.objects.items;
+        alone = with_mode addr mode snap.alone.items;
+      }
 
-      more : count_of (Some now_seen) ≡ length snap.objects.items + length snap.claims.items + 1
-      more = let longer = length-append snap.objects.items (object ∷ []) in omega (arith, longer)
+      times : ℕ
+      times = times_asked now_seen.objects now_seen.alone
 
-      within : length snap.objects.items + length snap.claims.items + 1 ≤ most_taken old.core.log.blocks
+      more : count_of (Some (seen_of snap)) < count_of (Some now_seen)
+      more = let often = asked_more addr mode bytes snap.objects.items snap.alone.items is_plan.0 in omega (arith, often)
+
+      within : count_of (Some now_seen) ≤ most_taken old.core.log.blocks
       within =
-          let most = few snap.geometry now_seen.objects
-          (one_asked_once snap.geometry snap.objects.items object has.were is_plan.1 is_plan.0) in
+          let most = few_times snap.geometry now_seen.objects now_seen.alone
+          (read_once snap.geometry snap.objects.items addr bytes has.were is_plan.1) in
           let fewer = few_claimed snap.geometry snap.claims.items has.claims in
           let same = has.blocks in
-          subst (λ n. n ≤ most_taken old.core.log.blocks) more
-          (all_taken (length now_seen.objects) (length snap.claims.items) old.core.log.blocks
-          (omega (arith, most, same)) (omega (arith, fewer, same)))
+          all_taken times (length snap.claims.items) old.core.log.blocks
+          (omega (arith, most, same)) (omega (arith, fewer, same))
 
       less : left_in Planning new.worker.work new.core < left
-      less = less_taken old new snap now_seen snap_is (seen ∙ ap (with_object addr bytes) snap_is) log more within
+      less = less_taken old new snap now_seen snap_is (seen ∙ ap (with_object addr mode bytes) snap_is) log more within
 
   wanted : (made : Step) → is_kept_off (Some made) ≡ false → (answer : Want)
       → made ≡ step.Wanted addr mode (wish_of answer)
       → IsWanted old.core tx addr mode answer new.core → new.worker.phase ≡ phase_wanted addr mode answer old.worker.known
       → new.worker.begun ≡ begun_wanted answer
-      → seen_in new.worker.work.planner ≡ seen_wanted [] addr answer (seen_in old.worker.work.planner)
+      → seen_in new.worker.work.planner ≡ seen_wanted [] addr mode answer (seen_in old.worker.work.planner)
       → new.worker.work.entry ≡ old.worker.work.entry → new.worker.work.answer ≡ old.worker.work.answer
       → Came Planning old (Some made) new
   wanted made free (want.Held back bytes) made_is core phase got seen entry answer =
@@ -352,18 +358,17 @@ module _ (old new : Side) (block : BlockNo) (addr : Addr) (tx : ℕ) (snap : Sna
       now_seen : Seen
       now_seen = record (seen_of snap) { claims = snap.claims.items ++ block ∷ [] }
 
-      more : count_of (Some now_seen) ≡ length snap.objects.items + length snap.claims.items + 1
+      more : count_of (Some (seen_of snap)) < count_of (Some now_seen)
       more = let longer = length-append snap.claims.items (block ∷ []) in omega (arith, longer)
 
-      within : length snap.objects.items + length snap.claims.items + 1 ≤ most_taken old.core.log.blocks
+      within : count_of (Some now_seen) ≤ most_taken old.core.log.blocks
       within =
-          let most = few snap.geometry snap.objects.items has.were in
+          let most = few_times snap.geometry snap.objects.items snap.alone.items has.were in
           let fewer = few_claimed snap.geometry now_seen.claims
           (one_claimed_once snap.geometry snap.claims.items block has.claims is_plan.1 is_plan.0) in
           let same = has.blocks in
-          subst (λ n. n ≤ most_taken old.core.log.blocks) more
-          (all_taken (length snap.objects.items) (length now_seen.claims) old.core.log.blocks
-          (omega (arith, most, same)) (omega (arith, fewer, same)))
+          all_taken (times_asked snap.objects.items snap.alone.items) (length now_seen.claims) old.core.log.blocks
+          (omega (arith, most, same)) (omega (arith, fewer, same))
 
   claimed : (made : Step) → is_kept_off (Some made) ≡ false → (answer : Claim)
       → made ≡ step.Claimed block (claim_wish answer)
@@ -470,7 +475,7 @@ goes old new tx made next tx_is none is taken free goes_so = of_next next is.pla
         (has_of old.worker old.core is.job tx (seen_of is.snap) is.job_is tx_is is.snap_is taken) planned
         (ap (λ (s : State). s.work.job) wish.worker) made free wish.answer wish.made_is wish.core
         (ap (λ (s : State). s.phase) wish.worker) (ap (λ (s : State). s.begun) wish.worker)
-        (wish.seen ∙ ap (λ (left : List Aim). seen_wanted left addr wish.answer (seen_in old.worker.work.planner)) none)
+        (wish.seen ∙ ap (λ (left : List Aim). seen_wanted left addr mode wish.answer (seen_in old.worker.work.planner)) none)
         (ap (λ (s : State). s.work.entry) wish.worker) (ap (λ (s : State). s.work.answer) wish.worker)
     of_next (plan.Claim block) planned wish =
         claimed old new block wish.core.0 tx is.snap is.snap_is

@@ -5,7 +5,7 @@ use Rattle.std.specs.Prelude.{if◌then◌else◌, Option, Some, None, is_some, 
 use Rattle.limits.specs.declared.TheConstants.{CHANGED_BLOCKS, LOG_SLOTS}
 use Rattle.disk.specs.declared.block.BlockNo.{BlockNo}
 use Rattle.wal_law.specs.Log.{Log, settled_place, tail_count}
-use Rattle.procs.specs.MostAsked.{most_asked, most_claimed}
+use Rattle.procs.specs.MostAsked.{most_asked, most_claimed, times_asked}
 use Rattle.txn.specs.Core.{CoreState}
 use Rattle.txn.specs.Leaves.{in_memory}
 use Rattle.txn_law.specs.Holds.{is_taken}
@@ -37,13 +37,14 @@ away core = count_away (is_at_hand core) core.log.blocks
 
 -- ---- what a transaction has still to take
 
--- the most that is taken of an image of so many blocks: objects that are read, and blocks that are claimed
+-- the most that is taken of an image of so many blocks: objects that are read, each at most twice, beside others and
+-- then alone, and blocks that are claimed
 unfoldable pub most_taken : ℕ → ℕ
-most_taken blocks = most_asked blocks + most_claimed blocks
+most_taken blocks = 2 * most_asked blocks + most_claimed blocks
 
 abbrev pub count_of : Option Seen → ℕ
 count_of None = 0
-count_of (Some seen) = length seen.objects + length seen.claims
+count_of (Some seen) = times_asked seen.objects seen.alone + length seen.claims
 
 -- how much more may be taken
 abbrev pub untaken : Work → ℕ → ℕ

@@ -23,7 +23,7 @@ use Rattle.procs.proofs.FewClaimed.{claimed_object}
 use Rattle.procs.specs.Asks.{Asks, Claims}
 use Rattle.procs.specs.Outcome.{Outcome}
 use Rattle.procs.specs.declared.next.Plan.TheVariants as plan
-use Rattle.inode.specs.Snap.{is_claimed, is_seen, same_addr}
+use Rattle.inode.specs.Snap.{is_claimed, is_had}
 use Rattle.layout.proofs.OnGrid.{at_home}
 use Rattle.txn.specs.Outcomes.{IsClaimed, IsCommit, IsWanted}
 use Rattle.txn.specs.Wishes.{IsWhole}
@@ -78,7 +78,8 @@ use Rattle.store_runs.specs.AtWork.{IsAimLoaded, IsCoreAtWork, Loads, LoadsFor, 
 use Rattle.store_runs.proofs.NamedBlocks.{named_alone}
 use Rattle.store_runs.proofs.KeptOff.{IsCaused}
 use Rattle.store_workers.specs.Seen.{Seen, seen_in, seen_of}
-use Rattle.store_workers.specs.Stages.{IsFetchOf, IsJobIn, IsWorkerAt, RunsIn, StandsAt, alone, at_fetch}
+use Rattle.store_workers.proofs.HeldAs.{held_as}
+use Rattle.store_workers.specs.Stages.{IsFetchOf, IsJobIn, IsWorkerAt, RunsIn, StandsAt, at_fetch}
 use Rattle.store_workers.specs.Stages.{at_stage, begun_of}
 use Rattle.store_workers.specs.Stages.{progress_in, progress_of}
 use Rattle.store_workers.specs.WorkerAnswers.{claim_wish, committing_of, wish_of}
@@ -91,17 +92,6 @@ use Rattle.store_workers.specs.declared.workers.parts.Phase.TheVariants.{Plannin
 use Rattle.store_workers.specs.declared.workers.parts.State.{State}
 
 -- ---- what was read
-
--- an address is told just where it was seen, and then in each mode
-held_as_seen : (addr : Addr) (mode : Mode) (objects : List ObjectBytes)
-    → is_held addr mode (map (λ (object : ObjectBytes). alone object.addr) objects) ≡ is_seen addr objects
-held_as_seen addr mode [] = refl
-held_as_seen addr mode (x ∷ xs) = ap (λ (b : Bool). b || is_held addr mode (map (λ (o : ObjectBytes). alone o.addr) xs))
-    (and_true (same_addr addr x.addr)) ∙ ap (λ (b : Bool). same_addr addr x.addr || b) (held_as_seen addr mode xs)
-  where
-    and_true : (b : Bool) → (b && true) ≡ b
-    and_true true = refl
-    and_true false = refl
 
 -- a block that is in memory isn't one that isn't
 differs : (core : CoreState) (one other : BlockNo) (content : Content) → in_memory core one ≡ Some content
@@ -169,10 +159,10 @@ module _ (o : Setting) (told : Told) (worker : ℕ) (base : Image) (store : Stor
   geometry_is = one_geometry seen.geometry o.geometry (has.blocks ∙ sym run.blocks) (has.inodes ∙ sym inodes)
 
   module _ (addr : Addr) (mode : Mode) (asks : Asks seen.geometry addr)
-      (new_to_it : is_seen addr seen.objects ≡ false) where
+      (new_to_it : is_had addr mode seen.objects seen.alone ≡ false) where
     asked_for : IsAskedFor o begun addr mode
     asked_for = record {
-      unheld = held_as_seen addr mode seen.objects ∙ new_to_it;
+      unheld = held_as addr mode seen.alone seen.objects ∙ new_to_it;
       asks = subst (λ (g : Geometry). Asks g addr) geometry_is asks;
     }
 

@@ -10,7 +10,7 @@ use Rattle.model.specs.Entry.{Entry}
 use Rattle.procedures.specs.After.{after as leads_to}
 use Rattle.model.specs.Tree.{Tree}
 use Rattle.objects.specs.declared.addr.Addr.{Addr}
-use Rattle.txn.specs.Claimed.{IsClaimedBy, IsTakenAlone}
+use Rattle.txn.specs.Claimed.{IsClaimedBy}
 use Rattle.txn_law.specs.Commit.{IsReadBy}
 use Rattle.txn_law.specs.Core.{CoreState}
 use Rattle.txn_law.specs.Fetch.{Fetch}
@@ -37,7 +37,7 @@ use Rattle.store_promise.specs.Schedule.{worker_of}
 use Rattle.store_promise.specs.Transcript.{Transcript, entries_of, entry_of, transcript_of}
 use Rattle.run_law.specs.Noting.{Noted, commits, ends_of, told_now, with_noted}
 use Rattle.run_law.specs.Run.{Beginning, GoesOn, IsRun}
-use Rattle.store_workers.specs.Alone.{HasOfCall, HasTaken, PlansAlone}
+use Rattle.store_workers.specs.Alone.{HasAlone, HasOfCall, HasTaken, PlansAlone}
 use Rattle.store_workers.specs.Asked.{Asking}
 use Rattle.store_workers.specs.Knowing.{Knowing}
 use Rattle.store_promise.specs.declared.aims.Aim.{Aim}
@@ -137,9 +137,8 @@ module _ (old new : CoreState) (kept : KeepsTransactions old new)
         seen.claims has.claimed;
     were = has.were;
     read = All-weaker (IsReadBy old tx) (IsReadBy new tx) (kept.reads tx) seen.objects has.read;
-    alone = All-weaker (λ (object : ObjectBytes). IsTakenAlone old tx object.addr)
-        (λ (object : ObjectBytes). IsTakenAlone new tx object.addr)
-        (λ object is hold at. is hold (sym (kept.taken tx object.addr) ∙ at)) seen.objects has.alone;
+    alone = All-weaker (HasAlone old tx) (HasAlone new tx)
+        (λ addr is. (is.0, kept.taken tx addr ∙ is.1, is.2)) seen.alone has.alone;
     asked = λ addr hold is. has.asked addr hold (sym (kept.taken tx addr) ∙ is);
   }
 

@@ -17,7 +17,8 @@ use Rattle.objects.specs.declared.addr.Addr.{Addr}
 use Rattle.objects.specs.declared.mode.Mode.{Mode}
 use Rattle.objects.specs.declared.mode.Mode.TheVariants as modes
 use Rattle.layout.specs.declared.geometry.Geometry.{Geometry}
-use Rattle.inode.specs.Snap.{is_claimed, is_seen, same_addr}
+use Rattle.inode.specs.Snap.{is_among, is_claimed, is_seen, same_addr}
+use Rattle.inode.proofs.HadAlone.{one_addr}
 use Rattle.txn_law.specs.Object.{ObjectBytes}
 use Rattle.txn_law.specs.Group.{blocks_of}
 use Rattle.txn_law.specs.Records.{lies_in}
@@ -37,8 +38,9 @@ use Rattle.store_promise.specs.Schedule.{wish_of}
 use Rattle.store_workers.specs.Asked.{Asking}
 use Rattle.store_workers.specs.Knowing.{Knowing}
 use Rattle.store_runs.specs.AtWork.{IsSeenIn}
-use Rattle.store_workers.specs.Seen.{Seen, seen_in}
-use Rattle.store_workers.specs.Stages.{alone, taken_as, at_fetch, at_stage, begun_of, claimed_in, held_in}
+use Rattle.store_workers.proofs.HeldAs.{as_told}
+use Rattle.store_workers.specs.Seen.{Seen, mode_in, seen_in}
+use Rattle.store_workers.specs.Stages.{taken_as, at_fetch, at_stage, begun_of, claimed_in, held_in}
 use Rattle.store_workers.specs.Stages.{progress_in, progress_of}
 use Rattle.store_workers.specs.declared.workers.parts.Job.{Job}
 use Rattle.store_workers.specs.declared.workers.parts.Phase.{Phase}
@@ -105,9 +107,9 @@ module _ (addr : Addr) where
   abbrev IsAside : ObjectBytes → Type 0
   IsAside object = Overlap object.addr addr → ⊥
 
-  at_same : (object other : Addr) → same_addr object other ≡ true → Overlap object addr
-      → keeps_off wished (alone other) ≡ true
-  at_same object other same over =
+  at_same : (object other : Addr) (mode : Mode) → same_addr object other ≡ true → mode ≡ modes.Exclusive
+      → Overlap object addr → keeps_off wished (taken_as mode other) ≡ true
+  at_same object other mode same alone over =
       let (front, lens) = and_parts (nat_eq object.block.0 other.block.0 && nat_eq object.offset other.offset)
       (nat_eq object.len other.len) same in
       let (blocks, offsets) = and_parts (nat_eq object.block.0 other.block.0)
@@ -118,26 +120,32 @@ module _ (addr : Addr) where
       let at : object.block.0 ≡ addr.block.0 = ap (λ (b : BlockNo). b.0) over.0 in
       let one = over.1 in
       let two = over.2 in
-      and_from (shares wished other) true
+      and_from (shares wished other) (is_exclusive mode || is_exclusive modes.Shared)
       (and_from (nat_eq other.block.0 addr.block.0 && nat_lt other.offset (addr.offset + addr.len))
       (nat_lt addr.offset (other.offset + other.len))
       (and_from (nat_eq other.block.0 addr.block.0) (nat_lt other.offset (addr.offset + addr.len))
       (eq-eqb other.block.0 addr.block.0 (sym block_is ∙ at))
       (lt-ltb other.offset (addr.offset + addr.len) (omega (arith, offset_is, one))))
-      (lt-ltb addr.offset (other.offset + other.len) (omega (arith, offset_is, len_is, two)))) refl
+      (lt-ltb addr.offset (other.offset + other.len) (omega (arith, offset_is, len_is, two))))
+      (ap (λ (m : Mode). is_exclusive m || is_exclusive modes.Shared) alone)
 
-  among_read : (object : Addr) (objects : List ObjectBytes) → is_seen object objects ≡ true
-      → Overlap object addr
-      → list_any (keeps_off wished) (map (λ (o : ObjectBytes). alone o.addr) objects) ≡ true
-  among_read object [] seen over = absurd (true≢false (sym seen))
-  among_read object (o ∷ os) seen over =
-      by (same_addr object o.addr) refl (λ later. among_read object os later over)
+  among_read : (object : Addr) (alone : List Addr) (objects : List ObjectBytes) → is_seen object objects ≡ true
+      → is_among object alone ≡ true → Overlap object addr
+      → list_any (keeps_off wished) (map (as_told alone) objects) ≡ true
+  among_read object alone [] seen among over = absurd (true≢false (sym seen))
+  among_read object alone (o ∷ os) seen among over =
+      by (same_addr object o.addr) refl (λ later. among_read object alone os later among over)
     where
+      mode_is : (a : Addr) → object ≡ a → mode_in alone a ≡ modes.Exclusive
+      mode_is a same = ap (λ (t : Bool). if t then modes.Exclusive else modes.Shared)
+          (ap (λ (x : Addr). is_among x alone) (sym same) ∙ among)
+
       by : (t : Bool) → same_addr object o.addr ≡ t → (is_seen object os ≡ true
-          → list_any (keeps_off wished) (map (λ (o : ObjectBytes). alone o.addr) os) ≡ true)
-          → list_any (keeps_off wished) (map (λ (o : ObjectBytes). alone o.addr) (o ∷ os)) ≡ true
-      by true same rest = or_left (keeps_off wished (alone o.addr)) _ (at_same object o.addr same over)
-      by false other rest = or_right (keeps_off wished (alone o.addr)) _
+          → list_any (keeps_off wished) (map (as_told alone) os) ≡ true)
+          → list_any (keeps_off wished) (map (as_told alone) (o ∷ os)) ≡ true
+      by true same rest = or_left (keeps_off wished (as_told alone o)) _
+          (at_same object o.addr (mode_in alone o.addr) same (mode_is o.addr (one_addr object o.addr same)) over)
+      by false other rest = or_right (keeps_off wished (as_told alone o)) _
           (rest (sym (ap (λ (t : Bool). t || is_seen object os) other) ∙ seen))
 
   among_claimed : (block : BlockNo) (claims : List BlockNo) → is_claimed block claims ≡ true
@@ -204,10 +212,11 @@ module _ (addr : Addr) where
   module _ (g : Geometry) (b : Begun) (seen : Seen) (held : b.held ≡ held_in (Some seen))
       (claims : b.claimed ≡ seen.claims) (had : AreTakenBy g b) (free : takes wished b ≡ false) where
     apart : (object : ObjectBytes) → IsSeenIn seen object → IsAside object
-    apart object (inl read) over =
+    apart object (inl had_alone) over =
+        let both = and_parts (is_seen object.addr seen.objects) (is_among object.addr seen.alone) had_alone in
         let one : list_any (keeps_off wished) b.held ≡ true =
         ap (λ (ts : List Taken). list_any (keeps_off wished) ts) held
-        ∙ among_read object.addr seen.objects read over in
+        ∙ among_read object.addr seen.alone seen.objects both.0 both.1 over in
         true≢false (sym (among_held b.held b.taken had.held one) ∙ free)
     apart object (inr claimed) over =
         let one : list_any (λ (claim : BlockNo). nat_eq claim.0 addr.block.0) b.claimed ≡ true =

@@ -8,7 +8,8 @@ use Rattle.objects.specs.declared.addr.Addr.{Addr}
 use Rattle.model.specs.Entry.{Entry as Committed}
 use Rattle.procedures.specs.Step as procedures
 use Rattle.model.specs.Tree.{Tree}
-use Rattle.inode.specs.Snap.{is_claimed, is_seen}
+use Rattle.objects.specs.declared.mode.Mode.TheVariants as modes
+use Rattle.inode.specs.Snap.{is_claimed, is_had}
 use Rattle.txn.specs.Outcomes.{TakesPlace}
 use Rattle.txn_law.specs.Commit.{Planned}
 use Rattle.txn_law.specs.Core.{CoreState}
@@ -141,9 +142,9 @@ has_committed _ = false
 abbrev pub entry_by : ℕ → Entry → Committed
 entry_by number entry = record { worker = number; ctx = entry.ctx; call = entry.call; reply = entry.reply }
 
--- the object was read for the call, or its block was claimed
+-- the object was read for the call, and asked for alone, or its block was claimed
 abbrev pub IsSeenIn : Seen → ObjectBytes → Type 0
-IsSeenIn seen object = (is_seen object.addr seen.objects ≡ true)
+IsSeenIn seen object = (is_had object.addr modes.Exclusive seen.objects seen.alone ≡ true)
     ⊎ (is_claimed object.addr.block seen.claims ≡ true)
 
 -- What a worker's plan ended in took a place, and lies ready as an entry, which tells of a step of the

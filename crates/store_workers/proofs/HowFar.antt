@@ -1,13 +1,11 @@
 -- How far a worker is after its steps is what these tell.
 use Rattle.std.proofs.Common.{◌≡◌, ◌∙◌, refl, sym, ap, subst, ℕ, ◌⊎◌, inl, inr, Bool, true, false}
-use Rattle.std.proofs.Common.{Option, Some, None, Ok, Err, List, [], ◌∷◌, ◌++◌, ◌||◌, if◌then◌else◌}
+use Rattle.std.proofs.Common.{Option, Some, None, Ok, Err, List, [], ◌∷◌, if◌then◌else◌}
 use Rattle.std.specs.Prelude.{IsSomeAnd, map}
-use Rattle.std.proofs.lemmas.List.{map-append}
 use Rattle.disk.specs.declared.block.BlockNo.{BlockNo}
 use Rattle.objects.specs.declared.addr.Addr.{Addr}
 use Rattle.objects.specs.declared.mode.Mode.{Mode}
-use Rattle.objects.specs.declared.mode.Mode.TheVariants as modes
-use Rattle.inode.specs.Snap.{is_seen, same_addr}
+use Rattle.inode.specs.Snap.{AreSeen}
 use Rattle.model.specs.Entry.{Entry}
 use Rattle.model.specs.Calls.{is_answered_stable}
 use Rattle.nfs_types.specs.declared.reply.Reply.{Reply}
@@ -36,11 +34,12 @@ use Rattle.store_promise.specs.declared.events.Ending.TheVariants as ending
 use Rattle.store_promise.specs.declared.events.Cause.TheVariants as cause
 use Rattle.store_promise.specs.declared.events.Step.{Step}
 use Rattle.store_promise.specs.declared.events.Step.TheVariants as step
+use Rattle.store_workers.proofs.HeldAs.{are_seen, as_told, told_with}
 use Rattle.store_workers.proofs.WorkCases.{Cases, IsWished, by_cases}
 use Rattle.store_workers.specs.Asked.{Asking}
 use Rattle.store_workers.specs.Knowing.{Knowing, known_in, with_aim, with_off, without_off}
 use Rattle.store_workers.specs.Seen.{Seen, seen_in, seen_of}
-use Rattle.store_workers.specs.Stages.{IsWorkerAt, StandsAt, alone, taken_as}
+use Rattle.store_workers.specs.Stages.{IsWorkerAt, StandsAt, taken_as}
 use Rattle.store_workers.specs.Stages.{at_fetch, at_stage, begun_of, claimed_in, handed, held_in}
 use Rattle.store_workers.specs.Stages.{progress_in, progress_of}
 use Rattle.store_workers.specs.WorkTells.{progress_after}
@@ -82,7 +81,7 @@ nothing_read core job number known None saw = absurd saw
 nothing_read core job number known (Some seen) saw =
     ap (λ (objects : List ObjectBytes). told.At job (told.Planning (record {
       number = number;
-      held = map (λ (o : ObjectBytes). alone o.addr) objects;
+      held = map (as_told seen.alone) objects;
       claimed = seen.claims;
       taken = [];
       left = known;
@@ -94,20 +93,6 @@ nothing_read core job number known (Some seen) saw =
       left = known;
     }))) saw.claims
 
--- what wasn't read isn't told
-told_so : (addr : Addr) (objects : List ObjectBytes)
-    → told.is_told addr (map (λ (o : ObjectBytes). alone o.addr) objects) ≡ is_seen addr objects
-told_so addr [] = refl
-told_so addr (o ∷ os) = ap (λ (b : Bool). same_addr addr o.addr || b) (told_so addr os)
-
--- so that one more is told behind the others
-told_new : (one : told.Taken) (objects : List ObjectBytes) → is_seen one.addr objects ≡ false
-    → told.with_told one (map (λ (o : ObjectBytes). alone o.addr) objects)
-    ≡ map (λ (o : ObjectBytes). alone o.addr) objects ++ one ∷ []
-told_new one objects unseen =
-    ap (λ (b : Bool). if b then map (told.raised_told one) (map (λ (o : ObjectBytes). alone o.addr) objects)
-    else map (λ (o : ObjectBytes). alone o.addr) objects ++ one ∷ []) (told_so one.addr objects ∙ unseen)
-
 module _ (broken : Bool) (job : Job) (tx : ℕ) (seen : Seen) (asked : Asking) (knowing : Knowing) (room : Bool)
   where
     abbrev its : told.Begun
@@ -117,20 +102,13 @@ module _ (broken : Bool) (job : Job) (tx : ℕ) (seen : Seen) (asked : Asking) (
     abbrev knows : Knowing
     knows = record knowing { room = room }
 
-    -- an object is new to what was read, and is asked for alone, where nothing is left to be taken again
-    abbrev IsNewTo : Addr → Mode → List Aim → Type 0
-    IsNewTo addr mode left = left ≡ [] → (is_seen addr seen.objects ≡ false) × (mode ≡ modes.Exclusive)
-
-    held_by : (addr : Addr) (mode : Mode) (bytes : List ℕ) (left : List Aim) → IsNewTo addr mode left
-        → begun_of (Some tx) (seen_held left addr bytes (Some seen)) (with_aim (aim.Object addr mode) knows)
+    held_by : (addr : Addr) (mode : Mode) (bytes : List ℕ) (left : List Aim) → AreSeen seen.alone seen.objects
+        → begun_of (Some tx) (seen_held left addr mode bytes (Some seen)) (with_aim (aim.Object addr mode) knows)
         ≡ told.told_by left (told.with_taken its (aim.Object addr mode)) (taken_as mode addr)
-    held_by addr mode bytes [] new_to_it =
-        let (unseen, exclusive) = new_to_it refl in
+    held_by addr mode bytes [] are =
         ap (λ (held : List told.Taken). record (told.with_taken its (aim.Object addr mode)) { held = held })
-        (map-append (λ (o : ObjectBytes). alone o.addr) seen.objects (record { addr = addr; bytes = bytes } ∷ [])
-        ∙ ap (λ (m : Mode). held_in (Some seen) ++ taken_as m addr ∷ []) (sym exclusive)
-        ∙ sym (told_new (taken_as mode addr) seen.objects unseen))
-    held_by addr mode bytes (next ∷ later) new_to_it = refl
+        (told_with addr mode bytes seen.alone seen.objects are)
+    held_by addr mode bytes (next ∷ later) are = refl
 
     claimed_by : (block : BlockNo) (left : List Aim)
         → begun_of (Some tx) (seen_taken left block (Some seen)) (with_aim (aim.Claim block) knows)
@@ -157,27 +135,27 @@ module _ (broken : Bool) (job : Job) (tx : ℕ) (seen : Seen) (asked : Asking) (
         ap (λ b. progress_as phase (Some job) (Some b) read wished then') is
 
     pub wanted_told : (old new : CoreState) (addr : Addr) (mode : Mode) (answer : Want)
-        → IsNewTo addr mode knowing.left → IsWanted old tx addr mode answer new
+        → AreSeen seen.alone seen.objects → IsWanted old tx addr mode answer new
         → progress_as (phase_wanted addr mode answer knowing) (Some job) (begun_wanted answer).tx
-        (seen_wanted knowing.left addr answer (Some seen))
+        (seen_wanted knowing.left addr mode answer (Some seen))
         (asked_wanted addr mode answer asked) (known_wanted addr mode answer knows)
         ≡ progress_after broken (Some (step.Wanted addr mode (wish_of answer)))
         (progress_as Planning (Some job) (Some tx) (Some seen) asked knowing)
-    wanted_told old new addr mode (want.Held back bytes) new_to_it is =
-        back_is back is.0 Planning (seen_held knowing.left addr bytes (Some seen)) asked
+    wanted_told old new addr mode (want.Held back bytes) are is =
+        back_is back is.0 Planning (seen_held knowing.left addr mode bytes (Some seen)) asked
         (with_aim (aim.Object addr mode) knows)
-        ∙ ap (λ begun. told.At (handed job) (told.Planning begun)) (held_by addr mode bytes knowing.left new_to_it)
-    wanted_told old new addr mode (want.Fetch back io) new_to_it is =
+        ∙ ap (λ begun. told.At (handed job) (told.Planning begun)) (held_by addr mode bytes knowing.left are)
+    wanted_told old new addr mode (want.Fetch back io) are is =
         back_is back is.0 Reading (Some seen) (record asked { wish = Some addr; mode = mode }) (with_aim (aim.Object addr mode) knows)
-    wanted_told old new addr mode (want.Busy back) new_to_it is =
+    wanted_told old new addr mode (want.Busy back) are is =
         back_is back is.0 (phase_off (aim.Object addr mode) knowing) (Some seen) asked (known_off (aim.Object addr mode) knows)
         ∙ off (aim.Object addr mode)
-    wanted_told old new addr mode (want.Loading back) new_to_it is =
+    wanted_told old new addr mode (want.Loading back) are is =
         back_is back is.0 (phase_off (aim.Object addr mode) knowing) (Some seen) asked (known_off (aim.Object addr mode) knows)
         ∙ off (aim.Object addr mode)
-    wanted_told old new addr mode (want.Outside back) new_to_it is =
+    wanted_told old new addr mode (want.Outside back) are is =
         back_is back is.0 (Refused cause.Io) (Some seen) asked knows
-    wanted_told old new addr mode (want.NoMemory back) new_to_it is =
+    wanted_told old new addr mode (want.NoMemory back) are is =
         back_is back is.0 (Refused cause.NoMemory) (Some seen) asked knows
 
     pub claimed_told : (old new : CoreState) (block : BlockNo) (addr : Addr) (answer : Claim)
@@ -324,22 +302,6 @@ module _ (boot : ℕ) (entries : List Entry) (old new : Side) where
       ∙ ap (λ s. progress_after old.core.log.broken (Some made)
       (progress_as Planning (Some job) (Some tx) s old.worker.asked old.worker.known)) seen_is
 
-  -- what a plan asks for is new to what was read
-  new_to : (addr : Addr) (mode : Mode) (next : IsWished old.worker (aim.Object addr mode) (plan.Need addr mode))
-      → old.worker.known.left ≡ []
-      → (is_seen addr next.snap.objects.items ≡ false) × (mode ≡ modes.Exclusive)
-  new_to addr mode next none = by next.why
-    where
-      by : ((old.worker.known.left ≡ []) × IsNext old.worker (plan.Need addr mode))
-          ⊎ ((later : List Aim) × (old.worker.known.left ≡ aim.Object addr mode ∷ later))
-          → (is_seen addr next.snap.objects.items ≡ false) × (mode ≡ modes.Exclusive)
-      by (inl is) = (
-        subst (λ (found : Option Seen). IsSomeAnd found (λ seen. is_seen addr seen.objects ≡ false))
-            (sym is.1.snap_is ∙ next.snap_is) is.1.plan.0,
-        is.1.plan.2,
-      )
-      by (inr is) = absurd (let never : aim.Object addr mode ∷ is.0 ≡ [] = sym is.1 ∙ none in cc)
-
   wants : (tx : ℕ) (addr : Addr) (mode : Mode) (made : Step) → old.worker.begun.tx ≡ Some tx
       → IsWished old.worker (aim.Object addr mode) (plan.Need addr mode)
       → (has : HasWanted tx addr mode old made new)
@@ -349,12 +311,13 @@ module _ (boot : ℕ) (entries : List Entry) (old new : Side) where
       ∙ ap (λ s. progress_as (phase_wanted addr mode has.answer old.worker.known) old.worker.work.job
       (begun_wanted has.answer).tx s (asked_wanted addr mode has.answer old.worker.asked)
       (known_wanted addr mode has.answer knows_then))
-      (has.seen ∙ ap (seen_wanted old.worker.known.left addr has.answer) next.snap_is)
+      (has.seen ∙ ap (seen_wanted old.worker.known.left addr mode has.answer) next.snap_is)
       ∙ ap (λ j. progress_as (phase_wanted addr mode has.answer old.worker.known) j (begun_wanted has.answer).tx
-      (seen_wanted old.worker.known.left addr has.answer (Some (seen_of next.snap)))
+      (seen_wanted old.worker.known.left addr mode has.answer (Some (seen_of next.snap)))
       (asked_wanted addr mode has.answer old.worker.asked) (known_wanted addr mode has.answer knows_then)) next.job_is
       ∙ wanted_told old.core.log.broken next.job tx _ old.worker.asked old.worker.known new.worker.known.room
-      old.core new.core addr mode has.answer (new_to addr mode next) has.core
+      old.core new.core addr mode has.answer
+      (are_seen old.worker.work.planner (seen_of next.snap) next.snap_is) has.core
       ∙ sym (planned (step.Wanted addr mode (wish_of has.answer)) next.job tx _ next.job_is tx_is
       next.snap_is)
 

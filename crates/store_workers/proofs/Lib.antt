@@ -1,6 +1,7 @@
 pub mod AfterCommit
 pub mod EndStays
 pub mod EventTells
+pub mod HeldAs
 pub mod HowFar
 pub mod LoneWorker
 pub mod Noted

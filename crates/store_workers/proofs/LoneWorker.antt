@@ -1,6 +1,6 @@
 -- A worker that is alone in its store is never kept off.
 use Rattle.std.proofs.Common.{◌≡◌, ◌∙◌, refl, sym, ap, subst, true≢false, ℕ, inl, inr, Bool, true, false}
-use Rattle.std.proofs.Common.{◌||◌, nat_eq, Option, Some, None, is_some, List, [], ◌∷◌, All}
+use Rattle.std.proofs.Common.{◌&&◌, ◌||◌, nat_eq, Option, Some, None, is_some, List, [], ◌∷◌, All}
 use Rattle.std.specs.Prelude.{Contains, IsSomeAnd, option_to_list}
 use Rattle.std.proofs.lemmas.Bool.{eqb-true}
 use Rattle.std.proofs.lemmas.List.Elements.{All-contains, All-head, All-tail}
@@ -14,11 +14,12 @@ use Rattle.procs.specs.Asks.{Asks, Claims, IsWritable}
 use Rattle.procs.specs.Finished.{EndsFrom}
 use Rattle.procs.specs.Outcome.{Outcome}
 use Rattle.procs.specs.Planned.{IsPlanFor}
-use Rattle.inode.specs.Snap.{is_claimed, is_seen, same_addr}
+use Rattle.inode.specs.Snap.{is_among, is_claimed, is_seen, same_addr}
+use Rattle.inode.proofs.HadAlone.{one_addr}
 use Rattle.procs.specs.declared.next.Plan.{Plan}
 use Rattle.procs.specs.declared.next.Plan.TheVariants as plan
 use Rattle.inode.specs.declared.snap.Snap.{Snap}
-use Rattle.txn.specs.Claimed.{IsClaimedBy, IsOwnObject, IsTakenAlone}
+use Rattle.txn.specs.Claimed.{IsClaimedBy, IsOwnObject}
 use Rattle.txn.specs.Commit.{IsOwn, IsReadBy}
 use Rattle.txn.specs.Core.{CoreState, IsOut}
 use Rattle.txn.specs.Fetch.{Fetch}
@@ -35,6 +36,7 @@ use Rattle.txn.specs.declared.outcomes.Want.{Want}
 use Rattle.txn.specs.declared.outcomes.Want.TheVariants as want
 use Rattle.txn.proofs.LoneTransaction.{never_busy, never_loading}
 use Rattle.txn.proofs.OwnChange.{is_own}
+use Rattle.txn_law.specs.declared.hold.Hold.{Hold}
 use Rattle.txn_law.proofs.Alone.{alone_is_out}
 use Rattle.txn_law.proofs.Again as again
 use Rattle.objects.proofs.Residents.{same_block}
@@ -45,7 +47,7 @@ use Rattle.store_promise.specs.declared.events.Step.TheVariants as step
 use Rattle.layout.proofs.OnGrid.{one_or_apart}
 use Rattle.store_workers.proofs.StepKinds.{Beginning, beginning, ending}
 use Rattle.store_workers.proofs.StepKinds.{begun, refused, replied, lacked, committed}
-use Rattle.store_workers.specs.Alone.{HasOfCall, HasTaken, IsOutAlone, LeavesNothing, PlansAlone, is_kept_off}
+use Rattle.store_workers.specs.Alone.{HasAlone, HasOfCall, HasTaken, IsOutAlone, LeavesNothing, PlansAlone, is_kept_off}
 use Rattle.store_images.specs.Fetches.{FetchesOnly}
 use Rattle.store_workers.specs.Phases.{has_fetch}
 use Rattle.store_workers.specs.Seen.{Seen, seen_in, seen_of}
@@ -82,6 +84,25 @@ seen_there addr (x ∷ xs) some = go (seen_there addr xs) (same_addr addr x.addr
         )
     go rest false same some =
         let found = rest some in (found.0, in_more x found.0 xs found.1, found.2)
+
+both_true : (a b : Bool) → (a && b) ≡ true → (a ≡ true) × (b ≡ true)
+both_true true true is = (refl, refl)
+both_true true false is = absurd (true≢false (sym is))
+both_true false b is = absurd (true≢false (sym is))
+
+some_hold : (a b : Hold) → ◌≡◌ {A = Option Hold} (Some a) (Some b) → a ≡ b
+some_hold a b same = ap (λ (o : Option Hold). elim o [ None ↦ a | Some one ↦ one ]) same
+
+-- what is so of all that was asked for alone is so of an address that is among it
+pub among_so : (P : Addr → Type 0) (addr : Addr) (addrs : List Addr) → All P addrs → is_among addr addrs ≡ true
+    → P addr
+among_so P addr [] all none = absurd (true≢false (sym none))
+among_so P addr (a ∷ later) all some = by (among_so P addr later (All-tail P a later all)) (same_addr addr a) refl some
+  where
+    by : (is_among addr later ≡ true → P addr) → (t : Bool) → same_addr addr a ≡ t
+        → (t || is_among addr later) ≡ true → P addr
+    by rest true same some = subst P (sym (one_addr addr a same)) (All-head P a later all)
+    by rest false other some = rest some
 
 -- what is so of all that was claimed is so of a block that is among it
 claimed_so : (P : BlockNo → Type 0) (block : BlockNo) (claims : List BlockNo) → All P claims
@@ -126,15 +147,18 @@ module _ (core : CoreState) (tx : ℕ) (snap : Snap) (tidy : AreTidy core) (out 
   was_read = subst (λ (os : List ObjectBytes). All (IsReadBy core tx) os) (sym ends.named.read) has.read
 
   pub was_had : (object : ObjectBytes) → IsWritable snap object → IsOwnObject core tx done.read object
-  was_had object (inl seen) =
-      let found = seen_there object.addr snap.objects.items seen in inl (
+  was_had object (inl had) =
+      let both = both_true (is_seen object.addr snap.objects.items) (is_among object.addr snap.alone.items) had in
+      let found = seen_there object.addr snap.objects.items both.0 in
+      let alone = among_so (HasAlone core tx) object.addr snap.alone.items has.alone both.1 in inl (
         (
           found.0,
           subst (λ (os : List ObjectBytes). Contains os found.0) (sym ends.named.read) found.1,
           found.2,
         ),
-        subst (λ (a : Addr). IsTakenAlone core tx a) found.2
-            (All-contains (λ (o : ObjectBytes). IsTakenAlone core tx o.addr) snap.objects.items found.0 has.alone found.1),
+        λ hold taken.
+            let same : alone.0 ≡ hold = some_hold alone.0 hold (sym alone.1 ∙ taken) in
+            ap (λ (h : Hold). h.mode) (sym same) ∙ alone.2,
       )
   was_had object (inr claimed) = inr (
     claimed_so (IsClaimedBy core tx) object.addr.block snap.claims.items has.claimed claimed.0,

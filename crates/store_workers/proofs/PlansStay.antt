@@ -7,20 +7,19 @@ use Rattle.std.proofs.lemmas.List.Elements.{All-nil, All-push, All-weaker}
 use Rattle.disk.specs.declared.block.BlockNo.{BlockNo}
 use Rattle.objects.specs.declared.addr.Addr.{Addr}
 use Rattle.objects.specs.declared.mode.Mode.{Mode}
-use Rattle.objects.specs.declared.mode.Mode.TheVariants as modes
 use Rattle.model.specs.Calls.{is_answered_stable}
 use Rattle.nfs_types.specs.declared.reply.Reply.{Reply}
 use Rattle.wal_law.specs.declared.outcomes.Seq.{Seq}
-use Rattle.procs.proofs.FewAsked.{none_read, one_asked_once}
+use Rattle.procs.proofs.FewAsked.{none_read, read_once}
 use Rattle.procs.proofs.FewClaimed.{claimed_object, none_claimed, one_claimed_once}
 use Rattle.procs.specs.Asks.{Asks, Claims, WereAskedOnce, WereClaimedOnce}
 use Rattle.procs.specs.Outcome.{Outcome}
 use Rattle.procs.specs.Planned.{IsPlanFor}
 use Rattle.procs.specs.declared.next.Plan.{Plan}
 use Rattle.procs.specs.declared.next.Plan.TheVariants as plan
-use Rattle.inode.specs.Snap.{is_claimed, is_seen}
+use Rattle.inode.specs.Snap.{is_claimed, with_mode, with_read}
 use Rattle.inode.specs.declared.snap.Snap.{Snap}
-use Rattle.txn.specs.Claimed.{IsClaimedBy, IsTakenAlone}
+use Rattle.txn.specs.Claimed.{IsClaimedBy}
 use Rattle.txn.specs.Commit.{IsReadBy}
 use Rattle.txn.specs.Core.{CoreState}
 use Rattle.txn.specs.CoreWindow.{KeepsReads}
@@ -46,10 +45,10 @@ use Rattle.store_promise.specs.declared.answers.Verdict.TheVariants as verdict
 use Rattle.store_promise.specs.declared.events.Step.{Step}
 use Rattle.store_workers.proofs.HowFar.{without_broken_reply, without_reply}
 use Rattle.store_workers.proofs.LoneWorker.{has_of, has_so}
-use Rattle.store_workers.proofs.StaysAlone.{all_alone, all_asked, all_claimed, moved, new_alone, one_whole}
-use Rattle.store_workers.proofs.StaysAlone.{same_taken}
+use Rattle.store_workers.proofs.StaysAlone.{all_alone, all_asked, all_claimed, all_in_mode, all_read, moved}
+use Rattle.store_workers.proofs.StaysAlone.{new_alone, one_whole, same_taken}
 use Rattle.store_workers.proofs.WorkCases.{Cases, IsWished, by_cases}
-use Rattle.store_workers.specs.Alone.{HasOfCall, HasTaken, PlansAlone}
+use Rattle.store_workers.specs.Alone.{HasAlone, HasOfCall, HasTaken, PlansAlone}
 use Rattle.store_workers.specs.Beside.{IsLeftOf, NoneTakenBeyond}
 use Rattle.store_workers.specs.Seen.{Seen, seen_in, seen_of, with_claim, with_object}
 use Rattle.store_workers.specs.WorkerAnswers.{after_commit, begun_claimed, begun_wanted, phase_claimed}
@@ -81,7 +80,7 @@ module _ (core mid : CoreState) (tx : ℕ) (seen : Seen) (addr : Addr) (taken : 
     claimed = all_claimed core mid tx addr taken at now seen.claims has.claimed;
     were = has.were;
     read = All-weaker (IsReadBy core tx) (IsReadBy mid tx) (λ object is. reads object is) seen.objects has.read;
-    alone = all_alone core mid tx addr taken at now seen.objects has.read has.alone;
+    alone = all_alone core mid tx addr taken at now seen.alone has.alone;
     asked = all_asked core mid tx addr taken at now (λ a. Asks seen.geometry a) has.asked asks;
   }
 
@@ -93,22 +92,23 @@ module _ (core mid : CoreState) (tx : ℕ) (seen : Seen) (addr : Addr) (mode : M
       (λ a. held.leaves.holds tx a) (ap (λ (c : CoreState). c.log.blocks) held.only)
       (ap (λ (c : CoreState). c.inodes) held.only) reads asks has
 
-  -- it is read too, alone, where it wasn't
-  pub with_read : (bytes : List ℕ) → is_seen addr seen.objects ≡ false → mode ≡ modes.Exclusive
-      → IsHeld core tx addr mode bytes mid
-      → HasOfCall tx mid (record seen { objects = seen.objects ++ record { addr = addr; bytes = bytes } ∷ [] })
-  with_read bytes new_to_it exclusive held =
-      let object : ObjectBytes = record { addr = addr; bytes = bytes } in
+  -- it is read too, in this mode
+  pub with_told : (bytes : List ℕ) → IsHeld core tx addr mode bytes mid
+      → HasOfCall tx mid (record seen {
+        objects = with_read addr bytes seen.objects;
+        alone = with_mode addr mode seen.alone;
+      })
+  with_told bytes held =
       let more = with_held bytes held in record {
         blocks = more.blocks;
         inodes = more.inodes;
         claims = more.claims;
         claimed = more.claimed;
-        were = one_asked_once seen.geometry seen.objects object has.were asks new_to_it;
-        read = All-push (IsReadBy mid tx) seen.objects object more.read held.read;
-        alone = All-push (λ (o : ObjectBytes). IsTakenAlone mid tx o.addr) seen.objects object more.alone
+        were = read_once seen.geometry seen.objects addr bytes has.were asks;
+        read = all_read (IsReadBy mid tx) addr bytes seen.objects more.read held.read;
+        alone = all_in_mode (HasAlone mid tx) addr mode seen.alone more.alone
             (new_alone core mid tx addr (for_reading tx addr mode) refl (λ a. held.leaves.holds tx a)
-            (is_hold_by tx addr (for_reading tx addr mode) refl refl refl refl) exclusive);
+            (is_hold_by tx addr (for_reading tx addr mode) refl refl refl refl));
         asked = more.asked;
       }
 
@@ -223,9 +223,8 @@ module _ (old new : Side) (keeps : KeepsReadsOf old new) (beyond : NoneTakenBeyo
                 (sym saw.objects) (none_read seen.geometry);
             read = subst (λ (objects : List ObjectBytes). All (IsReadBy new.core number) objects)
                 (sym saw.objects) (All-nil (IsReadBy new.core number));
-            alone = subst (λ (objects : List ObjectBytes). All (λ (o : ObjectBytes).
-                IsTakenAlone new.core number o.addr) objects) (sym saw.objects)
-                (All-nil (λ (o : ObjectBytes). IsTakenAlone new.core number o.addr));
+            alone = subst (λ (addrs : List Addr). All (HasAlone new.core number) addrs) (sym saw.alone)
+                (All-nil (HasAlone new.core number));
             asked = λ addr hold is. absurd (nothing addr hold is);
           })
         where
@@ -238,10 +237,6 @@ module _ (old new : Side) (keeps : KeepsReadsOf old new) (beyond : NoneTakenBeyo
   module _ (tx : ℕ) (tx_is : old.worker.begun.tx ≡ Some tx) (job : Job) (job_is : old.worker.work.job ≡ Some job)
       (seen : Seen) (seen_is : seen_in old.worker.work.planner ≡ Some seen) (new_job : new.worker.work.job ≡ Some job)
       (has : HasOfCall tx old.core seen) where
-    -- an object is new to what was read, and asked for alone
-    abbrev IsNewTo : Addr → Mode → Type 0
-    IsNewTo addr mode = (is_seen addr seen.objects ≡ false) × (mode ≡ modes.Exclusive)
-
     -- it is told that it has its transaction still
     module _ (back : ℕ) (same : back ≡ tx) (got : new.worker.begun.tx ≡ Some back) where
       new_tx : new.worker.begun.tx ≡ Some tx
@@ -265,21 +260,19 @@ module _ (old new : Side) (keeps : KeepsReadsOf old new) (beyond : NoneTakenBeyo
           by false = as_before core seen_same
 
       held : (addr : Addr) (mode : Mode) (bytes : List ℕ) → Asks seen.geometry addr
-          → (old.worker.known.left ≡ [] → IsNewTo addr mode)
           → IsHeld old.core tx addr mode bytes new.core
           → seen_in new.worker.work.planner
-          ≡ seen_held old.worker.known.left addr bytes (seen_in old.worker.work.planner)
+          ≡ seen_held old.worker.known.left addr mode bytes (seen_in old.worker.work.planner)
           → HasTaken new.worker new.core
-      held addr mode bytes asks new_to_it is then_seen = by old.worker.known.left refl
+      held addr mode bytes asks is then_seen = by old.worker.known.left refl
         where
           by : (left : List Aim) → old.worker.known.left ≡ left → HasTaken new.worker new.core
           by [] none = has_so new.worker new.core job tx _ new_job new_tx
-              (then_seen ∙ ap (λ l. seen_held l addr bytes (seen_in old.worker.work.planner)) none
-              ∙ ap (with_object addr bytes) seen_is)
-              (with_read old.core new.core tx seen addr mode asks reads has bytes (new_to_it none).0 (new_to_it none).1
-              is)
+              (then_seen ∙ ap (λ l. seen_held l addr mode bytes (seen_in old.worker.work.planner)) none
+              ∙ ap (with_object addr mode bytes) seen_is)
+              (with_told old.core new.core tx seen addr mode asks reads has bytes is)
           by (next ∷ later) some = has_so new.worker new.core job tx seen new_job new_tx
-              (then_seen ∙ ap (λ l. seen_held l addr bytes (seen_in old.worker.work.planner)) some ∙ seen_is)
+              (then_seen ∙ ap (λ l. seen_held l addr mode bytes (seen_in old.worker.work.planner)) some ∙ seen_is)
               (with_held old.core new.core tx seen addr mode asks reads has bytes is)
 
       fetched : (addr : Addr) (mode : Mode) (io : Fetch) → Asks seen.geometry addr
@@ -309,22 +302,21 @@ module _ (old new : Side) (keeps : KeepsReadsOf old new) (beyond : NoneTakenBeyo
               (with_whole old.core new.core tx seen addr asks reads has is)
 
     wants : (addr : Addr) (mode : Mode) (answer : Want) → Asks seen.geometry addr
-        → (old.worker.known.left ≡ [] → IsNewTo addr mode)
         → IsWanted old.core tx addr mode answer new.core
         → new.worker.begun ≡ begun_wanted answer
         → seen_in new.worker.work.planner
-        ≡ seen_wanted old.worker.known.left addr answer (seen_in old.worker.work.planner)
+        ≡ seen_wanted old.worker.known.left addr mode answer (seen_in old.worker.work.planner)
         → PlansAlone (phase_wanted addr mode answer old.worker.known) new.worker new.core
-    wants addr mode (want.Held back bytes) asks new_to_it is got then_seen =
-        held back is.0 (ap (λ (b : Begun). b.tx) got) addr mode bytes asks new_to_it is.2 then_seen
-    wants addr mode (want.Fetch back io) asks new_to_it is got then_seen =
+    wants addr mode (want.Held back bytes) asks is got then_seen =
+        held back is.0 (ap (λ (b : Begun). b.tx) got) addr mode bytes asks is.2 then_seen
+    wants addr mode (want.Fetch back io) asks is got then_seen =
         fetched back is.0 (ap (λ (b : Begun). b.tx) got) addr mode io asks is.2 then_seen
-    wants addr mode (want.Busy back) asks new_to_it is got then_seen =
+    wants addr mode (want.Busy back) asks is got then_seen =
         off back is.0 (ap (λ (b : Begun). b.tx) got) (aim.Object addr mode) is.2 then_seen
-    wants addr mode (want.Loading back) asks new_to_it is got then_seen =
+    wants addr mode (want.Loading back) asks is got then_seen =
         off back is.0 (ap (λ (b : Begun). b.tx) got) (aim.Object addr mode) is.2 then_seen
-    wants addr mode (want.Outside back) asks new_to_it is got then_seen = tt
-    wants addr mode (want.NoMemory back) asks new_to_it is got then_seen = tt
+    wants addr mode (want.Outside back) asks is got then_seen = tt
+    wants addr mode (want.NoMemory back) asks is got then_seen = tt
 
     takes : (block : BlockNo) (addr : Addr) (answer : Claim) → Claims seen.geometry block
         → (old.worker.known.left ≡ [] → is_claimed block seen.claims ≡ false) → IsWhole block addr
@@ -348,13 +340,12 @@ module _ (old new : Side) (keeps : KeepsReadsOf old new) (beyond : NoneTakenBeyo
       → PlansAlone new.worker.phase new.worker new.core
   wanted_so tx addr mode made tx_is wished has at plans =
       let is = wish_by old.worker (aim.Object addr mode) (plan.Need addr mode)
-      (λ seen. (is_seen addr seen.objects ≡ false) × (mode ≡ modes.Exclusive))
-      (λ snap planned. (planned.1, (planned.0, planned.2))) (left_of at) wished in
+      (λ seen. Unit {0}) (λ snap planned. (planned.1, tt)) (left_of at) wished in
       by_phase _ (ap (λ (s : State). s.phase) has.worker)
       (wants tx tx_is is.job is.job_is (seen_of is.snap) is.snap_is
       (ap (λ (s : State). s.work.job) has.worker ∙ is.job_is)
       (has_of old.worker old.core is.job tx (seen_of is.snap) is.job_is tx_is is.snap_is plans)
-      addr mode has.answer is.is_aim is.new_to_it has.core (ap (λ (s : State). s.begun) has.worker) has.seen)
+      addr mode has.answer is.is_aim has.core (ap (λ (s : State). s.begun) has.worker) has.seen)
 
   claimed_so : (tx : ℕ) (block : BlockNo) (made : Step) → old.worker.begun.tx ≡ Some tx
       → IsWished old.worker (aim.Claim block) (plan.Claim block) → HasClaimed tx block old made new

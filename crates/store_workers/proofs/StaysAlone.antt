@@ -4,7 +4,7 @@ use Rattle.std.proofs.Common.{inl, inr, if◌then◌else◌, cond, nat_eq, Optio
 use Rattle.std.specs.Prelude.{IsSomeAnd, option_to_list}
 use Rattle.std.specs.List.{list_any}
 use Rattle.std.proofs.lemmas.Bool.{eqb-true}
-use Rattle.std.proofs.lemmas.List.Elements.{All-contains, All-cons, All-head, All-nil, All-push, All-tail, All-weaker}
+use Rattle.std.proofs.lemmas.List.Elements.{All-contains, All-nil, All-push, All-weaker}
 use Rattle.disk.specs.declared.block.BlockNo.{BlockNo}
 use Rattle.objects.specs.Mode.{is_exclusive, raised}
 use Rattle.objects.specs.declared.addr.Addr.{Addr}
@@ -13,15 +13,16 @@ use Rattle.objects.specs.declared.mode.Mode.TheVariants as modes
 use Rattle.model.specs.Calls.{is_answered_stable}
 use Rattle.nfs_types.specs.declared.reply.Reply.{Reply}
 use Rattle.wal_law.specs.declared.outcomes.Seq.{Seq}
-use Rattle.procs.proofs.FewAsked.{none_read, one_asked_once}
+use Rattle.procs.proofs.FewAsked.{none_read, read_once}
 use Rattle.procs.proofs.FewClaimed.{claimed_object, none_claimed, one_claimed_once}
 use Rattle.procs.specs.Asks.{Asks, WereAskedOnce, WereClaimedOnce}
 use Rattle.procs.specs.Outcome.{Outcome}
 use Rattle.procs.specs.Planned.{IsPlanFor}
 use Rattle.procs.specs.declared.next.Plan.{Plan}
 use Rattle.procs.specs.declared.next.Plan.TheVariants as plan
+use Rattle.inode.specs.Snap.{is_seen, with_mode, with_read}
 use Rattle.inode.specs.declared.snap.Snap.{Snap}
-use Rattle.txn.specs.Claimed.{IsClaimedBy, IsTakenAlone}
+use Rattle.txn.specs.Claimed.{IsClaimedBy}
 use Rattle.txn.specs.Commit.{IsReadBy}
 use Rattle.txn.specs.Core.{CoreState}
 use Rattle.txn.specs.CoreWindow.{KeepsReads}
@@ -55,7 +56,7 @@ use Rattle.store_workers.proofs.LoneWorker.{has_of, has_so, never_kept_off, no_f
 use Rattle.store_workers.proofs.StillFits.{still_alone}
 use Rattle.store_workers.proofs.StepKinds.{Beginning, IsTold, beginning, ending}
 use Rattle.store_workers.proofs.StepKinds.{begun, refused, replied, lacked, committed}
-use Rattle.store_workers.specs.Alone.{HasOfCall, HasTaken, IsOutAlone, LeavesNothing, PlansAlone, StaysAlone}
+use Rattle.store_workers.specs.Alone.{HasAlone, HasOfCall, HasTaken, IsOutAlone, LeavesNothing, PlansAlone, StaysAlone}
 use Rattle.store_workers.specs.Alone.{is_full}
 use Rattle.store_promise.specs.Aims.{is_barred}
 use Rattle.store_promise.specs.declared.aims.Aim.{Aim}
@@ -95,8 +96,8 @@ moved tx seen core mid blocks inodes same reads has = record {
       seen.claims has.claimed;
   were = has.were;
   read = All-weaker (IsReadBy core tx) (IsReadBy mid tx) (λ object is. reads object is) seen.objects has.read;
-  alone = All-weaker (λ (o : ObjectBytes). IsTakenAlone core tx o.addr) (λ (o : ObjectBytes). IsTakenAlone mid tx o.addr)
-      (λ o is hold taken. is hold (sym (same o.addr) ∙ taken)) seen.objects has.alone;
+  alone = All-weaker (HasAlone core tx) (HasAlone mid tx) (λ addr is. (is.0, same addr ∙ is.1, is.2)) seen.alone
+      has.alone;
   asked = λ addr hold is. has.asked addr hold (sym (same addr) ∙ is);
 }
 
@@ -156,47 +157,55 @@ raised_so had modes.Exclusive is = refl
 raised_alone : (had wished : Mode) → wished ≡ modes.Exclusive → raised had wished ≡ modes.Exclusive
 raised_alone had wished is = ap (raised had) is
 
+-- what is so of all that was read, and of one more, is so of these
+pub all_read : (P : ObjectBytes → Type 0) (addr : Addr) (bytes : List ℕ) (objects : List ObjectBytes)
+    → All P objects → P (record { addr = addr; bytes = bytes }) → All P (with_read addr bytes objects)
+all_read P addr bytes objects were new = by (is_seen addr objects)
+  where
+    one : ObjectBytes
+    one = record { addr = addr; bytes = bytes }
+
+    by : (seen : Bool) → All P (if seen then objects else objects ++ one ∷ [])
+    by true = were
+    by false = All-push P objects one were new
+
+-- so it is of what was asked for alone
+pub all_in_mode : (P : Addr → Type 0) (addr : Addr) (mode : Mode) (alone : List Addr) → All P alone
+    → (mode ≡ modes.Exclusive → P addr) → All P (with_mode addr mode alone)
+all_in_mode P addr modes.Shared alone were new = were
+all_in_mode P addr modes.Exclusive alone were new = All-push P alone addr were (new refl)
+
 -- what is taken then: what was, and the address
 module _ (core mid : CoreState) (tx : ℕ) (addr : Addr) (taken : Hold) (at : taken.addr ≡ addr)
     (now : (a : Addr) → taken_by mid tx a ≡ with_taken taken (taken_by core) tx a) where
   -- what was taken alone is so still
-  alone_still : (a : Addr) → is_some (taken_by core tx a) ≡ true → IsTakenAlone core tx a → IsTakenAlone mid tx a
-  alone_still a had were hold is = by (taken_by core tx a) refl (is_hold_of tx a taken) had (sym (now a) ∙ is)
+  alone_still : (a : Addr) → HasAlone core tx a → HasAlone mid tx a
+  alone_still a (had, found, alone) = by (is_hold_of tx a taken) refl
     where
-      by : (found : Option Hold) → taken_by core tx a ≡ found → (mine : Bool) → is_some found ≡ true
-          → cond mine (Some (joined found taken)) found ≡ Some hold → hold.mode ≡ modes.Exclusive
-      by None found mine none is = absurd (true≢false (sym none))
-      by (Some x) found true had is =
-          let same : joined (Some x) taken ≡ hold = cc in
-          ap (λ (h : Hold). h.mode) (sym same) ∙ raised_so x.mode taken.mode (were x found)
-      by (Some x) found false had is = were hold (found ∙ is)
+      by : (mine : Bool) → is_hold_of tx a taken ≡ mine → HasAlone mid tx a
+      by true own = (
+        joined (Some had) taken,
+        now a ∙ ap (λ (b : Bool). cond b (Some (joined (taken_by core tx a) taken)) (taken_by core tx a)) own
+            ∙ ap (λ (o : Option Hold). Some (joined o taken)) found,
+        raised_so had.mode taken.mode alone,
+      )
+      by false own = (
+        had,
+        now a ∙ ap (λ (b : Bool). cond b (Some (joined (taken_by core tx a) taken)) (taken_by core tx a)) own ∙ found,
+        alone,
+      )
 
-  -- what is read was taken
-  was_taken : (found : Option Hold) → is_read found ≡ true → is_some found ≡ true
-  was_taken None none = absurd (true≢false (sym none))
-  was_taken (Some x) is = refl
-
-  pub all_alone : (objects : List ObjectBytes) → All (IsReadBy core tx) objects
-      → All (λ (o : ObjectBytes). IsTakenAlone core tx o.addr) objects
-      → All (λ (o : ObjectBytes). IsTakenAlone mid tx o.addr) objects
-  all_alone [] reads were = All-nil (λ (o : ObjectBytes). IsTakenAlone mid tx o.addr)
-  all_alone (o ∷ os) reads were = All-cons (λ (o : ObjectBytes). IsTakenAlone mid tx o.addr) o os
-      (alone_still o.addr (was_taken (taken_by core tx o.addr) (All-head (IsReadBy core tx) o os reads).held)
-      (All-head (λ (o : ObjectBytes). IsTakenAlone core tx o.addr) o os were))
-      (all_alone os (All-tail (IsReadBy core tx) o os reads)
-      (All-tail (λ (o : ObjectBytes). IsTakenAlone core tx o.addr) o os were))
+  pub all_alone : (addrs : List Addr) → All (HasAlone core tx) addrs → All (HasAlone mid tx) addrs
+  all_alone addrs were = All-weaker (HasAlone core tx) (HasAlone mid tx) alone_still addrs were
 
   -- and what is taken alone now is
-  pub new_alone : is_hold_of tx addr taken ≡ true → taken.mode ≡ modes.Exclusive → IsTakenAlone mid tx addr
-  new_alone own alone hold is = by (taken_by core tx addr)
-      (sym (ap (λ (b : Bool). cond b (Some (joined (taken_by core tx addr) taken)) (taken_by core tx addr)) own)
-      ∙ sym (now addr) ∙ is)
+  pub new_alone : is_hold_of tx addr taken ≡ true → taken.mode ≡ modes.Exclusive → HasAlone mid tx addr
+  new_alone own alone = by (taken_by core tx addr)
+      (now addr ∙ ap (λ (b : Bool). cond b (Some (joined (taken_by core tx addr) taken)) (taken_by core tx addr)) own)
     where
-      by : (had : Option Hold) → Some (joined had taken) ≡ Some hold → hold.mode ≡ modes.Exclusive
-      by None is = let same : taken ≡ hold = cc in ap (λ (h : Hold). h.mode) (sym same) ∙ alone
-      by (Some x) is =
-          let same : joined (Some x) taken ≡ hold = cc in
-          ap (λ (h : Hold). h.mode) (sym same) ∙ raised_alone x.mode taken.mode alone
+      by : (had : Option Hold) → taken_by mid tx addr ≡ Some (joined had taken) → HasAlone mid tx addr
+      by None is = (taken, is, alone)
+      by (Some x) is = (joined (Some x) taken, is, raised_alone x.mode taken.mode alone)
 
   pub all_asked : (P : Addr → Type 0) → ((a : Addr) (hold : Hold) → taken_by core tx a ≡ Some hold
       → P a) → P addr
@@ -233,25 +242,25 @@ module _ (core mid : CoreState) (tx : ℕ) (snap : Snap) (addr : Addr)
     (reads : KeepsReads core mid tx) where
   pub read_one : (bytes : List ℕ) → IsHeld core tx addr mode bytes mid
       → HasOfCall tx mid (record (seen_of snap) {
-        objects = snap.objects.items ++ record { addr = addr; bytes = bytes } ∷ [];
+        objects = with_read addr bytes snap.objects.items;
+        alone = with_mode addr mode snap.alone.items;
       })
   read_one bytes held =
       let taken = for_reading tx addr mode in
-      let object : ObjectBytes = record { addr = addr; bytes = bytes } in
       record {
         blocks = has.blocks ∙ sym (ap (λ (c : CoreState). c.log.blocks) held.only);
         inodes = has.inodes ∙ sym (ap (λ (c : CoreState). c.inodes) held.only);
         claims = has.claims;
         claimed = all_claimed core mid tx addr taken refl
             (λ a. held.leaves.holds tx a) snap.claims.items has.claimed;
-        were = one_asked_once snap.geometry snap.objects.items object has.were is_plan.1 is_plan.0;
-        read = All-push (IsReadBy mid tx) snap.objects.items object
+        were = read_once snap.geometry snap.objects.items addr bytes has.were is_plan.1;
+        read = all_read (IsReadBy mid tx) addr bytes snap.objects.items
             (All-weaker (IsReadBy core tx) (IsReadBy mid tx) (λ object is. reads object is)
             snap.objects.items has.read) held.read;
-        alone = All-push (λ (o : ObjectBytes). IsTakenAlone mid tx o.addr) snap.objects.items object
-            (all_alone core mid tx addr taken refl (λ a. held.leaves.holds tx a) snap.objects.items has.read has.alone)
+        alone = all_in_mode (HasAlone mid tx) addr mode snap.alone.items
+            (all_alone core mid tx addr taken refl (λ a. held.leaves.holds tx a) snap.alone.items has.alone)
             (new_alone core mid tx addr taken refl (λ a. held.leaves.holds tx a)
-            (is_hold_by tx addr taken refl refl refl refl) is_plan.2);
+            (is_hold_by tx addr taken refl refl refl refl));
         asked = all_asked core mid tx addr taken refl (λ a. held.leaves.holds tx a)
             (λ a. Asks snap.geometry a) has.asked is_plan.1;
       }
@@ -269,8 +278,7 @@ module _ (core mid : CoreState) (tx : ℕ) (snap : Snap) (addr : Addr)
         were = has.were;
         read = All-weaker (IsReadBy core tx) (IsReadBy mid tx) (λ object is. reads object is) snap.objects.items
             has.read;
-        alone = all_alone core mid tx addr taken refl (λ a. fetched.leaves.holds tx a) snap.objects.items has.read
-            has.alone;
+        alone = all_alone core mid tx addr taken refl (λ a. fetched.leaves.holds tx a) snap.alone.items has.alone;
         asked = all_asked core mid tx addr taken refl
             (λ a. fetched.leaves.holds tx a) (λ a. Asks snap.geometry a)
             has.asked is_plan.1;
@@ -301,8 +309,7 @@ claim_one core mid tx snap block addr has is_plan reads whole took =
       were = has.were;
       read = All-weaker (IsReadBy core tx) (IsReadBy mid tx) (λ object is. reads object is) snap.objects.items
           has.read;
-      alone = all_alone core mid tx addr taken refl (λ a. took.leaves.holds tx a) snap.objects.items has.read
-          has.alone;
+      alone = all_alone core mid tx addr taken refl (λ a. took.leaves.holds tx a) snap.alone.items has.alone;
       asked = all_asked core mid tx addr taken refl (λ a. took.leaves.holds tx a)
           (λ a. Asks snap.geometry a) has.asked (claimed_object snap.geometry block addr is_plan.1 whole);
     }
@@ -351,9 +358,8 @@ module _ (old new : Side) (tidy : AreTidy old.core) (alone : IsOutAlone old.work
                 (sym saw.objects) (none_read seen.geometry);
             read = subst (λ (objects : List ObjectBytes). All (IsReadBy new.core number) objects)
                 (sym saw.objects) (All-nil (IsReadBy new.core number));
-            alone = subst (λ (objects : List ObjectBytes). All (λ (o : ObjectBytes).
-                IsTakenAlone new.core number o.addr) objects) (sym saw.objects)
-                (All-nil (λ (o : ObjectBytes). IsTakenAlone new.core number o.addr));
+            alone = subst (λ (addrs : List Addr). All (HasAlone new.core number) addrs) (sym saw.alone)
+                (All-nil (HasAlone new.core number));
             asked = λ addr hold is. absurd (nothing addr hold is);
           })
         where
@@ -415,7 +421,7 @@ module _ (old new : Side) (tidy : AreTidy old.core) (alone : IsOutAlone old.work
                 → new.worker.phase ≡ phase_wanted addr mode answer old.worker.known
                 → new.worker.begun ≡ begun_wanted answer
                 → seen_in new.worker.work.planner
-                ≡ seen_wanted old.worker.known.left addr answer (seen_in old.worker.work.planner)
+                ≡ seen_wanted old.worker.known.left addr mode answer (seen_in old.worker.work.planner)
                 → StaysLeft (Some made) new.worker new.core
             by (want.Held back bytes) is phase got seen =
                 let new_tx : new.worker.begun.tx ≡ Some tx =
@@ -423,8 +429,8 @@ module _ (old new : Side) (tidy : AreTidy old.core) (alone : IsOutAlone old.work
                 alone_by (Some made) new.worker new.core Planning None phase (ap (λ (b : Begun). b.io) got)
                 (λ block. is.2.leaves.fetches block ∙ none block)
                 (λ room. has_so new.worker new.core job tx _ new_job new_tx
-                (seen ∙ ap (λ l. seen_held l addr bytes (seen_in old.worker.work.planner)) left
-                ∙ ap (with_object addr bytes) snap_is)
+                (seen ∙ ap (λ l. seen_held l addr mode bytes (seen_in old.worker.work.planner)) left
+                ∙ ap (with_object addr mode bytes) snap_is)
                 (read_one old.core new.core tx snap addr mode has is_plan (reads new_tx) bytes is.2))
             by (want.Fetch back io) is phase got seen =
                 let new_tx : new.worker.begun.tx ≡ Some tx =

@@ -1,12 +1,12 @@
 -- A worker that is alone in its store: whatever is taken of the core and whatever is being read is its own.
 use Rattle.std.specs.Prelude.{◌≡◌, ℕ, Bool, true, false, [], Option, Some, All, IsSomeAnd, option_to_list}
 use Rattle.objects.specs.declared.addr.Addr.{Addr}
+use Rattle.objects.specs.declared.mode.Mode.TheVariants as modes
 use Rattle.procs.specs.Asks.{Asks, WereAskedOnce, WereClaimedOnce}
-use Rattle.txn.specs.Claimed.{IsClaimedBy, IsTakenAlone}
+use Rattle.txn.specs.Claimed.{IsClaimedBy}
 use Rattle.txn.specs.Commit.{IsReadBy}
 use Rattle.txn.specs.Core.{CoreState}
 use Rattle.txn.specs.Leaves.{taken_by}
-use Rattle.txn.specs.Object.{ObjectBytes}
 use Rattle.txn_law.specs.declared.hold.Hold.{Hold}
 use Rattle.store_promise.specs.declared.events.Committing.TheVariants as committing
 use Rattle.store_promise.specs.declared.events.Step.{Step}
@@ -23,9 +23,13 @@ use Rattle.store_workers.specs.declared.workers.parts.State.{State}
 
 -- ---- what was read and taken
 
--- What a transaction has of its call, of this core's image: each object was asked for once, and is held
--- still, alone; each claimed block is a data block that was claimed once, and is held for writing as a whole. What is
--- taken is an object of the image.
+-- the transaction has taken the address, alone
+abbrev pub HasAlone : CoreState → ℕ → Addr → Type 0
+HasAlone core tx addr = (hold : Hold) × (taken_by core tx addr ≡ Some hold) × (hold.mode ≡ modes.Exclusive)
+
+-- What a transaction has of its call, of this core's image: each object was read once, and is held still, and alone where it
+-- was asked for so; each claimed block is a data block that was claimed once, and is held for writing as a whole. What
+-- is taken is an object of the image.
 pub record HasOfCall (tx : ℕ) (core : CoreState) (seen : Seen) : Type 0 where
   pub blocks : seen.geometry.blocks ≡ core.log.blocks
   pub inodes : seen.geometry.inodes ≡ core.inodes
@@ -33,7 +37,7 @@ pub record HasOfCall (tx : ℕ) (core : CoreState) (seen : Seen) : Type 0 where
   pub claimed : All (IsClaimedBy core tx) seen.claims
   pub were : WereAskedOnce seen.geometry seen.objects
   pub read : All (IsReadBy core tx) seen.objects
-  pub alone : All (λ (object : ObjectBytes). IsTakenAlone core tx object.addr) seen.objects
+  pub alone : All (HasAlone core tx) seen.alone
   pub asked : (addr : Addr) (hold : Hold) → taken_by core tx addr ≡ Some hold
       → Asks seen.geometry addr
 

@@ -6,7 +6,6 @@ use Rattle.disk.specs.declared.block.BlockNo.{BlockNo}
 use Rattle.nfs_types.specs.declared.status.Status.TheVariants as status
 use Rattle.objects.specs.declared.addr.Addr.{Addr}
 use Rattle.objects.specs.declared.mode.Mode.{Mode}
-use Rattle.objects.specs.declared.mode.Mode.TheVariants.{Exclusive}
 use Rattle.model.specs.Entry.{Entry}
 use Rattle.model.specs.Calls.{is_answered_stable}
 use Rattle.model.specs.Refused.{refused}
@@ -17,7 +16,7 @@ use Rattle.store_promise.specs.Progress as told
 use Rattle.procs.specs.SoundCalls.{SoundCall}
 use Rattle.store_workers.specs.Asked.{Asking}
 use Rattle.store_workers.specs.Knowing.{Knowing, known_in}
-use Rattle.store_workers.specs.Seen.{Seen, seen_in}
+use Rattle.store_workers.specs.Seen.{Seen, mode_in, seen_in}
 use Rattle.store_workers.specs.declared.workers.parts.Job.{Job}
 use Rattle.store_workers.specs.declared.workers.parts.Phase.{Phase}
 use Rattle.store_workers.specs.declared.workers.parts.Phase.TheVariants.{Idle, Called, Planning}
@@ -29,14 +28,10 @@ use Rattle.store_workers.specs.declared.workers.parts.State.{State}
 abbrev pub taken_as : Mode → Addr → Taken
 taken_as mode addr = record { addr = addr; mode = mode }
 
--- an object that a plan asked for: it takes each alone
-abbrev pub alone : Addr → Taken
-alone addr = taken_as Exclusive addr
-
--- the objects that were read, and the blocks that were claimed
+-- the objects that were read, each in the mode in which it was asked for last, and the blocks that were claimed
 abbrev pub held_in : Option Seen → List Taken
 held_in None = []
-held_in (Some seen) = map (λ object. alone object.addr) seen.objects
+held_in (Some seen) = map (λ object. taken_as (mode_in seen.alone object.addr) object.addr) seen.objects
 
 abbrev pub claimed_in : Option Seen → List BlockNo
 claimed_in None = []

@@ -79,17 +79,17 @@ begun_wanted (want.Outside back) = record { tx = Some back; io = None }
 begun_wanted (want.NoMemory back) = record { tx = Some back; io = None }
 
 -- what was read then: what is taken again isn't looked at
-abbrev pub seen_held : List Aim → Addr → List ℕ → Option Seen → Option Seen
-seen_held [] addr bytes seen = with_object addr bytes seen
-seen_held (next ∷ later) addr bytes seen = seen
+abbrev pub seen_held : List Aim → Addr → Mode → List ℕ → Option Seen → Option Seen
+seen_held [] addr mode bytes seen = with_object addr mode bytes seen
+seen_held (next ∷ later) addr mode bytes seen = seen
 
-abbrev pub seen_wanted : List Aim → Addr → Want → Option Seen → Option Seen
-seen_wanted left addr (want.Held back bytes) seen = seen_held left addr bytes seen
-seen_wanted left addr (want.Busy back) seen = seen
-seen_wanted left addr (want.Fetch back io) seen = seen
-seen_wanted left addr (want.Loading back) seen = seen
-seen_wanted left addr (want.Outside back) seen = seen
-seen_wanted left addr (want.NoMemory back) seen = seen
+abbrev pub seen_wanted : List Aim → Addr → Mode → Want → Option Seen → Option Seen
+seen_wanted left addr mode (want.Held back bytes) seen = seen_held left addr mode bytes seen
+seen_wanted left addr mode (want.Busy back) seen = seen
+seen_wanted left addr mode (want.Fetch back io) seen = seen
+seen_wanted left addr mode (want.Loading back) seen = seen
+seen_wanted left addr mode (want.Outside back) seen = seen
+seen_wanted left addr mode (want.NoMemory back) seen = seen
 
 -- its block is to be fetched then
 abbrev pub asked_wanted : Addr → Mode → Want → Asking → Asking

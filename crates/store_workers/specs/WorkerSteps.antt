@@ -90,6 +90,7 @@ pub record SawNothing (core : CoreState) (seen : Seen) : Type 0 where
   pub blocks : seen.geometry.blocks ≡ core.log.blocks
   pub inodes : seen.geometry.inodes ≡ core.inodes
   pub objects : seen.objects ≡ []
+  pub alone : seen.alone ≡ []
   pub claims : seen.claims ≡ []
 
 -- The next transaction was begun for the job, in the boot of the core, and nothing was read in it yet.
@@ -133,7 +134,7 @@ pub record HasWanted (tx : ℕ) (addr : Addr) (mode : Mode) (old : Side) (made :
     known = known_wanted addr mode answer (with_snap new.worker old.worker).known;
   }
   pub seen : seen_in new.worker.work.planner
-      ≡ seen_wanted old.worker.known.left addr answer (seen_in old.worker.work.planner)
+      ≡ seen_wanted old.worker.known.left addr mode answer (seen_in old.worker.work.planner)
 
 -- a wish to claim a block is answered
 pub record HasClaimed (tx : ℕ) (block : BlockNo) (old : Side) (made : Step) (new : Side) : Type 0 where

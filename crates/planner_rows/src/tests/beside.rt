@@ -9,7 +9,7 @@ use layout::Geometry;
 use nfs_results::encode_reply;
 use nfs_types::{Call, Ctx};
 use objects::{Object, extract};
-use procs::{Done, Plan, Planner, plan};
+use procs::{Done, Plan, Planner, plan, reading_mode};
 use std::alloc::Global;
 use std::test::Fail;
 use txn::Change;
@@ -64,7 +64,7 @@ pub(crate) fn plans_alike(
     requires spelled { CallFits call.now }
 {
     are_told(ctx.credential.uid, ctx.credential.gid);
-    let mut planner = Planner::new(alloc, geometry, from);
+    let mut planner = Planner::new(alloc, geometry, from, reading_mode(call));
     for _ in 0..MOST_ASKED {
         planner.make_room()?;
         let anew = plan(alloc, ctx, call, &planner.snap);
@@ -77,7 +77,7 @@ pub(crate) fn plans_alike(
                     return Ok(false);
                 }
                 let bytes = extract(alloc, disk.newest(addr.block), addr)?;
-                planner.add(addr, bytes);
+                planner.add(addr, mode, bytes);
             }
             (Plan::Claim(block), Plan::Claim(other)) => {
                 if block != other {

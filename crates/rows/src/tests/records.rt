@@ -8,7 +8,7 @@ use disk::BlockNo;
 use layout::{Inode, InodeKind, Super};
 use limits::{BLOCK_BYTES, INODE_BYTES, INODES_PER_BLOCK};
 use nfs_types::{Moment, Stamp};
-use objects::{Addr, SharedBytes};
+use objects::{Addr, Mode, SharedBytes};
 use procs::Snap;
 use std::alloc::{AllocError, Global};
 use std::test::Fail;
@@ -91,7 +91,7 @@ fn add(alloc: Global, snap: &mut Snap, number: u32) -> Result<(), Fail> {
     let mut bytes = Vec::new(alloc);
     bytes.resize(addr.len, 0)?;
     snap.make_room()?;
-    snap.add(addr, SharedBytes::new(alloc, bytes)?);
+    snap.add(addr, Mode::Shared, SharedBytes::new(alloc, bytes)?);
     snap.make_room()?;
     snap.claimed(BlockNo(number));
     Ok(())
@@ -102,7 +102,8 @@ const OBJECTS: u32 = 200;
 #[test]
 fn room_is_made_for_many_objects(rt: HostRuntime) -> Result<(), Fail> {
     let bytes = largest(rt.alloc())?;
-    let mut snap = Snap::new(rt.alloc(), Super::read(&bytes)?.geometry, 0);
+    let geometry = Super::read(&bytes)?.geometry;
+    let mut snap = Snap::new(rt.alloc(), geometry, 0, Mode::Shared);
     for number in 0..OBJECTS {
         add(rt.alloc(), &mut snap, number)?;
     }

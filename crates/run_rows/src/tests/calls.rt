@@ -1,8 +1,8 @@
 //! The calls and events that workers are handed.
 
 use nfs_types::{
-    Call, Credential, DirectoryName, Handle, Moment, NewAttributes, NumberList, Octets, SetTime,
-    Stamp,
+    Call, CreateHow, Credential, DirectoryName, Handle, Moment, NewAttributes, NumberList, Octets,
+    SetTime, Stability, Stamp,
 };
 use std::alloc::{AllocError, Global};
 use std::test::Fail;
@@ -64,6 +64,25 @@ pub fn mk_dir(alloc: Global, letter: u8) -> Result<Call, AllocError> {
     Ok(Call::MkDir {
         name: name(alloc, letter)?,
         attributes: only(Some(0o755)),
+    })
+}
+
+/// A CREATE of a file in the root.
+pub fn create(alloc: Global, letter: u8) -> Result<Call, AllocError> {
+    Ok(Call::Create {
+        name: name(alloc, letter)?,
+        how: CreateHow::Guarded(only(Some(0o644))),
+    })
+}
+
+/// A WRITE of some bytes at the beginning of a file, which is answered once it is committed.
+pub fn write(alloc: Global, file: Handle, bytes: &[u8]) -> Result<Call, AllocError> {
+    Ok(Call::Write {
+        file,
+        offset: 0,
+        count: bytes.len() as u32,
+        stability: Stability::Unstable,
+        bytes: Octets::copied(alloc, bytes)?,
     })
 }
 

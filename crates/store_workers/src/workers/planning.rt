@@ -166,13 +166,13 @@ impl State {
           known = known_wanted addr mode answer (with_snap self.new self.old).known;
         } }
         ensures seen { seen_in self.new.work.planner
-            ≡ seen_wanted self.old.known.left addr answer (seen_in self.old.work.planner) }
+            ≡ seen_wanted self.old.known.left addr mode answer (seen_in self.old.work.planner) }
         ensures planned { is_planned self.new.work ≡ true }
     {
         let aim = Aim::Object(addr, mode);
         match answer {
             Want::Held(tx, bytes) => {
-                self.keep(addr, bytes);
+                self.keep(addr, mode, bytes);
                 self.known.take(aim);
                 self.go_on(tx, Phase::Planning);
                 Wish::Held
@@ -222,22 +222,22 @@ impl State {
         }
     }
 
-    // Keeps what was read. What is taken again isn't looked at.
-    fn keep(&mut self, addr: Addr, bytes: SharedBytes)
+    // Keeps what was read in a mode. What is taken again isn't looked at.
+    fn keep(&mut self, addr: Addr, mode: Mode, bytes: SharedBytes)
         requires planned { is_planned self.old.work ≡ true }
         requires room { self.old.known.left ≡ [] → HasRoom self.old }
         requires len { length bytes ≡ addr.len }
         ensures rest { self.new ≡ with_snap self.new self.old }
         ensures known { self.new.known ≡ self.old.known }
         ensures seen { seen_in self.new.work.planner
-            ≡ seen_held self.old.known.left addr bytes (seen_in self.old.work.planner) }
+            ≡ seen_held self.old.known.left addr mode bytes (seen_in self.old.work.planner) }
         ensures planned { is_planned self.new.work ≡ true }
     {
         if self.known.next().is_some() {
             return;
         }
         match self.work.planner.as_mut() {
-            Some(planner) => planner.add(addr, bytes),
+            Some(planner) => planner.add(addr, mode, bytes),
             None => unreachable!(),
         }
     }

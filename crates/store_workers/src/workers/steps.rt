@@ -9,7 +9,7 @@ use crate::options::put;
 use disk::CrashDisk;
 use layout::{FormatVersion, Geometry};
 use nfs_types::{Call, Ctx, Reply, Status};
-use procs::{Done, Planner, begins_transaction, refused_reply};
+use procs::{Done, Planner, begins_transaction, reading_mode, refused_reply};
 use std::alloc::Global;
 use store_promise::{CallAnswer, Cause, Ending, Step, Verdict};
 use txn::{BeginFault, Core, Seq, Tx};
@@ -107,6 +107,7 @@ impl State {
             return Step::Replied;
         }
         let from = room_of(&self.work.planner, &self.asked);
+        let asks = reading_mode(&job.call);
         match core.begin() {
             Ok(tx) => {
                 let number = tx.number();
@@ -119,7 +120,7 @@ impl State {
                     blocks,
                     inodes,
                 };
-                self.work.planner = Some(Planner::new(alloc, geometry, from));
+                self.work.planner = Some(Planner::new(alloc, geometry, from, asks));
                 self.known.give_back();
                 self.go_on(tx, Phase::Planning);
                 Step::Begun(Ok(number))

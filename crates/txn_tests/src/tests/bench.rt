@@ -19,6 +19,8 @@ pub enum Step {
     // It wants an object, and again where it was fetched.
     Read(At),
     Claim(BlockNo),
+    // It wants an object beside others, and again where it was fetched.
+    Share(At),
     // Meanwhile the logger makes its calls.
     Log,
 }
@@ -209,6 +211,7 @@ impl<D: CrashDisk> Bench<D> {
         match step {
             Step::Want(at) => self.want(tx, at),
             Step::Read(at) => self.read(tx, at),
+            Step::Share(at) => self.share(tx, at),
             Step::Claim(block) => self.claim(tx, block),
             Step::Log => {
                 self.log_all();
@@ -225,16 +228,28 @@ impl<D: CrashDisk> Bench<D> {
         (tx, seen)
     }
 
-    pub fn want(&mut self, tx: Tx, at: At) -> (Tx, Seen) {
-        let (tx, seen) = self.want_once(tx, at);
-        if seen == Seen::NoMemory {
-            return self.want_once(tx, at);
+    fn share(&mut self, tx: Tx, at: At) -> (Tx, Seen) {
+        let (tx, seen) = self.want_in(tx, at, Mode::Shared);
+        if seen == Seen::Fetched {
+            return self.want_in(tx, at, Mode::Shared);
         }
         (tx, seen)
     }
 
-    fn want_once(&mut self, tx: Tx, at: At) -> (Tx, Seen) {
-        match self.core.want(self.alloc, tx, at.addr(), Mode::Exclusive) {
+    pub fn want(&mut self, tx: Tx, at: At) -> (Tx, Seen) {
+        self.want_in(tx, at, Mode::Exclusive)
+    }
+
+    fn want_in(&mut self, tx: Tx, at: At, mode: Mode) -> (Tx, Seen) {
+        let (tx, seen) = self.want_once(tx, at, mode);
+        if seen == Seen::NoMemory {
+            return self.want_once(tx, at, mode);
+        }
+        (tx, seen)
+    }
+
+    fn want_once(&mut self, tx: Tx, at: At, mode: Mode) -> (Tx, Seen) {
+        match self.core.want(self.alloc, tx, at.addr(), mode) {
             Want::Held(tx, bytes) => (tx, Seen::Bytes(first(bytes.as_slice()))),
             Want::Busy(tx) => (tx, Seen::Busy),
             Want::Fetch(tx, io) => (tx, self.fetch(io)),

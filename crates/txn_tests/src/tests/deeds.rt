@@ -26,6 +26,9 @@ pub enum Deed<'a> {
     WritesWhileFetched(Ended),
     // While it is fetched for a transaction, this wants bytes of it by another address, and others.
     SeesBeside(&'a [Seen]),
+    // Two transactions share bytes, and each wants them alone; one ends, and the other wants them again, and commits; then
+    // one begins anew, wants them alone at once, and commits: what the wishes come to, and the two commits.
+    Raises(&'a [Seen], [Ended; 2]),
     // A transaction leaves a fetch behind: what the next is told before and after it is given back.
     WantsBehind([Seen; 2]),
     // Logger and installer make so many calls.
@@ -91,6 +94,41 @@ fn sees_beside<D: CrashDisk>(bench: &mut Bench<D>, wanted: &[Seen]) -> bool {
     are_seen
 }
 
+// What the two that raise the same bytes end in, if their wishes come to this.
+fn raise<D: CrashDisk>(bench: &mut Bench<D>, wishes: &[Seen]) -> Result<Option<[Ended; 2]>, Fail> {
+    let at = At::Eight(0, 0);
+    let (Some(one), Some(other)) = (bench.begin(), bench.begin()) else {
+        return Err("none begins")?;
+    };
+    let (one, shares) = bench.take_all(one, &[Step::Share(at)], wishes.get(..1).unwrap_or(&[]));
+    let (other, shares_too) = bench.take_all(
+        other,
+        &[Step::Share(at)],
+        wishes.get(1..2).unwrap_or(&[]),
+    );
+    let (one, is_kept_off) = bench.take_all(
+        one,
+        &[Step::Want(at)],
+        wishes.get(2..3).unwrap_or(&[]),
+    );
+    let (other, is_kept_off_too) = bench.take_all(
+        other,
+        &[Step::Want(at)],
+        wishes.get(3..4).unwrap_or(&[]),
+    );
+    bench.core.abort(one);
+    let (other, raises) = bench.take_all(other, &[Step::Want(at)], wishes.get(4..5).unwrap_or(&[]));
+    let first = change_of(bench.alloc, &[(at, 0)], &[(at, 7)])?;
+    let ended = bench.end(other, first);
+    let second = change_of(bench.alloc, &[(at, 7)], &[(at, 8)])?;
+    let again = bench.commit(&[Step::Want(at)], second);
+    if shares && shares_too && is_kept_off && is_kept_off_too && raises {
+        Ok(Some([ended, again]))
+    } else {
+        Ok(None)
+    }
+}
+
 fn want_behind<D: CrashDisk>(bench: &mut Bench<D>) -> Option<[Seen; 2]> {
     let (tx, io) = bench.fetch_out(&[], At::Eight(0, 0))?;
     bench.core.abort(tx);
@@ -119,6 +157,7 @@ fn is_done(bench: &mut Bench<MemDisk>, deed: &Deed) -> Result<bool, Fail> {
         }
         Deed::WritesWhileFetched(wanted) => Ok(write_while_it_is_fetched(bench)? == wanted),
         Deed::SeesBeside(wanted) => Ok(sees_beside(bench, wanted)),
+        Deed::Raises(wishes, wanted) => Ok(raise(bench, wishes)? == Some(wanted)),
         Deed::WantsBehind(wanted) => Ok(want_behind(bench) == Some(wanted)),
         _ => is_told(bench, deed),
     }

@@ -27,7 +27,7 @@ const READ_8: [Step; 1] = [Step::Read(AT_8)];
 
 const THRICE: [Step; 3] = [Step::Want(AT_0), Step::Want(AT_0), Step::Want(AT_0)];
 
-const ROWS: [Rows; 15] = [
+const ROWS: [Rows; 17] = [
     Rows {
         says: "a change is settled and brought home",
         start: 0,
@@ -216,6 +216,33 @@ const ROWS: [Rows; 15] = [
         start: 0,
         failing: &[],
         deeds: &[Deed::SeesBeside(&[Seen::Busy, Seen::Loading])],
+    },
+    Rows {
+        says: "two that share bytes and want them alone keep each other off until one ends",
+        start: 0,
+        failing: &[],
+        deeds: &[Deed::Raises(
+            &[
+                Seen::Bytes(0),
+                Seen::Bytes(0),
+                Seen::Busy,
+                Seen::Busy,
+                Seen::Bytes(0),
+            ],
+            [Ended::Place(Seq(1)), Ended::Place(Seq(2))],
+        )],
+    },
+    Rows {
+        says: "what is shared isn't written",
+        start: 0,
+        failing: &[],
+        deeds: &[Deed::Commits(
+            &[Step::Share(AT_0)],
+            INODES,
+            &[(AT_0, 0)],
+            &[(AT_0, 7)],
+            Ended::Foreign,
+        )],
     },
     Rows {
         says: "a fetch that an aborted transaction left is pending",

@@ -21,12 +21,12 @@ returns-clause-err c =
 
 pub returns-clause-pause : goal.returns-clause-pause
 returns-clause-pause c =
-    IfErr-weaker c.bytes_at.result _ _ (λ why e. block_pause c.whole.result why e) c.bytes_at.ensures.need
+    IfErr-weaker c.bytes_at.result _ _ (λ why e. block_pause c.whole.result c.args.snap.now.asks why e) c.bytes_at.ensures.need
 
 pub returns-clause-asks : goal.returns-clause-asks
 returns-clause-asks c =
     IfErr-weaker c.bytes_at.result _ _ (λ why e.
-    block_asked c.args.number c.whole.result why (record {
+    block_asked c.args.number c.whole.result c.args.snap.now.asks why (record {
       block = ap (λ (b : BlockNo). b.0) c.whole.ensures.value.0;
       offset = c.whole.ensures.value.1;
       len = c.whole.ensures.value.2;

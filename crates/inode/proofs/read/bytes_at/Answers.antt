@@ -1,4 +1,5 @@
 use Rattle.std.proofs.Common.{sym}
+use Rattle.inode.proofs.HadAlone.{unseen_unhad}
 use Rattle.inode.proofs.read.bytes_at.Goals as goal
 
 pub returns-in-Some-clause-read : goal.returns-in-Some-clause-read
@@ -8,3 +9,8 @@ returns-in-Some-clause-read c = record {
   at = c.in-Some.ensures.some;
   bytes_are = sym c.bytes.ensures.bytes;
 }
+
+pub returns-in-None-clause-err : goal.returns-in-None-clause-err
+returns-in-None-clause-err c =
+    unseen_unhad c.args.addr c.args.snap.now.asks c.args.snap.now.objects.items c.args.snap.now.alone.items
+    c.in-None.ensures.none

@@ -1,4 +1,4 @@
-use Rattle.std.proofs.Common.{rules, ◌≡◌, refl, subst}
+use Rattle.std.proofs.Common.{rules, ◌≡◌, subst}
 use Rattle.inode.specs.declared.stop.Stop.TheVariants as stop
 use Rattle.inode.specs.Read.{AreAsRead}
 use Rattle.inode.specs.Snap.{IsNew}
@@ -9,10 +9,9 @@ use Rattle.procs.proofs.work.run.Goals as goal
 
 pub returns-in-Err-Need-clause-plan : goal.returns-in-Err-Need-clause-plan
 returns-in-Err-Need-clause-plan c =
-    let is : c.in-Err-Need.field-0 ≡ stop.Need c.in-Err-Need.addr = search rules in (
+    let is : c.in-Err-Need.field-0 ≡ stop.Need c.in-Err-Need.addr c.in-Err-Need.mode = search rules in (
       subst (IsNew c.args.snap.now) is c.in-Err-Need.ensures.err,
       subst (IsAsked c.args.snap.now) is c.in-Err-Need.ensures.asks,
-      refl,
     )
 
 pub returns-in-Err-Claim-clause-plan : goal.returns-in-Err-Claim-clause-plan

@@ -1,5 +1,5 @@
 -- What was read is as it lies at home, so that what comes of the plan is a step from there.
-use Rattle.std.proofs.Common.{◌≡◌, ◌∙◌, ap, sym, subst, arith, ◌+◌, List, [], ◌∷◌, All, length, length-append}
+use Rattle.std.proofs.Common.{◌≡◌, ◌∙◌, ap, sym, subst, arith, ◌+◌, ◌*◌, List, [], ◌∷◌, All, length, length-append}
 use Rattle.disk.specs.Crash.{Image}
 use Rattle.disk.specs.Device.{Device}
 use Rattle.disk.specs.declared.block.BlockNo.{BlockNo}
@@ -12,31 +12,31 @@ use Rattle.wal_law.proofs.OnlyRead.{reads_then, unspoiled_then}
 use Rattle.inode.specs.Read.{AreAsRead}
 use Rattle.inode.specs.declared.snap.Snap.{Snap}
 use Rattle.procs.specs.Asks.{Claims, WereAskedOnce, WereClaimedOnce}
-use Rattle.procs.specs.MostAsked.{most_asked, most_claimed}
+use Rattle.procs.specs.MostAsked.{most_asked, most_claimed, times_asked}
 use Rattle.procs.specs.Steps.{IsStepOf}
-use Rattle.replays.proofs.Reading.{less_left, read_more, saw_then, written_home}
+use Rattle.replays.proofs.Reading.{less_left, more_often, read_more, saw_then, written_home}
 use Rattle.replays.proofs.planning.plan_over.Goals as goal
 
 pub asks-smaller-in-Continue-1 : goal.asks-smaller-in-Continue-1
 asks-smaller-in-Continue-1 g c =
     let geometry : Geometry = c.args.geometry in
     let old : Snap = c.asks.snap in
+    let room : Snap = c.make_room.new.self in
     let new : Snap = c.read_object.new.snap in
     let inv = c.asks.invariant in
     let added = c.in_ok-read_object-in-Need.ensures.added in
-    let object : ObjectBytes = record { addr = c.in-Need.addr; bytes = added.bytes } in
-    let objects : length new.objects.items ≡ length old.objects.items + 1 =
-    ap (λ (xs : List ObjectBytes). length xs) added.objects
-    ∙ length-append c.make_room.new.self.objects.items (object ∷ [])
-    ∙ ap (λ (xs : List ObjectBytes). length xs + 1) c.make_room.ensures.objects in
+    let more = more_often old room new c.in-Need.addr c.in-Need.mode c.make_room.ensures.objects
+    c.make_room.ensures.alone added c.in-Need.ensures.plan.0 in
     let claims : length new.claims.items ≡ length old.claims.items =
     ap (λ (xs : List BlockNo). length xs) (added.claims ∙ c.make_room.ensures.claims) in
     let few = c.a_plan_claims_few.ensures geometry old.claims.items inv.claimed in
-    less_left (most_asked geometry.blocks) (most_claimed geometry.blocks) (length old.objects.items)
-    (length old.claims.items) (length new.objects.items) (length new.claims.items)
-    (omega (arith, objects, claims)) (c.a_plan_asks_for_few.ensures geometry new.objects.items (read_more geometry c.asks.snap c.make_room.new.self c.read_object.new.snap c.in-Need.addr
+    less_left (2 * most_asked geometry.blocks) (most_claimed geometry.blocks)
+    (times_asked old.objects.items old.alone.items) (length old.claims.items)
+    (times_asked new.objects.items new.alone.items) (length new.claims.items)
+    (omega (arith, more, claims)) (c.a_plan_asks_for_few.ensures.times geometry new.objects.items new.alone.items
+    (read_more geometry old room new c.in-Need.addr c.in-Need.mode
     (c.make_room.ensures.geometry ∙ inv.geometry) c.make_room.ensures.objects added inv.read
-    c.in-Need.ensures.plan.1 c.in-Need.ensures.plan.0))
+    c.in-Need.ensures.plan.1))
     (omega (arith, claims, few))
 
 pub asks-preserved-in-Continue-1 : goal.asks-preserved-in-Continue-1
@@ -52,9 +52,9 @@ asks-preserved-in-Continue-1 g c =
       failures = read.failure ∙ inv.failures;
       model = λ kept. inv.model (c.read_object.ensures.model kept);
       geometry = read.added.geometry ∙ c.make_room.ensures.geometry ∙ inv.geometry;
-      read = read_more geometry c.asks.snap c.make_room.new.self c.read_object.new.snap c.in-Need.addr
+      read = read_more geometry c.asks.snap c.make_room.new.self c.read_object.new.snap c.in-Need.addr c.in-Need.mode
           (c.make_room.ensures.geometry ∙ inv.geometry) c.make_room.ensures.objects read.added inv.read
-          c.in-Need.ensures.plan.1 c.in-Need.ensures.plan.0;
+          c.in-Need.ensures.plan.1;
       claimed = subst (WereClaimedOnce geometry) (sym (read.added.claims ∙ c.make_room.ensures.claims))
           inv.claimed;
       saw = λ kept clean.
@@ -71,8 +71,9 @@ asks-smaller g c =
     let room : Snap = c.make_room.new.self in
     let new : Snap = c.claimed.new.self in
     let inv = c.asks.invariant in
-    let objects : length new.objects.items ≡ length old.objects.items =
-    ap (λ (xs : List ObjectBytes). length xs) (c.claimed.ensures.objects ∙ c.make_room.ensures.objects) in
+    let times : times_asked new.objects.items new.alone.items ≡ times_asked old.objects.items old.alone.items =
+    λ i. times_asked ((c.claimed.ensures.objects ∙ c.make_room.ensures.objects) i)
+    ((c.claimed.ensures.alone ∙ c.make_room.ensures.alone) i) in
     let claims : length new.claims.items ≡ length old.claims.items + 1 =
     ap (λ (xs : List BlockNo). length xs) c.claimed.ensures.claims
     ∙ length-append room.claims.items (c.in-Claim.number ∷ [])
@@ -83,10 +84,11 @@ asks-smaller g c =
     (subst (WereClaimedOnce geometry) (sym c.make_room.ensures.claims) inv.claimed)
     (subst (λ (h : Geometry). Claims h c.in-Claim.number) (c.make_room.ensures.geometry ∙ inv.geometry)
     c.in-Claim.ensures.plan.1) c.in-Claim.ensures.plan.0) in
-    let few = c.a_plan_asks_for_few.ensures geometry old.objects.items inv.read in
-    less_left (most_asked geometry.blocks) (most_claimed geometry.blocks) (length old.objects.items)
-    (length old.claims.items) (length new.objects.items) (length new.claims.items)
-    (omega (arith, objects, claims)) (omega (arith, objects, few))
+    let few = c.a_plan_asks_for_few.ensures.times geometry old.objects.items old.alone.items inv.read in
+    less_left (2 * most_asked geometry.blocks) (most_claimed geometry.blocks)
+    (times_asked old.objects.items old.alone.items) (length old.claims.items)
+    (times_asked new.objects.items new.alone.items) (length new.claims.items)
+    (omega (arith, times, claims)) (omega (arith, times, few))
     (c.a_plan_claims_few.ensures geometry new.claims.items were)
 
 pub returns-in-Done-clause-home : goal.returns-in-Done-clause-home

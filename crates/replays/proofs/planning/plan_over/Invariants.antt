@@ -1,10 +1,10 @@
 -- what was read and claimed so far was asked for, each once, and is as it lies at home
-use Rattle.std.proofs.Common.{◌≡◌, ◌+◌, ◌-◌, length}
+use Rattle.std.proofs.Common.{◌≡◌, ◌+◌, ◌-◌, ◌*◌, length}
 use Rattle.layout.specs.Homes.{homes_of}
 use Rattle.wal_law.specs.Recovery.{HasOnlyRead, IsUnspoiled, image_of}
 use Rattle.inode.specs.Read.{Saw}
 use Rattle.procs.specs.Asks.{WereAskedOnce, WereClaimedOnce}
-use Rattle.procs.specs.MostAsked.{most_asked, most_claimed}
+use Rattle.procs.specs.MostAsked.{most_asked, most_claimed, times_asked}
 use Rattle.replays.proofs.planning.plan_over.Given as goal
 
 abbrev pub invariant-asks : goal.invariant-asks
@@ -21,5 +21,5 @@ invariant-asks g l = record {
 
 -- each round leaves less to be asked for
 abbrev pub decreases-asks : goal.decreases-asks
-decreases-asks g l = most_asked l.fn.geometry.blocks + most_claimed l.fn.geometry.blocks
-    - (length l.snap.objects.items + length l.snap.claims.items)
+decreases-asks g l = 2 * most_asked l.fn.geometry.blocks + most_claimed l.fn.geometry.blocks
+    - (times_asked l.snap.objects.items l.snap.alone.items + length l.snap.claims.items)

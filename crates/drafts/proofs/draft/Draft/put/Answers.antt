@@ -1,7 +1,8 @@
 use Rattle.std.proofs.Common.{rules, refl, ◌≡◌, sym, All, ap, ◌∙◌, subst, false, List, [], ◌∷◌, ◌++◌}
 use Rattle.std.proofs.lemmas.List.Elements.{All-push}
 use Rattle.layout.specs.Objects.{IsObject}
-use Rattle.inode.specs.Snap.{MayWrite}
+use Rattle.inode.specs.Snap.{MayWrite, is_had}
+use Rattle.objects.specs.declared.mode.Mode.TheVariants as modes
 use Rattle.objects.specs.declared.addr.Addr.{Addr}
 use Rattle.layout.specs.Parts.{with_bytes}
 use Rattle.txn.specs.Object.{ObjectBytes}
@@ -24,6 +25,7 @@ invariant_of-self-2 c =
       after = record {
         geometry = geometry ∙ c.self.invariant.after.geometry;
         claims = c.lay_there.ensures.claims ∙ c.make_room.ensures.claims ∙ c.self.invariant.after.claims;
+        alone = c.lay_there.ensures.alone ∙ c.make_room.ensures.alone ∙ c.self.invariant.after.alone;
         all = λ addr is none. c.self.invariant.after.all addr (subst (λ (g : Geometry). IsObject g addr) geometry is)
             (seen_laid addr c.self.inside.there.objects.items c.in_ok-copy.copy
             (subst (λ l. is_seen addr l ≡ false)
@@ -48,7 +50,8 @@ invariant_of-self-2 c =
 
 pub returns-then-not-is_given-clause-err : goal.returns-then-not-is_given-clause-err
 returns-then-not-is_given-clause-err c = (
-  subst (λ (d : Drafted). is_seen c.args.addr d.seen.objects.items ≡ false) c.self.view_is
+  subst (λ (d : Drafted). is_had c.args.addr modes.Exclusive d.seen.objects.items d.seen.alone.items ≡ false)
+      c.self.view_is
       (c.is_given.ensures.none (search rules)),
   subst (λ (d : Drafted). IsObject d.seen.geometry c.args.addr) c.self.view_is
       (subst (λ (g : Geometry). IsObject g c.args.addr) c.self.invariant.after.geometry
@@ -58,13 +61,13 @@ returns-then-not-is_given-clause-err c = (
 pub invariant_of-self : goal.invariant_of-self
 invariant_of-self c =
     kept_with c.self.inside.seen.now c.self.inside.there _ c.make_room.ensures.geometry c.make_room.ensures.claims
-    c.make_room.ensures.objects
+    c.make_room.ensures.alone c.make_room.ensures.objects
     c.self.inside.written.items c.self.inside.written.items refl c.self.invariant
 
 pub invariant_of-self-in-Err : goal.invariant_of-self-in-Err
 invariant_of-self-in-Err c =
     kept_with c.self.inside.seen.now c.self.inside.there _ c.make_room.ensures.geometry c.make_room.ensures.claims
-    c.make_room.ensures.objects
+    c.make_room.ensures.alone c.make_room.ensures.objects
     c.self.inside.written.items c.push.new.self.items c.in-Err.ensures.items c.self.invariant
 
 pub returns-clause-shows : goal.returns-clause-shows

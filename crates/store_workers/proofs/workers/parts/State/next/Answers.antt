@@ -28,11 +28,13 @@ returns-clause-next c =
       snap = c.make_room.new.self.snap;
       snap_is = ap seen_in there
           ∙ same_seen c.in-Some-Some.planner.now.snap c.make_room.new.self.snap c.make_room.ensures.geometry
-          c.make_room.ensures.objects c.make_room.ensures.claims;
+          c.make_room.ensures.objects c.make_room.ensures.alone c.make_room.ensures.claims;
       plan = c.next.ensures.plan;
       is_step = c.next.ensures.step;
     }
   where
     same_seen : (old new : Snap) → new.geometry ≡ old.geometry → new.objects.items ≡ old.objects.items
-        → new.claims.items ≡ old.claims.items → ◌≡◌ {A = Option Seen} (Some (seen_of old)) (Some (seen_of new))
-    same_seen old new g o c i = Some (record { geometry = sym g i; objects = sym o i; claims = sym c i })
+        → new.alone.items ≡ old.alone.items → new.claims.items ≡ old.claims.items
+        → ◌≡◌ {A = Option Seen} (Some (seen_of old)) (Some (seen_of new))
+    same_seen old new g o a c i =
+        Some (record { geometry = sym g i; objects = sym o i; alone = sym a i; claims = sym c i })
