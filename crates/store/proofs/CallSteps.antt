@@ -303,11 +303,11 @@ module _ (o : Outset) (now : Opened) (worker : State) (new : Side) (made : Optio
     begun_is = refl;
     more_begun = calling.further.begun;
     settled_is = settled_is 0 now.core.log idle idle calling.opened.since.over.lawful;
-    numbers = λ blocks few none. inr (λ left. none (record {
-      place = left.0;
-      positions = let within = left.1 in let lacked = few_new (tail_blocks now.core.log) blocks in
+    numbers = λ blocks few none left. none (record {
+      place = left.places.place;
+      positions = let within = left.places.positions in let lacked = few_new (tail_blocks now.core.log) blocks in
           omega (arith, few, lacked, within);
-    }));
+    });
     past = calling.past;
     broke = calling.broken;
   }

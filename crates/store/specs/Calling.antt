@@ -1,7 +1,7 @@
 -- One call of one thread: what it begins from, what holds while it is under way, and what it answers.
-use Rattle.std.specs.Prelude.{◌≡◌, ℕ, ◌+◌, ◌^◌, ◌<◌, ◌≤◌, ◌⊎◌, true, false, Option, Some, None, IfSome, is_some}
+use Rattle.std.specs.Prelude.{◌≡◌, ℕ, ◌+◌, ◌<◌, ◌≤◌, ◌⊎◌, true, false, Option, Some, None, IfSome, is_some}
 use Rattle.std.specs.Prelude.{Bool, List, [], ◌++◌, All, length, option_to_list}
-use Rattle.limits.specs.declared.TheConstants.{CHANGED_BLOCKS, MOST_KEPT_COMMITS}
+use Rattle.limits.specs.declared.TheConstants.{MOST_KEPT_COMMITS}
 use Rattle.disk.specs.Crash.{Image, IsCrashImage}
 use Rattle.disk.specs.Device.{Device}
 use Rattle.model.specs.Entry.{Entry}
@@ -16,6 +16,7 @@ use Rattle.nfs_types.specs.declared.status.Status.TheVariants as status
 use Rattle.nfs_types.specs.declared.reply.Reply.TheVariants.{Null}
 use Rattle.txn_law.specs.Core.{CoreState}
 use Rattle.txn_law.specs.Fetch.{Fetch}
+use Rattle.txn.specs.Unspent.{IsUnspent}
 use Rattle.wal_law.specs.Calls.{idle}
 use Rattle.wal_law.specs.Log.{settled_place}
 use Rattle.store_promise.specs.History.{ctx_of}
@@ -32,7 +33,7 @@ use Rattle.store_promise.specs.declared.answers.Verdict.TheVariants as verdict
 use Rattle.store_promise.specs.declared.events.Cause.{Cause}
 use Rattle.store_promise.specs.declared.events.Cause.TheVariants as cause
 use Rattle.store_runs.specs.AtWork.{IsCoreAtWork, fetches_of}
-use Rattle.store_images.specs.Further.{IsFurther, LeavesOpen, end_of}
+use Rattle.store_images.specs.Further.{IsFurther, LeavesOpen}
 use Rattle.store_images.specs.Opening.{Opened}
 use Rattle.store_images.specs.Settling.{HasBroken, HasFailed}
 use Rattle.store_images.specs.SettlingStops.{StayOpen}
@@ -103,8 +104,7 @@ ComesTo o now (Some entry) last = IsMadeFor o now entry last
 
 -- no transaction is left, or no place or too few log positions for what a transaction may change
 abbrev pub IsSpent : CoreState → Type 0
-IsSpent core = (2 ^ 64 ≤ core.begun + 1)
-    ⊎ ((core.log.places + 1 < 2 ^ 64) × (end_of core.log + CHANGED_BLOCKS < 2 ^ 64) → ⊥)
+IsSpent core = IsUnspent core → ⊥
 
 -- the store was broken when the call began, or a device call failed since; the numbers are spent; or memory was
 -- refused
@@ -181,6 +181,10 @@ Answers keeps_model old asked told new = (first last : Tree) (entries : List Ent
       last = last;
       asked = asked;
     }) told new
+
+-- Where a counter is spent when it comes, a call that begins transactions is told so, and nothing else.
+abbrev pub TellsSpent : CoreState → Call → Verdict → Type 0
+TellsSpent core call told = begins_transaction call ≡ true → IsSpent core → told ≡ refusal call cause.Spent
 
 -- ---- while it is under way
 
