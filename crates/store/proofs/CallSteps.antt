@@ -400,6 +400,7 @@ module _ (o : Outset) (now : Opened) (worker : State) (new : Side) (made : Optio
         so_far = subst (IsSoFar o calling.entry later) (sym progress_is)
             (so_far_by made refl (progress_of worker) uncommitted calling.so_far may);
         counted = calling.counted;
+        unspent = calling.unspent;
         further = further_then o.store.core now.core new.core calling.further after.further;
         broken = λ is. calling.broken (sym (ap (λ (l : Log). l.broken) log_is) ∙ is);
       }
@@ -579,6 +580,7 @@ module _ (o : Outset) (now : Opened) (worker : State) (new : Side) (made : Optio
           so_far = subst (IsSoFar o (Some e) later) (sym progress_then)
               (made_so_far o later e is_of.begun commit.place place_is);
           counted = calling.counted;
+          unspent = calling.unspent;
           further = further_then o.store.core now.core new.core calling.further further_made;
           broken = λ is. calling.broken (sym broken_is ∙ is);
         }

@@ -48,4 +48,5 @@ refused_at_once keeps stops o begins spent blocks opened =
         failed = λ broken. inl broken;
       };
       tells = inr (record { begins = begins; why = cause.Spent; told_is = refl; because = spent });
+      spent = λ begins spent. (refl, refl);
     }

@@ -147,6 +147,11 @@ abbrev pub Tells : Outset → Option Entry → Verdict → Opened → Type 0
 Tells o (Some entry) told now = IsReplyOf o entry told now ⊎ IsUnsettled o told now
 Tells o None told now = IsOfNull o told now ⊎ IsRefusal o told now
 
+-- a call that begins transactions, and comes where a counter is spent, is told so, and no procedure was committed
+abbrev pub TellsSpent : Outset → Option Entry → Verdict → Type 0
+TellsSpent o entry told = begins_transaction o.asked.call ≡ true → IsSpent o.store.core
+    → (entry ≡ None) × (told ≡ refusal o.asked.call cause.Spent)
+
 -- What each stop leaves since the call began, those within a device call included: some image, and each that
 -- is left is good, with the boot number and with the files after a beginning of these entries, in which is
 -- each place that was settled when the call began. At the end each that is settled then is in it.
@@ -159,7 +164,7 @@ pub record LeavesFiles (o : Outset) (entries : List Entry) (now : Opened) : Type
 
 -- What comes of a call: the store is open with the entries that there were, and with the call's, where its
 -- procedure was committed; so each stop on the way leaves its files; it led on from the store that there was;
--- and the answer is that procedure's, or says why there is none.
+-- and the answer is that procedure's, or says why there is none: where a counter is spent, that it is.
 pub record HasAnswered (o : Outset) (told : Verdict) (now : Opened) : Type 0 where
   pub entry : Option Entry
   pub last : Tree
@@ -169,6 +174,7 @@ pub record HasAnswered (o : Outset) (told : Verdict) (now : Opened) : Type 0 whe
   pub opened : IsOpenWith now o.first (o.entries ++ option_to_list entry) last
   pub goes : GoesTo o.store now
   pub tells : Tells o entry told now
+  pub spent : TellsSpent o entry told
 
 -- so it does of any call that can be spelled, handed to a store that is open with any entries
 abbrev pub Answers : Type 0 → Opened → Job → Verdict → Opened → Type 0
@@ -181,10 +187,6 @@ Answers keeps_model old asked told new = (first last : Tree) (entries : List Ent
       last = last;
       asked = asked;
     }) told new
-
--- Where a counter is spent when it comes, a call that begins transactions is told so, and nothing else.
-abbrev pub TellsSpent : CoreState → Call → Verdict → Type 0
-TellsSpent core call told = begins_transaction call ≡ true → IsSpent core → told ≡ refusal call cause.Spent
 
 -- ---- while it is under way
 
@@ -208,9 +210,9 @@ abbrev pub IsSoFar : Outset → Option Entry → Opened → Progress → Type 0
 IsSoFar o entry now Idle = Unit {0}
 IsSoFar o entry now (At job stage) = (job ≡ o.asked) × StandsWith o entry now stage
 
--- A call is under way: the store is open with the entries that there were and with the call's, where its
--- procedure was committed; each stop before now left its files; its worker has it alone, and is so far; and
--- whatever broke the store was a write or a barrier that failed.
+-- A call is under way, and nothing was spent as it came: the store is open with the entries that there were and
+-- with the call's, where its procedure was committed; each stop before now left its files; its worker has it
+-- alone, and is so far; and whatever broke the store was a write or a barrier that failed.
 pub record IsCalling (o : Outset) (now : Opened) (worker : State) : Type 0 where
   pub entry : Option Entry
   pub last : Tree
@@ -225,6 +227,7 @@ pub record IsCalling (o : Outset) (now : Opened) (worker : State) : Type 0 where
   pub at_work : IsCoreAtWork worker now.core
   pub so_far : IsSoFar o entry now (progress_of worker)
   pub counted : o.store.device.failures ≤ now.device.failures
+  pub unspent : begins_transaction o.asked.call ≡ true → IsUnspent o.store.core
   pub further : IsFurther o.store.core now.core
   pub broken : now.core.log.broken ≡ true → HasBroken o.store.core.log o.store.device now.device
 

@@ -9,7 +9,7 @@ ghost use Rattle.store_promise.specs.Verdicts.{refusal};
 ghost use Rattle.store_promise.specs.declared.events.Cause.{Cause};
 ghost use Rattle.store_workers.specs.Alone.{IsAlone, IsOutAlone, is_full};
 ghost use Rattle.store.specs.Calling.{Answers, HasAnswered, HasStepped, IsCalling, IsSpent, Outset};
-ghost use Rattle.store.specs.Calling.{TellsSpent, asked_of};
+ghost use Rattle.store.specs.Calling.{asked_of};
 ghost use Rattle.store.specs.Driving.{HasGoneOn, IsUnderWay, steps_left, waits_for_log};
 ghost use Rattle.store_images.specs.Fetches.{FetchesOnly};
 ghost use Rattle.store_images.specs.Opening.{store_of};
@@ -55,7 +55,6 @@ pub fn procedure<D: CrashDisk>(
         (store_of (D.device store.old.disk) store.old.core store.old.boot)
         (asked_of credential moment call) result
         (store_of (D.device store.new.disk) store.new.core store.new.boot) }
-    ensures spent { TellsSpent store.old.core call result }
     ensures kept { (length store.new.core.records ≤ MOST_KEPT_COMMITS) ⊎ (store.new.core.log.broken ≡ true) }
     ensures model { D.keeps_model store.new.disk → D.keeps_model store.old.disk }
 {
@@ -84,7 +83,7 @@ fn told_at_once<D: CrashDisk>(store: &Store<D>, call: &Call) -> Option<Verdict>
     None
 }
 
-// Has a worker run a call to its answer.
+// Has a worker run a call to its answer, where nothing is spent that it may need.
 #[tactic(auto, using(crate::proofs::Driven::starts, crate::proofs::DrivenAlone::starts_alone))]
 fn run_call<D: CrashDisk>(
     alloc: Global,
@@ -96,6 +95,7 @@ fn run_call<D: CrashDisk>(
     requires idle { IsIdle store.old.core }
     requires timely { SoundTime moment }
     requires spelled { CallFits call }
+    requires unspent { begins_transaction call ≡ true → IsUnspent store.old.core }
     ensures idle { IsIdle store.new.core }
     ensures boot { store.new.boot ≡ store.old.boot }
     ensures answered { Answers (D.keeps_model store.new.disk)

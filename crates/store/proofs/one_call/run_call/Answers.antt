@@ -23,7 +23,7 @@ returns-clause-answered g c = λ first last entries keeps sound opened.
     let state_is = took
     ∙ ap (λ (s : State). with_call (ctx_of c.args.credential c.args.moment) c.args.call s) at_rest_is in
     let fits = c.hand.ensures.fits was.core (c.with_room-worker.ensures.fits was.core was.lawful) in
-    let begun = c.a_call_begins.ensures o c.hand.new.self.state sound c.requires.idle state_is
+    let begun = c.a_call_begins.ensures o c.hand.new.self.state sound c.requires.idle state_is c.requires.unspent
     (goes_with c.hand.new.self was.core fits) opened in
     let verdict = c.answer-verdict.result in
     let mid = c.answer-verdict.new.store in
