@@ -42,6 +42,7 @@ use Rattle.session.specs.Replying.{IsMessageAnswered, IsMountReply, IsSystemErro
 use Rattle.session.specs.Serving.{reply_for}
 use Rattle.session.specs.Standing.{serving_of, standing_of}
 use Rattle.session.specs.Streaming.{Answered}
+use Rattle.session.proofs.TwoRefusals.{two_verdicts}
 
 -- ---- failures
 
