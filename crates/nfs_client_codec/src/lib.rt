@@ -6,6 +6,7 @@
 mod arguments;
 mod entries;
 mod outcomes;
+mod part;
 mod put;
 mod results;
 mod told;
