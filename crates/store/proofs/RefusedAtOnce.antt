@@ -25,8 +25,8 @@ refused_at_once keeps stops o begins spent blocks opened =
     let entries = o.entries ++ [] in
     let settled = settled_place core.log in
     let at : IsOpenAt opened.base o.store [] o.first entries o.last =
-        subst (λ (es : List Entry). IsOpenAt opened.base o.store [] o.first es o.last) (sym (append-nil o.entries))
-        opened.opened in
+    subst (λ (es : List Entry). IsOpenAt opened.base o.store [] o.first es o.last) (sym (append-nil o.entries))
+    opened.opened in
     record {
       entry = None;
       last = o.last;

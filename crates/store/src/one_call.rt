@@ -58,16 +58,38 @@ pub fn procedure<D: CrashDisk>(
     ensures kept { (length store.new.core.records ≤ MOST_KEPT_COMMITS) ⊎ (store.new.core.log.broken ≡ true) }
     ensures model { D.keeps_model store.new.disk → D.keeps_model store.old.disk }
 {
-    an_open_store_keeps_its_files();
-    a_stop_leaves_a_beginning();
-    let verdict = match told_at_once(store, &call) {
-        Some(told) => told,
-        None => run_call(alloc, store, credential, moment, call),
-    };
+    let verdict = answer_call(alloc, store, credential, moment, call);
     if keeps_too_many(store) {
         let _ = settle(store);
     }
     verdict
+}
+
+// Answers a call: at once, where a counter is spent that it needs, or by a worker.
+fn answer_call<D: CrashDisk>(
+    alloc: Global,
+    store: &mut Store<D>,
+    credential: Credential,
+    moment: Moment,
+    call: Call,
+) -> Verdict
+    requires idle { IsIdle store.old.core }
+    requires timely { SoundTime moment }
+    requires spelled { CallFits call }
+    ensures idle { IsIdle store.new.core }
+    ensures boot { store.new.boot ≡ store.old.boot }
+    ensures answered { Answers (D.keeps_model store.new.disk)
+        (store_of (D.device store.old.disk) store.old.core store.old.boot)
+        (asked_of credential moment call) result
+        (store_of (D.device store.new.disk) store.new.core store.new.boot) }
+    ensures model { D.keeps_model store.new.disk → D.keeps_model store.old.disk }
+{
+    an_open_store_keeps_its_files();
+    a_stop_leaves_a_beginning();
+    match told_at_once(store, &call) {
+        Some(told) => told,
+        None => run_call(alloc, store, credential, moment, call),
+    }
 }
 
 // What a call is told at once: that a counter is spent, where one is.
