@@ -3,7 +3,6 @@ ghost use Rattle.std.specs.Prelude.{◌≡◌};
 ghost use Rattle.xdr.specs.Reading.{Gives};
 ghost use Rattle.nfs_results.specs.Results as codes;
 
-use crate::part::Part;
 use crate::told::{read_optional_attributes, read_optional_handle, read_text, read_verifier};
 use nfs_types::{
     Listed, ListedEntries, ListedEntriesPlus, ListedEntry, ListedEntryPlus, ListedPlus,
@@ -12,20 +11,18 @@ use std::alloc::Global;
 use xdr::{Reader, XdrFault};
 
 /// What READDIR lists.
-impl Part for Listed {
-    ghost code = { codes.listed };
-
-    #[tactic(auto, unfolding(nfs_results::specs::Results::listed))]
-    fn read(alloc: Global, reader: &mut Reader) -> Result<Listed, XdrFault> {
-        let verifier = read_verifier(reader)?;
-        let entries = read_entries(alloc, reader)?;
-        let eof = reader.flag()?;
-        Ok(Listed {
-            verifier,
-            entries,
-            eof,
-        })
-    }
+#[tactic(auto, unfolding(nfs_results::specs::Results::listed))]
+pub fn read_listed(alloc: Global, reader: &mut Reader) -> Result<Listed, XdrFault>
+    ensures { Gives (λ x. (x, reader.new)) result (codes.listed.read reader.old) }
+{
+    let verifier = read_verifier(reader)?;
+    let entries = read_entries(alloc, reader)?;
+    let eof = reader.flag()?;
+    Ok(Listed {
+        verifier,
+        entries,
+        eof,
+    })
 }
 
 // Entries, each behind a true flag, and a false one behind the last.
@@ -55,20 +52,18 @@ fn read_entry(alloc: Global, reader: &mut Reader) -> Result<ListedEntry, XdrFaul
 }
 
 /// What READDIRPLUS lists.
-impl Part for ListedPlus {
-    ghost code = { codes.listed_plus };
-
-    #[tactic(auto, unfolding(nfs_results::specs::Results::listed_plus))]
-    fn read(alloc: Global, reader: &mut Reader) -> Result<ListedPlus, XdrFault> {
-        let verifier = read_verifier(reader)?;
-        let entries = read_entries_plus(alloc, reader)?;
-        let eof = reader.flag()?;
-        Ok(ListedPlus {
-            verifier,
-            entries,
-            eof,
-        })
-    }
+#[tactic(auto, unfolding(nfs_results::specs::Results::listed_plus))]
+pub fn read_listed_plus(alloc: Global, reader: &mut Reader) -> Result<ListedPlus, XdrFault>
+    ensures { Gives (λ x. (x, reader.new)) result (codes.listed_plus.read reader.old) }
+{
+    let verifier = read_verifier(reader)?;
+    let entries = read_entries_plus(alloc, reader)?;
+    let eof = reader.flag()?;
+    Ok(ListedPlus {
+        verifier,
+        entries,
+        eof,
+    })
 }
 
 // Entries, each behind a true flag, and a false one behind the last.

@@ -6,7 +6,6 @@
 mod arguments;
 mod entries;
 mod outcomes;
-mod part;
 mod put;
 mod results;
 mod told;
