@@ -26,6 +26,16 @@ pub(crate) struct Freeing {
     ghost within: { kept ≤ FILE_INDEXES },
 }
 
+// How many indexes of a file lie below its size: none is mapped behind them.
+fn indexes_of(inode: &Inode) -> usize
+    ensures { result ≤ FILE_INDEXES }
+{
+    if inode.size >= LARGEST_FILE {
+        return FILE_INDEXES;
+    }
+    ((inode.size + BLOCK_BYTES as u64 - 1) / BLOCK_BYTES as u64) as usize
+}
+
 impl Freeing {
     /// What the file of a number asks for that is cut to this size. Its indirect block was read before.
     pub(crate) fn cut(snap: &Snap, number: u32, size: u64) -> Result<Option<Freeing>, Stop> {
@@ -117,7 +127,8 @@ impl Freeing {
     fn ask_bits(&mut self, snap: &Snap) -> Result<(), Stop>
         ensures { IfErr result (λ why. MayStop snap.now why) }
     {
-        'indexes: for index in self.at..FILE_INDEXES {
+        let end = indexes_of(&self.inode);
+        'indexes: for index in self.at..end {
             let number = block_number(snap, &self.inode, index)?;
             if number != 0 {
                 ask_block_bit(snap, number)?;
