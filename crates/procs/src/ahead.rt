@@ -317,7 +317,7 @@ fn in_a_row(alloc: Global, call: &Call, snap: &Snap, names: &Names) -> Result<Ah
         Call::Remove { name } => Ok(freed(unnamed(snap, names, name, false)?)),
         Call::RmDir { name } => Ok(freed(unnamed(snap, names, name, true)?)),
         Call::Rename { target, .. } => match named(snap, names, target)? {
-            Some(number) => Ok(freed(Freeing::gone(snap, number, false)?)),
+            Some(number) => Ok(freed(Freeing::replaced(snap, number)?)),
             None => entering(alloc, snap, target, false, false),
         },
         Call::FsStat { .. } => Ok(Ahead::Pieces(Pieces::begin())),

@@ -85,6 +85,14 @@ impl Freeing {
         }))
     }
 
+    /// What the file of a number asks for whose name another file takes: as a directory it is looked through for names.
+    pub(crate) fn replaced(snap: &Snap, number: u32) -> Result<Option<Freeing>, Stop> {
+        let Some(inode) = held(snap, number)? else {
+            return Ok(None);
+        };
+        Freeing::gone(snap, number, inode.kind == InodeKind::Directory)
+    }
+
     // Asks for the last block that stays, where a part of it is written over.
     fn ask_last(&self, snap: &Snap) -> Result<(), Stop>
         ensures { IfErr result (λ why. MayStop snap.now why) }
