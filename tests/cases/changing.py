@@ -10,7 +10,7 @@ from cases.nfs import ACCES, EXIST, FBIG, INVAL, ISDIR, MLINK, NAMETOOLONG, NOEN
 from cases.nfs import NOT_SYNC, PERM, STALE
 from cases.running import MADE, is_so, same
 
-BLOCK, LARGEST, NOW = 4096, 1032 * 4096, 2000
+BLOCK, NEAR, LARGEST, NOW = 4096, 1032 * 4096, 1_049_608 * 4096, 2000
 THEN = nfs.Time(NOW, 0)
 NONE = nfs.new_attributes()
 GUARDED, UNCHECKED, EXCLUSIVE = ((it, NONE) for it in (nfs.GUARDED, nfs.UNCHECKED, nfs.EXCLUSIVE))
@@ -34,9 +34,11 @@ def free(client):
 
 def row_the_last_byte_of_the_largest_file(client):
     file = client.create(ROOT, b"f")
+    client.write(file, NEAR, b"y")
+    takes(client, file, NEAR + 1, 3, "a byte, an inner block and the double indirect one")
     client.write(file, LARGEST - 1, b"z")
-    takes(client, file, LARGEST, 2, "a byte and the indirect block")
-    for offset, data in (LARGEST, b"z"), (LARGEST - 1, b"zz"), (2**64 - 1, b"z"), (2**32, b"z"):
+    takes(client, file, LARGEST, 5, "another byte and another inner block")
+    for offset, data in (LARGEST, b"z"), (LARGEST - 1, b"zz"), (2**64 - 1, b"z"), (2**33, b"z"):
         client.refuse(FBIG, nfs.WRITE, file, offset, len(data), nfs.UNSTABLE, data)
     client.refuse(FBIG, nfs.SETATTR, file, nfs.new_attributes(size=LARGEST + 1), None)
     part = client.do(nfs.READ, file, LARGEST - 3, 10)
@@ -437,12 +439,12 @@ def on_image(place, root, blocks, inodes, **how):
 
 
 def full_file(**more):
-    """The largest file, with all its blocks."""
-    return images.regular(size=LARGEST, mapped=range(1032), **more)
+    """The largest file without a double indirect block, with all its blocks."""
+    return images.regular(size=NEAR, mapped=range(1032), **more)
 
 
 def assert_room_behind(place, files, blocks):
-    """So many largest files lie before all that is free, and new blocks come from there."""
+    """So many of these files lie before all that is free, and new blocks come from there."""
     root = images.directory({b"%d" % it: full_file() for it in range(files)}, span=2)
     image, client = on_image(place, root, blocks, 64)
     same("what is free", free(client)[0], image.free_blocks)

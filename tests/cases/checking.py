@@ -58,8 +58,9 @@ class Reader:
         block = self.home_block(0)
         holds(MAGIC, "block 0 has no magic", len(block) == BLOCK_BYTES and block[:8] == b"NFSJRNL1")
         _, version, self.blocks, self.inodes, _, self.boot = struct.unpack_from("<8sIIIIQ", block)
-        holds(VERSION, f"version {version}", version == 1)
-        holds(RANGE, "bytes of block 0", block == wire.super_block(self.blocks, self.inodes, self.boot))
+        holds(VERSION, f"version {version}", version in (1, 2))
+        holds(RANGE, "bytes of block 0", block == wire.super_block(self.blocks, self.inodes, self.boot, version))
+        self.has_double = version == 2
         holds(RANGE, f"{self.blocks} blocks", 1024 <= self.blocks <= 1_048_576)
         holds(RANGE, f"{self.inodes} inodes", 32 <= self.inodes <= 65_536 and self.inodes % 32 == 0)
         parts = -(-self.blocks // BITS) + -(-self.inodes // BITS) + self.inodes // images.INODES_PER_BLOCK
@@ -108,30 +109,38 @@ class Reader:
             return None
         kind, mode, uid, gid, nlink, gap, size, *rest = struct.unpack_from("<6IQ6I2Q", data)
         parent, flags, verifier = struct.unpack_from("<II8s", data, 72)
-        direct, (indirect, end_gap) = struct.unpack_from("<8I", data, 88), struct.unpack_from("<II", data, 120)
+        direct, (indirect, double) = struct.unpack_from("<8I", data, 88), struct.unpack_from("<II", data, 120)
         what = f"file {number}"
         holds(RANGE, f"{what}: kind {kind}", kind in (REGULAR, DIRECTORY, LINK))
-        holds(RANGE, f"{what}: bytes of no field", gap == end_gap == 0)
+        holds(RANGE, f"{what}: bytes of no field", gap == 0 and (self.has_double or double == 0))
         holds(RANGE, f"{what}: mode {mode:o} and {nlink} links", mode <= 4095 and 1 <= nlink <= MOST_LINKS)
         holds(RANGE, f"{what}: times {rest[:6]}", all(it < 10**9 for it in rest[1:6:2]))
         has_verifier = kind == REGULAR if flags == 1 else not flags and not any(verifier)
         holds(RANGE, f"{what}: flags {flags}, verifier {verifier}", has_verifier)
         holds(RANGE, f"{what}: parent {parent}", 0 < parent < self.inodes if kind == DIRECTORY else not parent)
         self.is_unsound(f"{what}: made in boot {rest[6]}", rest[6] <= self.boot)
-        pieces = self.pieces(what, direct, indirect)
+        pieces = self.pieces(what, direct, indirect, double)
         times, stamp = (rest[0:2], rest[2:4], rest[4:6]), tuple(rest[6:])
         file = images.File(kind, size, pieces, mode, uid, gid, times, stamp, verifier if flags else None, number)
         file.nlink, file.parent = nlink, parent or None
+        holds(RANGE, f"{what}: a double indirect block", kind == REGULAR or not double)
         {REGULAR: self.check_regular, DIRECTORY: self.read_directory, LINK: self.check_link}[kind](what, file, indirect)
         return file
 
-    def pieces(self, what, direct, indirect):
-        numbers = list(direct)
-        if indirect:
-            further = struct.unpack("<1024I", self.own(what, indirect))
-            holds(RANGE, f"{what}: an indirect block without a number", any(further))
-            numbers += further
-        return {index: self.own(what, it) for index, it in enumerate(numbers) if it}
+    def pieces(self, what, direct, indirect, double):
+        numbers = {index: it for index, it in enumerate(direct) if it}
+        numbers.update(self.pointers(what, images.DIRECT, indirect))
+        for inner, it in self.pointers(what, 0, double).items():
+            numbers.update(self.pointers(what, images.NEAR + images.INDIRECT * inner, it))
+        return {index: self.own(what, it) for index, it in numbers.items()}
+
+    def pointers(self, what, first, number):
+        """The numbers in a block of a file that holds some, by their indexes from one on, if there is this block."""
+        if not number:
+            return {}
+        found = struct.unpack("<1024I", self.own(what, number))
+        holds(RANGE, f"{what}: block {number} has no number", any(found))
+        return {first + index: it for index, it in enumerate(found) if it}
 
     def check_regular(self, what, file, _):
         holds(RANGE, f"{what}: size {file.size}", file.size <= LARGEST_FILE)
@@ -150,7 +159,7 @@ class Reader:
 
     def read_directory(self, what, file, indirect):
         span = file.size // BLOCK_BYTES
-        holds(RANGE, f"{what}: size {file.size}", file.size <= LARGEST_FILE and file.size % BLOCK_BYTES == 0)
+        holds(RANGE, f"{what}: size {file.size}", file.size <= images.NEAR_BYTES and file.size % BLOCK_BYTES == 0)
         holds(RANGE, f"{what}: {file.nlink} links", file.nlink >= 2)
         is_spanned = list(file.pieces) == list(range(span)) and (indirect != 0) == (span > DIRECT)
         holds(RANGE, f"{what}: blocks {list(file.pieces)}", is_spanned)
@@ -372,12 +381,16 @@ class Spoiled:
         return BLOCK_BYTES * self.image.table + INODE_BYTES * self.number(*names)
 
     def numbers(self, *names):
-        """The block numbers of a file: those in its inode, and its indirect block's."""
-        return struct.unpack_from("<8II", self.whole, self.inode(*names) + 88)
+        """The block numbers of a file: those in its inode, and its indirect and double indirect block's."""
+        return struct.unpack_from("<8III", self.whole, self.inode(*names) + 88)
 
     def block(self, index, *names):
-        """Where a block of a file lies: one of its inode's, or the indirect block."""
+        """Where a block of a file lies: one of its inode's, the indirect block or the double one."""
         return BLOCK_BYTES * self.numbers(*names)[index]
+
+    def inner(self, *names):
+        """Where the first inner block of a file lies."""
+        return BLOCK_BYTES * struct.unpack_from("<I", self.whole, self.block(9, *names))[0]
 
     def slot(self, *names):
         """Where the slot of a name lies, in one of the blocks that the inode names."""
@@ -417,7 +430,7 @@ def test_the_faults_of_block_0_and_of_the_log(place, spoiled=Spoiled):
     it = spoiled(place)
     same("the whole image", it.fault_of(it.whole), None)
     assert_faults(it, MAGIC, {f"byte {at}": [(at, b"\xff")] for at in range(8)})
-    assert_faults(it, VERSION, {f"version {number}": [(8, four(number))] for number in (0, 2, 256, 2**24)})
+    assert_faults(it, VERSION, {f"version {number}": [(8, four(number))] for number in (0, 3, 256, 2**24)})
     assert_faults(it, RANGE, {
         "fewer blocks than the file has": [(12, four(1029))],
         "more": [(12, four(1031))],
@@ -454,11 +467,13 @@ def test_the_faults_that_one_file_shows_by_itself(place, spoiled=Spoiled):
     hello, below, full, link = it.inode(b"hello"), it.inode(b"below"), it.inode(b"full"), it.inode(b"\xff\1")
     far, free = it.block(8, b"last byte"), BLOCK_BYTES * it.image.table + INODE_BYTES * 40
     data, slot = it.image.data, it.slot(b"hello")
+    inner, double, row = it.inode(b"inner"), it.block(9, b"inner"), it.inner(b"inner")
     for what, at in ("a file", hello), ("a directory", below), ("a link", link):
         assert_faults(it, RANGE, {f"{what}: {name}": [(at + offset, value)] for name, offset, value in (
             ("kind 3", 0, four(3)), ("kind 0", 0, four(0)), ("kind 257", 0, four(257)), ("mode 010000", 4, four(0o10000)),
             ("no links", 16, four(0)), ("32001 links", 16, four(32_001)), ("a gap", 20, four(1)),
-            ("the last gap", 124, four(1)), ("a size past the largest", 24, eight(LARGEST_FILE + 4096)),
+            ("a double indirect block before the data", 124, four(1)), ("one behind the last", 124, four(1030)),
+            ("a size past the largest", 24, eight(LARGEST_FILE + 4096)),
             ("atime", 36, four(10**9)), ("mtime", 44, four(10**9)), ("ctime", 52, four(2**32 - 1)),
             ("flags", 76, four(2)), ("a verifier", 80, b"v"),
             ("a block before the data", 88, four(data - 1)), ("a block behind the last", 88, four(1030)),
@@ -471,6 +486,15 @@ def test_the_faults_that_one_file_shows_by_itself(place, spoiled=Spoiled):
         "a file of a size past the largest": [(hello + 24, eight(LARGEST_FILE + 1))],
         "a file: an indirect block without a number": [(far + 4 * 1023, four(0))],
         "a file: a number before the data": [(far, four(data - 1))],
+        "a file of version 1 with a double indirect block": [(8, four(1))],
+        "a directory with a double indirect block": [(below + 124, four(it.numbers(b"inner")[9])), (inner + 124, four(0))],
+        "a link with a double indirect block": [(link + 124, four(it.numbers(b"inner")[9])), (inner + 124, four(0))],
+        "a file: a double indirect block without a number": [(double, bytes(BLOCK_BYTES))],
+        "a file: an inner block without a number": [(row, bytes(BLOCK_BYTES))],
+        "a file: an inner block before the data": [(double, four(data - 1))],
+        "a file: an inner block behind the last": [(double, four(1030))],
+        "a file: a number in an inner block before the data": [(row, four(data - 1))],
+        "a file: a number in an inner block behind the last": [(row + 4 * 1023, four(1030))],
         "a file: a number behind the last block": [(far, four(1030))],
         "a directory with a verifier": [(below + 76, four(1))],
         "a directory with one link": [(below + 16, four(1))],
@@ -509,6 +533,10 @@ def test_the_faults_of_owners_and_bitmaps(place, spoiled=Spoiled):
         "a block of an indirect one": [(far, four(one))],
         "a block twice in an indirect one": [(far, four(it.numbers(b"last byte")[8]))],
         "an indirect block of another": [(border + 92, four(it.numbers(b"last byte")[8]))],
+        "a double indirect block of another": [(border + 92, four(it.numbers(b"inner")[9]))],
+        "an inner block of another": [(border + 92, four(it.inner(b"inner") // BLOCK_BYTES))],
+        "a block of an inner one": [(it.inner(b"inner"), four(one))],
+        "an inner block twice": [(it.block(9, b"inner") + 4, four(it.inner(b"inner") // BLOCK_BYTES))],
         "a block twice, and the other isn't used": [(hello + 92, four(one)), it.bit(BITMAP, other, 0)],
     })
     inodes = it.image.inode_bitmap

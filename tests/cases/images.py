@@ -13,7 +13,10 @@ from cases.running import BLOCKS, INODES, MADE, NEW_MODE, contents, expect, same
 BLOCK_BYTES, INODE_BYTES, SLOT_BYTES, NAME_BYTES = 4096, 128, 128, 112
 LOG_HEADER, FIRST_SLOT, LOG_SLOTS, START, BITMAP = 1, 2, 511, 513, 514
 BITS, INODES_PER_BLOCK, SLOTS, DIRECT, INDIRECT = 32768, 32, 32, 8, 1024
-LARGEST_FILE = (DIRECT + INDIRECT) * BLOCK_BYTES
+# The first index that the double indirect block reaches, and the bytes before it, which are the largest directory's too.
+NEAR = DIRECT + INDIRECT
+NEAR_BYTES = NEAR * BLOCK_BYTES
+LARGEST_FILE = (NEAR + INDIRECT * INDIRECT) * BLOCK_BYTES
 ROOT, ZEROS = 1, bytes(BLOCK_BYTES)
 REGULAR, DIRECTORY, LINK = nfs.REGULAR, nfs.DIRECTORY, nfs.LINK_TYPE
 
@@ -30,8 +33,9 @@ class File:
         self.number, self.nlink, self.parent = number, 0, None
 
     def cost(self):
-        """How many blocks it uses: one more where an index is mapped that its inode has no place for."""
-        return len(self.pieces) + any(index >= DIRECT for index in self.pieces)
+        """How many blocks it uses: those of its indexes, and each block that has the number of one of them."""
+        inner = {(index - NEAR) // INDIRECT for index in self.pieces if index >= NEAR}
+        return len(self.pieces) + any(DIRECT <= index < NEAR for index in self.pieces) + bool(inner) + len(inner)
 
     def bytes(self, offset=0, count=LARGEST_FILE):
         """A regular file's or a link's bytes from an offset on, at most so many."""
@@ -96,12 +100,12 @@ class Image:
     """The blocks of an image with this tree, each by its number: a block that isn't there is zeros. Data blocks are
     taken from the first on, or in another order of their numbers."""
 
-    def __init__(self, root, blocks=BLOCKS, inodes=INODES, boot=0, order=lambda numbers: numbers):
+    def __init__(self, root, blocks=BLOCKS, inodes=INODES, boot=0, order=lambda numbers: numbers, version=2):
         self.root, self.blocks, self.inodes = root, blocks, inodes
         self.inode_bitmap = BITMAP + -(-blocks // BITS)
         self.table = self.inode_bitmap + -(-inodes // BITS)
         self.data = self.table + inodes // INODES_PER_BLOCK
-        self.files, self.content = [], {0: wire.super_block(blocks, inodes, boot)}
+        self.files, self.content = [], {0: wire.super_block(blocks, inodes, boot, version)}
         root.stamp = (0, 0)
         self.number_files()
         free = iter(order(list(range(self.data, blocks))))
@@ -133,16 +137,24 @@ class Image:
         numbers = {index: next(free) for index in sorted(file.pieces)}
         for index, number in numbers.items():
             self.content[number] = file.pieces[index].ljust(BLOCK_BYTES, b"\0")
-        indirect = 0
-        if any(index >= DIRECT for index in numbers):
-            indirect = next(free)
-            self.content[indirect] = struct.pack("<1024I", *(numbers.get(DIRECT + it, 0) for it in range(INDIRECT)))
+        indirect = self.pointers(DIRECT, numbers, free)
+        first = [NEAR + INDIRECT * it for it in range(INDIRECT)] if any(index >= NEAR for index in numbers) else []
+        inner = {it: number for it, at in enumerate(first) if (number := self.pointers(at, numbers, free))}
+        double = self.pointers(0, inner, free)
         direct = [numbers.get(it, 0) for it in range(DIRECT)]
         at, place = self.table + file.number // INODES_PER_BLOCK, INODE_BYTES * (file.number % INODES_PER_BLOCK)
         block = bytearray(self.content.get(at, bytes(BLOCK_BYTES)))
-        block[place : place + INODE_BYTES] = inode(file, direct, indirect)
+        block[place : place + INODE_BYTES] = inode(file, direct, indirect, double)
         self.content[at] = bytes(block)
-        return [*numbers.values(), *([indirect] if indirect else [])]
+        return [*numbers.values(), *inner.values(), *(it for it in (indirect, double) if it)]
+
+    def pointers(self, first, numbers, free):
+        """Writes a block with the numbers of these indexes from one on, if there are any, and gives its number, or 0."""
+        if not any(first <= index < first + INDIRECT for index in numbers):
+            return 0
+        pointer = next(free)
+        self.content[pointer] = struct.pack("<1024I", *(numbers.get(first + it, 0) for it in range(INDIRECT)))
+        return pointer
 
     def mark(self, first, numbers, count):
         """Writes a bitmap, bit k of which is bit k mod 8, the least first, of byte k / 8. Those from the count on are set."""
@@ -198,13 +210,13 @@ def slots_of(file, index):
     return bytes(found)
 
 
-def inode(file, direct, indirect):
+def inode(file, direct, indirect, double):
     times = [it for time in (file.atime, file.mtime, file.ctime) for it in time]
     head = struct.pack("<6I", file.kind, file.mode, file.uid, file.gid, file.nlink, 0)
     middle = struct.pack("<Q6I2Q", file.size, *times, *file.stamp)
     parent = file.parent.number if file.kind == DIRECTORY else 0
     verifier = struct.pack("<II8s", parent, int(file.verifier is not None), file.verifier or b"")
-    return head + middle + verifier + struct.pack("<8III", *direct, indirect, 0)
+    return head + middle + verifier + struct.pack("<8III", *direct, indirect, double)
 
 
 def new_root():
@@ -219,7 +231,8 @@ def several():
         b"empty": regular(mode=0),
         b"hello": regular((0, b"hello"), (BLOCK_BYTES, b"there")),
         b"hole": regular((3 * BLOCK_BYTES + 5, b"x"), verifier=b"verifier"),
-        b"last byte": regular((LARGEST_FILE - 1, b"z")),
+        b"last byte": regular((NEAR_BYTES - 1, b"z")),
+        b"inner": regular((NEAR_BYTES - 3, b"border"), mapped=(NEAR + INDIRECT, NEAR + 3 * INDIRECT - 1)),
         b"mapped past its end": regular((0, b"short"), mapped=(7, 8, 1031), stamp=(2**40, 2**41)),
         b"border": regular((0, bytes(range(256)) * 160), mode=0o7777, uid=2**32 - 1, gid=2**32 - 2),
         b"twice": twice,

@@ -8,9 +8,9 @@ from cases.conversing import NO_VERIFIER, ROOT
 from cases.running import MADE, expect, is_so, same
 from cases.tcp import Server
 
-BLOCK, SPAN = images.BLOCK_BYTES, images.DIRECT + images.INDIRECT
+BLOCK, SPAN = images.BLOCK_BYTES, images.NEAR
 MOST_BLOCKS, MOST_INODES = 1_048_576, 65_536
-# What the largest file takes: its blocks and the indirect one.
+# What a file takes that ends before the double indirect block: its blocks and the indirect one.
 LARGEST_COST = SPAN + 1
 NAMES = 10_000
 
@@ -22,7 +22,7 @@ def filled(blocks, inodes, share):
     # What isn't for files, and some blocks for names, for `last`, and for what a case writes.
     rest = images.BITMAP + -(-blocks // bits) + -(-inodes // bits) + table + 128
     count = int((blocks - rest) * share) // LARGEST_COST
-    files = {b"%d" % it: images.regular(size=images.LARGEST_FILE, mapped=range(SPAN)) for it in range(count)}
+    files = {b"%d" % it: images.regular(size=images.NEAR_BYTES, mapped=range(SPAN)) for it in range(count)}
     root = images.directory({**files, b"last": images.regular((0, data))}, span=(count + 1) // images.SLOTS + 1)
     return images.Image(root, blocks, inodes), data
 

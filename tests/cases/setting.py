@@ -4,7 +4,7 @@ tree it leads to, is worked out here from RFC 1813, section 3.3.2, and docs/PROT
 import random
 
 from cases import checking, compared, conversing, images, nfs, telling, wire
-from cases.images import BLOCK_BYTES, LARGEST_FILE, ZEROS
+from cases.images import BLOCK_BYTES, LARGEST_FILE, NEAR_BYTES, ZEROS
 from cases.running import expect, same
 
 NOW = nfs.Time(2000, 0)
@@ -70,7 +70,7 @@ class Draws(compared.Stream):
 
 
 def assert_set(place, seed):
-    tree = telling.tree(telling.long_files(LARGEST_FILE), 40)
+    tree = telling.tree(telling.long_files(NEAR_BYTES + BLOCK_BYTES), 40)
     image = images.Image(tree, 2048, 256)
     path = image.write(place.path("image"))
     draws = Draws(seed)

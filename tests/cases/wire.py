@@ -125,6 +125,6 @@ def mode_and_change(stream):
     return struct.unpack_from(">I", message, at + 4)[0], struct.unpack_from(">I", message, at + 76)[0]
 
 
-def super_block(blocks, inodes, boot):
+def super_block(blocks, inodes, boot, version=2):
     """Block 0 of an image, whose numbers have the least byte first."""
-    return struct.pack("<8sIIIIQ", b"NFSJRNL1", 1, blocks, inodes, 0, boot).ljust(4096, b"\0")
+    return struct.pack("<8sIIIIQ", b"NFSJRNL1", version, blocks, inodes, 0, boot).ljust(4096, b"\0")

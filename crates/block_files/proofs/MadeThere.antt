@@ -25,7 +25,7 @@ use Rattle.layout.specs.declared.inode.InodeKind.TheVariants as kinds
 use Rattle.layout.specs.Decode.{body_of, mapped_of, named_in, node_with, numbers_of}
 use Rattle.layout.specs.Geometry.{data_at}
 use Rattle.layout.specs.Places.{is_data}
-use Rattle.layout.proofs.NumbersIn as pointers
+use Rattle.layout.proofs.FileNumbers.{near_pass}
 use Rattle.layout.proofs.OnGrid.{data_within}
 use Rattle.layout.proofs.Written.{not_same}
 use Rattle.inode_writes.specs.Linked.{linked}
@@ -113,8 +113,7 @@ none_mapped numbers e =
 
 module _ (inodes : ℕ) (content : Image) (inode : Inode) where
   no_numbers : list_all (λ n. nat_eq n 0) (numbers_of content (emptied inode)) ≡ true
-  unfolding numbers_of
-  no_numbers = pointers.none_pass content 0 refl (λ n. nat_eq n 0) refl
+  no_numbers = near_pass content (emptied inode) refl refl (λ n. nat_eq n 0) refl refl
 
   pub regular_empty : body_of inodes content kinds.Regular (emptied inode) ≡ model.Regular [] set.empty
   regular_empty = ap (model.Regular []) (none_mapped (numbers_of content (emptied inode)) no_numbers)

@@ -28,6 +28,7 @@ use Rattle.layout.specs.InodeForm.{is_sound_map, is_sound_regular}
 use Rattle.layout.specs.Owners.{owned_by}
 use Rattle.layout.specs.Parts.{content_in, parts_of, put}
 use Rattle.layout.specs.Places.{is_data}
+use Rattle.layout.proofs.FileNumbers.{in_parts}
 use Rattle.layout.proofs.Mapped.{regular-cost}
 use Rattle.layout.proofs.NumbersIn.{in_length, none_at, none_in, some_in}
 use Rattle.layout.proofs.OnGrid.{data_within}
@@ -336,8 +337,9 @@ module _ (g : Geometry) (image : Image) (tree : Tree) (n : ℕ) (inode : Inode) 
     new = numbered shown size kept
 
     pub numbers_now : numbers_of after new ≡ kept
-    unfolding numbers_of
-    numbers_now = ap (λ l. take DIRECT_INDEXES kept ++ l) (far_read (nat_eq far 0) refl)
+    numbers_now =
+        in_parts after new
+        ∙ ap (λ l. take DIRECT_INDEXES kept ++ l) (far_read (nat_eq far 0) refl)
         ∙ take-append-drop DIRECT_INDEXES kept
 
     -- ---- what it owns
@@ -383,8 +385,8 @@ module _ (g : Geometry) (image : Image) (tree : Tree) (n : ℕ) (inode : Inode) 
     is_regular = record {
       mapped = record {
         numbers = ap (list_all (is_data_block_or_none g)) numbers_now ∙ placed;
-        used = ap (λ l. nat_eq far 0 || list_any is_some (drop (length (take DIRECT_INDEXES kept)) l)) numbers_now
-            ∙ ap (λ m. nat_eq far 0 || list_any is_some (drop m kept)) eight ∙ by_test (is_far kept) refl;
+        used = ap (λ l. nat_eq far 0 || list_any is_some l) (far_read (nat_eq far 0) refl)
+            ∙ by_test (is_far kept) refl;
       };
       zeros = ap (λ l. is_zeros (drop size l)) bytes_are
           ∙ ap (λ m. is_zeros (drop m (take size all ++ replicate (whole_size - size) 0))) (sym cut_long)

@@ -1,7 +1,6 @@
 pub mod Shrunk
 pub mod Grown
 pub mod CutNumbers
-pub mod Padded
 pub mod CutBytes
 pub mod CutFile
 pub mod CutBlocks

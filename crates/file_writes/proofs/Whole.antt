@@ -41,6 +41,7 @@ has_regular snap base tree n inode has is = record {
   less = has.less;
   read = has.there;
   regular = is;
+  newest = snap.newest;
 }
 
 pub has_inode : (draft : Drafted) (blocks : Image) (tree : Tree) (n : ℕ) (inode : Inode)
@@ -123,6 +124,7 @@ regular_of draft blocks tree n inode is names = record {
   less = names.less;
   read = names.read;
   regular = names.regular;
+  newest = draft.there.newest;
 }
 
 -- its node

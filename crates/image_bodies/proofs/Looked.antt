@@ -2,7 +2,6 @@
 use Rattle.std.proofs.Common.{◌≡◌, ℕ, ◌*◌, ◌≤◌, sym, ap, ◌∙◌, refl, subst, Bool, true, false, ◌&&◌, ◌||◌, List, [], ◌∷◌, ◌++◌}
 use Rattle.std.proofs.Common.{length, map, take, drop, nat_eq, nat_le, nat_lt, Option}
 use Rattle.std.specs.List.{list_all}
-use Rattle.std.proofs.lemmas.List.{take-append-le}
 use Rattle.limits.specs.declared.TheConstants.{SLOTS_PER_BLOCK}
 use Rattle.disk.specs.Crash.{Image}
 use Rattle.layout.specs.declared.geometry.Geometry.{Geometry}
@@ -10,10 +9,11 @@ use Rattle.layout.specs.declared.inode.Inode.{Inode}
 use Rattle.layout.specs.declared.inode.InodeKind.{InodeKind}
 use Rattle.layout.specs.declared.inode.InodeKind.TheVariants.{Directory, Link, Regular}
 use Rattle.layout.specs.declared.slot.Slot.{Slot}
-use Rattle.layout.specs.Decode.{IsMapped, bytes_of, numbers_in, numbers_of, span_of}
+use Rattle.layout.specs.Decode.{IsMapped, bytes_of, numbers_of, span_of}
 use Rattle.layout.specs.Fields.{is_zeros}
 use Rattle.layout.specs.Geometry.{data_at}
 use Rattle.layout.specs.InodeForm.{is_data_block_or_none}
+use Rattle.layout.proofs.FileNumbers.{first_numbers}
 use Rattle.layout.proofs.Respelled.{all_two}
 use Rattle.image_files.specs.Slots.{HasSlots, IsSpanned, used_slots}
 use Rattle.image_links.specs.declared.links.Links.{Links}
@@ -82,10 +82,9 @@ module _ (g : Geometry) (content : Image) (inode : Inode) where
     pub link_looked : (numbers first : List ℕ) (links : Links) (tidy : Bool) → numbers ≡ numbers_of content inode
         → first ≡ take 1 numbers → 1 ≤ length inode.direct → tidy ≡ is_zeros (drop inode.size (bytes_of content first))
         → IsLookedAt g content table number Link inode links links tidy
-    unfolding numbers_of
     link_looked numbers first links tidy are is long zeros =
         let same : first ≡ take 1 inode.direct =
-        is ∙ ap (take 1) are ∙ take-append-le 1 inode.direct (numbers_in content inode.indirect) long in
+        is ∙ ap (take 1) are ∙ first_numbers content inode 1 long in
         let told : tidy ≡ is_zeros (drop inode.size (bytes_of content (take 1 inode.direct))) =
         zeros ∙ ap (λ l. is_zeros (drop inode.size (bytes_of content l))) same in
         record {

@@ -1,6 +1,6 @@
 -- A file is one by what was seen of its blocks, and back.
 use Rattle.std.proofs.Common.{◌≡◌, ℕ, ◌*◌, ◌/◌, ◌%◌, ◌≤◌, sym, ap, ◌∙◌, refl, subst, true, false, cond, not}
-use Rattle.std.proofs.Common.{◌&&◌, ◌||◌, All, IsOk, length, drop, get_or, min, is_none, nat_eq, nat_le, nat_lt, Some, Ok, arith}
+use Rattle.std.proofs.Common.{◌&&◌, ◌||◌, All, IsOk, get_or, min, is_none, nat_eq, nat_le, nat_lt, Some, Ok, arith}
 use Rattle.std.specs.List.{list_any}
 use Rattle.std.proofs.lemmas.List.FromFn.{get_or-range_with_len, length-range_with_len}
 use Rattle.limits.specs.declared.TheConstants.{BLOCK_BYTES, DIRECT_INDEXES, FILE_INDEXES, LARGEST_DIRECTORY, SLOTS_PER_BLOCK, TARGET_BYTES}
@@ -10,7 +10,8 @@ use Rattle.layout.specs.declared.geometry.Geometry.{Geometry}
 use Rattle.layout.specs.declared.inode.Inode.{Inode}
 use Rattle.layout.specs.declared.inode.InodeKind.{InodeKind}
 use Rattle.layout.specs.declared.inode.InodeKind.TheVariants.{Directory, Link, Regular}
-use Rattle.layout.specs.Decode.{IsDirectory, IsFile, IsMapped, IsOfKind, numbers_of, slot_bytes, slots_of, span_of}
+use Rattle.layout.specs.Decode.{IsDirectory, IsFile, IsMapped, IsOfKind, numbers_in, numbers_of, slot_bytes, slots_of}
+use Rattle.layout.specs.Decode.{span_of}
 use Rattle.layout.specs.InodeForm.{SoundInode, is_sound_directory, is_sound_file, is_sound_inode, is_sound_kind, is_sound_link, is_sound_map}
 use Rattle.layout.specs.InodeForm.{names_first}
 use Rattle.layout.specs.SlotForm.{read_slot}
@@ -55,8 +56,7 @@ module _ (g : Geometry) (content : Image) (inode : Inode) (sound : SoundInode g 
   link_mapped : is_sound_kind g Link inode ≡ true → IsMapped g content inode
   link_mapped good = record {
     numbers = all_placed g content inode sound (λ far. absurd (none_is inode.indirect (no_far good) far));
-    used = ap (λ b. b || list_any (λ number. not (nat_eq number 0)) (drop (length inode.direct) (numbers_of content inode)))
-        (no_far good);
+    used = ap (λ b. b || list_any (λ number. not (nat_eq number 0)) (numbers_in content inode.indirect)) (no_far good);
   }
 
   -- ---- a directory

@@ -1,18 +1,20 @@
 //! The lines of the files of a table.
 ghost use Rattle.std.specs.Prelude.{◌≡◌, ◌≤◌, ◌<◌, ℕ, None, get_or, length, IfOk, IsErrOf, OnOk};
-ghost use Rattle.limits.specs.declared.TheConstants.{MOST_INODES};
+ghost use Rattle.limits.specs.declared.TheConstants.{DOUBLE_INDEXES, MOST_INODES};
+ghost use Rattle.layout.specs.Decode.{doubled_in};
 ghost use Rattle.layout.specs.Fields.{count_of};
 ghost use Rattle.wal_law.specs.Recovery.{HasOnlyRead, IsUnspoiled};
 ghost use Rattle.image_parts.specs.Table.{CountsPart};
 ghost use Rattle.image_files.specs.Content.{content_on};
+ghost use Rattle.image_files.specs.Far.{IsBelowMapped};
 ghost use Rattle.image_lines.specs.Lines.{IsCounted, IsCountedIfAny, blocks_in, lines_below, with_line};
 
 use crate::Line;
 use disk::CrashDisk;
-use image_files::read_numbers;
+use image_files::{read_numbers, read_pointers};
 use image_parts::PartFault;
 use layout::{Geometry, Inode, InodeKind};
-use limits::BLOCK_BYTES;
+use limits::{BLOCK_BYTES, INDIRECT_INDEXES};
 use overlays::Overlay;
 use std::alloc::{AllocError, Global};
 
@@ -116,11 +118,46 @@ fn count_blocks<D: CrashDisk>(
     match inode.kind {
         InodeKind::Regular => {
             let numbers = read_numbers(alloc, disk, overlay, geometry, inode)?;
-            Ok(count(&numbers))
+            let further = count_below(alloc, disk, overlay, geometry, inode.double)?;
+            Ok(count(&numbers) + further)
         }
         InodeKind::Directory => Ok(inode.size / BLOCK_BYTES as u64),
         InodeKind::Link => Ok(1),
     }
+}
+
+// How many blocks the inner blocks of a double indirect block name, if there are any.
+#[tactic(auto, using(wal_law::proofs::OnlyRead::reads_then, wal_law::proofs::OnlyRead::no_read))]
+fn count_below<D: CrashDisk>(
+    alloc: Global,
+    disk: &mut D,
+    overlay: &Overlay,
+    geometry: &Geometry,
+    double: u32,
+) -> Result<u64, PartFault>
+    requires { geometry.now.blocks ≤ (D.device disk.old).size }
+    ensures reads { HasOnlyRead (D.device disk.old) (D.device disk.new) }
+    ensures failure { CountsPart (D.device disk.old) (D.device disk.new) result }
+    ensures model { D.keeps_model disk.new → D.keeps_model disk.old }
+    ensures few { IfOk result (λ blocks. blocks ≤ DOUBLE_INDEXES) }
+    ensures blocks { D.keeps_model disk.new → IsUnspoiled (D.device disk.old) → IfOk result (λ blocks.
+        blocks ≡ count_of (doubled_in (content_on geometry.now overlay.now (D.device disk.old)) double)) }
+    ensures refused { D.keeps_model disk.new → IsUnspoiled (D.device disk.old) → IsErrOf result PartFault.Range
+        → IsBelowMapped geometry.now (content_on geometry.now overlay.now (D.device disk.old)) double → ⊥ }
+{
+    if double == 0 {
+        return Ok(0);
+    }
+    let inner = read_pointers(alloc, disk, overlay, geometry, double)?;
+    let numbers = inner.as_slice();
+    let mut blocks = 0;
+    'inner: for index in 0..INDIRECT_INDEXES {
+        if numbers[index] != 0 {
+            let row = read_pointers(alloc, disk, overlay, geometry, numbers[index])?;
+            blocks += count(row.as_slice());
+        }
+    }
+    Ok(blocks)
 }
 
 // How many of these are numbers of blocks.

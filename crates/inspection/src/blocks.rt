@@ -7,8 +7,8 @@ ghost use Rattle.layout.specs.Decode.{span_of};
 ghost use Rattle.layout.specs.Fields.{numbers_at};
 ghost use Rattle.layout.specs.InodeForm.{is_data_block_or_none};
 ghost use Rattle.inode.specs.Read.{Saw};
-ghost use Rattle.inspection.specs.Refused.{AreRead, HasRefusedBlock, HasRefusedSlot, IsRefusedAt, Names};
-ghost use Rattle.inspection.specs.Refused.{WasReadBlock};
+ghost use Rattle.inspection.specs.Refused.{AreRead, HasRefusedBlock, HasRefusedPointer, HasRefusedSlot, IsRefusedAt};
+ghost use Rattle.inspection.specs.Refused.{IsRefusedBelow, IsRefusedPointer, Names, WasReadBlock};
 
 use disk::BlockNo;
 use inode::Snap;
@@ -34,7 +34,7 @@ fn read_block(snap: &Snap, number: u32) -> Option<&[u8]>
     }
 }
 
-// Whether an indirect block names what is no data block.
+// Whether a pointer block names what is no data block.
 fn names_others(geometry: &Geometry, block: &[u8]) -> bool
     requires { length block.now ≡ BLOCK_BYTES }
     ensures some { result ≡ true
@@ -120,18 +120,44 @@ fn is_refused_directory(snap: &Snap, inode: &Inode) -> bool
     false
 }
 
-// Whether an indirect block was read, and names what is no data block.
-fn is_refused_far(snap: &Snap, inode: &Inode) -> bool
+// Whether a pointer block was read, and names what is no data block.
+fn is_refused_pointer(snap: &Snap, pointer: u32) -> bool
     ensures some { result ≡ true → (blocks : Image) → AreRead snap.now blocks
-        → HasRefusedBlock snap.now blocks inode.now }
-    ensures none { result ≡ false → (blocks : Image) → Saw blocks snap.now → WasReadBlock snap.now blocks inode.now.indirect
-        → list_all (is_data_block_or_none snap.now.geometry) (numbers_at INDIRECT_INDEXES 0 (blocks inode.now.indirect))
-        ≡ true }
+        → IsRefusedPointer snap.now blocks pointer }
+    ensures none { result ≡ false → (blocks : Image) → Saw blocks snap.now → IsRefusedPointer snap.now blocks pointer → ⊥ }
 {
-    match read_block(snap, inode.indirect) {
+    match read_block(snap, pointer) {
         Some(block) => names_others(&snap.geometry, block),
         None => false,
     }
+}
+
+// Whether a double indirect block was read, and one of its inner blocks, which names what is no data block.
+fn is_refused_below(snap: &Snap, double: u32) -> bool
+    ensures some { result ≡ true → (blocks : Image) → AreRead snap.now blocks → IsRefusedBelow snap.now blocks double }
+    ensures none { result ≡ false → (blocks : Image) → Saw blocks snap.now → IsRefusedBelow snap.now blocks double → ⊥ }
+{
+    let Some(block) = read_block(snap, double) else {
+        return false;
+    };
+    'inner: for inner in 0..INDIRECT_INDEXES {
+        if is_refused_pointer(snap, Numbers::at(block, inner)) {
+            return true;
+        }
+    }
+    false
+}
+
+// Whether a pointer block was read of a file that names what is no data block.
+fn is_refused_far(snap: &Snap, inode: &Inode) -> bool
+    ensures some { result ≡ true → (blocks : Image) → AreRead snap.now blocks
+        → HasRefusedPointer snap.now blocks inode.now }
+    ensures none { result ≡ false → (blocks : Image) → Saw blocks snap.now
+        → HasRefusedPointer snap.now blocks inode.now → ⊥ }
+{
+    is_refused_pointer(snap, inode.indirect)
+        || is_refused_pointer(snap, inode.double)
+        || is_refused_below(snap, inode.double)
 }
 
 /// Whether the layout refuses a block of a file, as far as its blocks were read.

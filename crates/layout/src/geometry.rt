@@ -3,6 +3,7 @@ ghost use Rattle.std.specs.Prelude.{◌≡◌, ◌+◌, ◌-◌, ◌<◌, ◌≤
 ghost use Rattle.limits.specs.declared.TheConstants.{MOST_BLOCKS, INODE_BYTES};
 ghost use Rattle.layout.specs.Geometry.{IsLawful, IsLawfulSize, IsLawfulCount, bitmap_blocks};
 ghost use Rattle.layout.specs.Geometry.{inode_bitmap_at, table_at, data_at};
+ghost use Rattle.layout.specs.Newest.{newest};
 
 use crate::FormatVersion;
 use disk::BlockNo;
@@ -63,6 +64,20 @@ impl Geometry {
             blocks,
             inodes,
         })
+    }
+
+    /// The same image in the newest version of the format.
+    pub fn newest(&self) -> Geometry
+        ensures is { result ≡ newest self.now }
+        ensures version { result.version ≡ FormatVersion.Second }
+        ensures blocks { result.blocks ≡ self.now.blocks }
+        ensures inodes { result.inodes ≡ self.now.inodes }
+    {
+        Geometry {
+            version: FormatVersion::Second,
+            blocks: self.blocks,
+            inodes: self.inodes,
+        }
     }
 
     /// The first block of the bitmap of inodes.

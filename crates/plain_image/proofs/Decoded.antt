@@ -13,6 +13,7 @@ use Rattle.layout.specs.Decode.{bytes_of, content_of, inode_at, numbers_of}
 use Rattle.layout.specs.Fields.{numbers_at}
 use Rattle.layout.specs.InodeForm.{read_inode}
 use Rattle.layout.specs.Places.{inode_block, inode_offset}
+use Rattle.layout.proofs.FileNumbers.{in_parts}
 use Rattle.layout.proofs.NumbersIn.{in_length, none_in, some_in}
 use Rattle.model.specs.Node.{DirectoryEntry}
 use Rattle.layout.specs.declared.slot.TheConstants.{SLOT_BYTES}
@@ -30,18 +31,17 @@ inode_there g image number = refl
 -- a file without an indirect block
 pub direct_only : (image : Image) (inode : Inode) → inode.indirect ≡ 0
     → numbers_of image inode ≡ inode.direct ++ replicate INDIRECT_INDEXES 0
-unfolding numbers_of
 direct_only image inode none =
-    ap (λ l. inode.direct ++ l) (none_in image inode.indirect (ap (λ n. nat_eq n 0) none)
+    in_parts image inode
+    ∙ ap (λ l. inode.direct ++ l) (none_in image inode.indirect (ap (λ n. nat_eq n 0) none)
     ∙ ap (λ n. replicate n 0) (in_length image inode.indirect))
 
 -- a file with one
 pub with_indirect : (image : Image) (inode : Inode) → (inode.indirect ≡ 0 → ⊥)
     → numbers_of image inode ≡ inode.direct ++ numbers_at INDIRECT_INDEXES 0 (image inode.indirect)
-unfolding numbers_of
 with_indirect image inode some = elim (eqb_tells inode.indirect 0) [
   | inl is ↦ absurd (some is.1)
-  | inr isnt ↦ ap (λ l. inode.direct ++ l) (some_in image inode.indirect isnt.0)
+  | inr isnt ↦ in_parts image inode ∙ ap (λ l. inode.direct ++ l) (some_in image inode.indirect isnt.0)
 ]
 
 pub none_there : {P : Type 0} (number : ℕ) → number ≡ 0 → nat_eq number 0 ≡ false → P

@@ -49,7 +49,7 @@ module _ (g : Geometry) (image : Image) where
   module _ (inode : Inode) (sound : SoundInode g inode)
       (places : list_all (is_data_block_or_none g) (numbers_of image inode) ≡ true) where
     owned_same : AllByRecursion IsSame (owned_by image (Ok (Some inode)))
-    owned_same = all_same (pointer_blocks inode ++ numbers_of image inode)
+    owned_same = all_same (pointer_blocks image inode ++ numbers_of image inode)
         (both_true (is_data_block_or_none g inode.indirect)
         (list_all (is_data_block_or_none g) (numbers_of image inode)) (maps g inode sound).1 places)
 

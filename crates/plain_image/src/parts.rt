@@ -1,7 +1,8 @@
 //! The parts of a file: its inode, the numbers of its blocks, their bytes, and the names in them.
 ghost use Rattle.std.specs.Prelude.{◌≡◌, ◌≤◌, ◌<◌, ◌/◌, ◌++◌, true, false, length, All, IsOk, IfOk, IfErr};
 ghost use Rattle.std.specs.Prelude.{IfSome, OnOk};
-ghost use Rattle.limits.specs.declared.TheConstants.{BLOCK_BYTES, INDIRECT_INDEXES, LARGEST_DIRECTORY};
+ghost use Rattle.limits.specs.declared.TheConstants.{BLOCK_BYTES, FIRST_DOUBLE_INDEX, INDIRECT_INDEXES};
+ghost use Rattle.limits.specs.declared.TheConstants.{LARGEST_DIRECTORY};
 ghost use Rattle.disk.specs.Memory.{image_of, memory_device};
 ghost use Rattle.model.specs.SetAttr.{resized};
 ghost use Rattle.std.specs.List.{list_all};
@@ -17,7 +18,7 @@ ghost use Rattle.layout.specs.SlotForm.{read_slot};
 use crate::ImageFault;
 use disk::{BlockNo, MemDisk};
 use layout::{Geometry, Inode, Numbers, SLOT_BYTES, Slot};
-use limits::{BLOCK_BYTES, FILE_INDEXES, INDIRECT_INDEXES};
+use limits::{BLOCK_BYTES, FIRST_DOUBLE_INDEX, INDIRECT_INDEXES};
 use nfs_types::Octets;
 use std::alloc::{AllocError, Global};
 
@@ -78,7 +79,30 @@ fn indirect(
     Ok(numbers)
 }
 
-/// The numbers of a file's blocks, index by index, 0 where none is mapped.
+// Adds the numbers in inner blocks, up to the last that is there.
+fn add_inner(
+    alloc: Global,
+    disk: &MemDisk,
+    geometry: &Geometry,
+    inner: &[u32],
+    numbers: &mut Vec<u32>,
+) -> Result<(), ImageFault>
+    requires len { length inner.now ≡ INDIRECT_INDEXES }
+    requires fits { geometry.now.blocks ≤ (memory_device disk.now).size }
+    requires placed { list_all (is_data_block_or_none geometry.now) inner.now ≡ true }
+    requires numbers { length numbers.old.items ≡ FIRST_DOUBLE_INDEX }
+{
+    'inner: for index in 0..INDIRECT_INDEXES {
+        if inner[index] != 0 {
+            numbers.resize(FIRST_DOUBLE_INDEX + INDIRECT_INDEXES * index, 0)?;
+            let row = indirect(alloc, disk, geometry, inner[index])?;
+            numbers.extend_from_slice(row.as_slice())?;
+        }
+    }
+    Ok(())
+}
+
+/// The numbers of a file's blocks, index by index, 0 where none is mapped, up to its last inner block.
 pub(crate) fn numbers_of(
     alloc: Global,
     disk: &MemDisk,
@@ -92,13 +116,17 @@ pub(crate) fn numbers_of(
     ensures refused { IfErr result (IsRangeFor (list_all (is_data_block_or_none geometry.now)
         (numbers_of (image_of disk.now) inode.now) ≡ false)) }
 {
-    let mut numbers = Vec::with_capacity(alloc, FILE_INDEXES)?;
+    let mut numbers = Vec::with_capacity(alloc, FIRST_DOUBLE_INDEX)?;
     numbers.extend_from_slice(&inode.direct)?;
     if inode.indirect == 0 {
         numbers.extend_from_slice(&[0; INDIRECT_INDEXES])?;
     } else {
         let more = indirect(alloc, disk, geometry, inode.indirect)?;
         numbers.extend_from_slice(more.as_slice())?;
+    }
+    if inode.double != 0 {
+        let inner = indirect(alloc, disk, geometry, inode.double)?;
+        add_inner(alloc, disk, geometry, inner.as_slice(), &mut numbers)?;
     }
     Ok(numbers)
 }
@@ -137,6 +165,9 @@ pub(crate) fn bytes_of(
 {
     let mut bytes = Vec::new(alloc);
     'each: for number in numbers {
+        if bytes.len() >= size {
+            break;
+        }
         push_block(disk, *number, &mut bytes)?;
     }
     bytes.resize(size, 0)?;

@@ -8,6 +8,7 @@ ghost use Rattle.procedures.specs.Listing.{entry_room};
 use crate::entering::Entering;
 use crate::next::Plan;
 use crate::pieces::Pieces;
+use crate::pointers::{Pointers, pointers_of};
 use crate::writing::Writing;
 use block_files::BlockFiles;
 use files::{Files, Head};
@@ -22,7 +23,7 @@ use procedures::{ITSELF_COOKIE, PARENT_COOKIE};
 use std::alloc::{AllocError, Global};
 
 /// Nothing; the blocks of a file that a READ asks for; what a WRITE asks for; what a name asks for
-/// that a directory gets; what a listing asks for; or the bitmaps.
+/// that a directory gets; what a listing asks for; the bitmaps; or the pointer blocks of a file.
 #[derive(Drop)]
 pub(crate) enum Ahead {
     Nothing,
@@ -31,6 +32,7 @@ pub(crate) enum Ahead {
     Entering(Entering),
     Listing(Listing),
     Pieces(Pieces),
+    Pointers(Pointers),
 }
 
 /// The blocks of a file from an index on up to another.
@@ -43,7 +45,7 @@ pub(crate) struct Blocks {
 }
 
 /// A listing: the slot from which it goes on, the room that is left for names and for the whole, and the numbers that it
-/// has listed, of which the first were told; these only where their files are told.
+/// has listed, of which the first were told; these only where their files are told, with the pointer blocks of the next.
 #[derive(Drop)]
 pub(crate) struct Listing {
     directory: Head,
@@ -55,6 +57,7 @@ pub(crate) struct Listing {
     is_full: bool,
     numbers: Vec<u32>,
     told: usize,
+    pointers: Option<Pointers>,
 }
 
 // How far a listing is with what a directory lists, as long as there is room.
@@ -98,14 +101,35 @@ impl Listing {
     }
 
     // Tells the files of what was listed.
-    fn tell(&mut self, files: &BlockFiles) -> Result<(), Stop>
-        ensures { IfErr result (λ why. MayStop files.now.snap.now why) }
+    fn tell(&mut self, files: &BlockFiles, snap: &Snap) -> Result<(), Stop>
+        requires { files.now.snap.now ≡ snap.now }
+        ensures { IfErr result (λ why. MayStop snap.now why) }
     {
         'numbers: while self.told < self.numbers.len() {
+            self.ask_pointers(snap)?;
             files.file(self.numbers[self.told])?;
             self.told += 1;
+            self.pointers = None;
         }
         Ok(())
+    }
+
+    // Asks for the pointer blocks of the next file that is told.
+    fn ask_pointers(&mut self, snap: &Snap) -> Result<(), Stop>
+        ensures { IfErr result (λ why. MayStop snap.now why) }
+    {
+        if self.told >= self.numbers.len() {
+            return Ok(());
+        }
+        if self.pointers.is_none() {
+            if let Some(inode) = held(snap, self.numbers[self.told])? {
+                self.pointers = Some(Pointers::begin(inode));
+            }
+        }
+        match self.pointers.as_mut() {
+            Some(pointers) => pointers.go_on(snap),
+            None => Ok(()),
+        }
     }
 
     fn go_on(&mut self, alloc: Global, snap: &Snap) -> Result<(), Stop>
@@ -113,7 +137,7 @@ impl Listing {
     {
         let files = BlockFiles::new(alloc, snap);
         match self.list(alloc, &files) {
-            Ok(()) => self.tell(&files),
+            Ok(()) => self.tell(&files, snap),
             Err(stop) => Err(stop),
         }
     }
@@ -142,6 +166,7 @@ impl Ahead {
             Ahead::Entering(entering) => entering.go_on(snap),
             Ahead::Listing(listing) => listing.go_on(alloc, snap),
             Ahead::Pieces(pieces) => pieces.go_on(snap),
+            Ahead::Pointers(pointers) => pointers.go_on(snap),
         }
     }
 
@@ -210,6 +235,7 @@ fn listing_of(
         is_full: false,
         numbers: Vec::new(alloc),
         told: 0,
+        pointers: None,
     };
     if cookie < ITSELF_COOKIE {
         listing.add(directory.number, b".")?;
@@ -315,6 +341,13 @@ fn is_asked(plan: &Plan, next: &Option<Stop>) -> bool {
 pub(crate) fn behind(alloc: Global, call: &Call, snap: &Snap, plan: &Plan) -> Ahead {
     if !matches!(plan, Plan::Need(..) | Plan::Claim(_)) {
         return Ahead::Nothing;
+    }
+    if let Some(pointers) = pointers_of(snap, call) {
+        let mut ahead = Ahead::Pointers(pointers);
+        let next = ahead.next(alloc, snap);
+        if is_asked(plan, &next) {
+            return ahead;
+        }
     }
     let Ok(mut ahead) = in_a_row(alloc, call, snap) else {
         return Ahead::Nothing;

@@ -13,6 +13,7 @@ mod free;
 mod next;
 mod pieces;
 mod planner;
+mod pointers;
 mod reading;
 mod refused;
 mod rules;

@@ -36,6 +36,7 @@ impl Planner {
     ghost use Rattle.model.specs.Calls.{begins_transaction};
     ghost use Rattle.model.specs.Find.{number_in};
     ghost use Rattle.layout.specs.declared.inode.Inode.{Inode};
+    ghost use Rattle.layout.specs.declared.version.FormatVersion.TheVariants.{Second};
     ghost use Rattle.layout.specs.Decode.{inode_at, span_of};
     ghost use Rattle.inode.specs.declared.snap.Snap.{Snap};
     ghost use Rattle.inode.specs.Read.{Saw};
@@ -50,6 +51,7 @@ impl Planner {
     /// Nothing was read yet. Free blocks are looked for from a piece of their bitmap on, and what is read is asked for in
     /// a mode.
     pub fn new(alloc: Global, geometry: Geometry, from: u32, asks: Mode) -> Planner
+        requires { geometry.version ≡ Second }
         ensures geometry { result.snap.geometry ≡ geometry }
         ensures asks { result.snap.asks ≡ asks }
         ensures objects { result.snap.objects.items ≡ [] }

@@ -61,7 +61,7 @@ pub fn format<D: CrashDisk>(
         → LeavesByFormat (D.device disk.old) inodes moment result (D.device disk.new) }
     ensures model { D.keeps_model disk.new → D.keeps_model disk.old }
 {
-    let geometry = match Geometry::new(FormatVersion::First, disk.blocks(), inodes) {
+    let geometry = match Geometry::new(FormatVersion::Second, disk.blocks(), inodes) {
         Ok(geometry) => geometry,
         Err(GeometryFault::Size) => return Err(FormatFault::Size),
         Err(GeometryFault::Inodes) => return Err(FormatFault::Inodes),

@@ -107,7 +107,7 @@ fn recover<D: CrashDisk>(alloc: Global, disk: &mut D) -> Result<(Core<Done>, u64
     }
     core.lawful();
     let raised = Super {
-        geometry: found.geometry,
+        geometry: found.geometry.newest(),
         boot,
     };
     if let Err(fault) = raise(alloc, disk, &mut block, raised) {

@@ -380,7 +380,7 @@ const ROWS: [Row; 15] = [
 
 #[test]
 fn the_files_of_an_image_are_looked_at(rt: HostRuntime) -> Result<(), Fail> {
-    let geometry = Geometry::new(FormatVersion::First, LEAST_BLOCKS, LEAST_INODES)?;
+    let geometry = Geometry::new(FormatVersion::Second, LEAST_BLOCKS, LEAST_INODES)?;
     for row in &ROWS {
         let mut disk = fresh(rt.alloc(), geometry)?;
         let overlay = Overlay::new(filled(rt.alloc(), &disk, row.changes)?);

@@ -19,7 +19,7 @@ use worked::procedures::{Asked, File, ROOT, UNSET, ZEROS, call};
 const INODES: u32 = 128;
 
 const GEOMETRY: Geometry = Geometry {
-    version: FormatVersion::First,
+    version: FormatVersion::Second,
     blocks: LEAST_BLOCKS,
     inodes: INODES,
 };

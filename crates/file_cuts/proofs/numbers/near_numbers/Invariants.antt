@@ -7,7 +7,7 @@ use Rattle.layout.specs.Decode.{numbers_of}
 use Rattle.layout.specs.InodeForm.{is_data_block_or_none}
 use Rattle.layout.specs.Parts.{content_in}
 use Rattle.inode.specs.Over.{HasInode}
-use Rattle.file_cuts.proofs.numbers.all_numbers.Given as goal
+use Rattle.file_cuts.proofs.numbers.near_numbers.Given as goal
 
 abbrev pub invariant-indexes : goal.invariant-indexes
 invariant-indexes l = (length l.numbers.items ≡ l.index)

@@ -7,7 +7,7 @@ use Rattle.layout.specs.InodeForm.{is_data_block_or_none}
 use Rattle.wal_law.specs.Recovery.{image_of}
 use Rattle.overlays.specs.LaidOver.{laid_over}
 use Rattle.image_files.proofs.Mapped.{all_none, not_all}
-use Rattle.image_files.proofs.numbers.read_far.Goals as goal
+use Rattle.image_files.proofs.numbers.read_pointers.Goals as goal
 
 pub returns-then-are_none-clause-refused : goal.returns-then-are_none-clause-refused
 returns-then-are_none-clause-refused g c = λ keeps unspoiled range numbers far.
