@@ -8,7 +8,7 @@ import struct
 
 from cases import images, nfs, wire
 from cases.images import BITMAP, BITS, BLOCK_BYTES, DIRECT, DIRECTORY, INODE_BYTES, LARGEST_FILE, LINK, LOG_SLOTS
-from cases.images import REGULAR, ROOT, SLOT_BYTES, SLOTS, ZEROS
+from cases.images import REGULAR, ROOT, SLOT_BYTES, SLOTS, SPAN, ZEROS
 from cases.running import contents, is_so, same
 
 MOST_LINKS, TARGET_BYTES, LAST_BOOT = 32_000, 1024, 2**64 - 1
@@ -57,10 +57,9 @@ class Reader:
     def read_super_block(self):
         block = self.home_block(0)
         holds(MAGIC, "block 0 has no magic", len(block) == BLOCK_BYTES and block[:8] == b"NFSJRNL1")
-        _, version, self.blocks, self.inodes, _, self.boot = struct.unpack_from("<8sIIIIQ", block)
-        holds(VERSION, f"version {version}", version in (1, 2))
-        holds(RANGE, "bytes of block 0", block == wire.super_block(self.blocks, self.inodes, self.boot, version))
-        self.has_double = version == 2
+        _, self.version, self.blocks, self.inodes, _, self.boot = struct.unpack_from("<8sIIIIQ", block)
+        holds(VERSION, f"version {self.version}", self.version in images.LARGEST_FILES)
+        holds(RANGE, "bytes of block 0", block == wire.super_block(self.blocks, self.inodes, self.boot, self.version))
         holds(RANGE, f"{self.blocks} blocks", 1024 <= self.blocks <= 1_048_576)
         holds(RANGE, f"{self.inodes} inodes", 32 <= self.inodes <= 65_536 and self.inodes % 32 == 0)
         parts = -(-self.blocks // BITS) + -(-self.inodes // BITS) + self.inodes // images.INODES_PER_BLOCK
@@ -112,7 +111,7 @@ class Reader:
         direct, (indirect, double) = struct.unpack_from("<8I", data, 88), struct.unpack_from("<II", data, 120)
         what = f"file {number}"
         holds(RANGE, f"{what}: kind {kind}", kind in (REGULAR, DIRECTORY, LINK))
-        holds(RANGE, f"{what}: bytes of no field", gap == 0 and (self.has_double or double == 0))
+        holds(RANGE, f"{what}: bytes of no field", gap == 0 and (self.version > 1 or double == 0))
         holds(RANGE, f"{what}: mode {mode:o} and {nlink} links", mode <= 4095 and 1 <= nlink <= MOST_LINKS)
         holds(RANGE, f"{what}: times {rest[:6]}", all(it < 10**9 for it in rest[1:6:2]))
         has_verifier = kind == REGULAR if flags == 1 else not flags and not any(verifier)
@@ -123,32 +122,34 @@ class Reader:
         times, stamp = (rest[0:2], rest[2:4], rest[4:6]), tuple(rest[6:])
         file = images.File(kind, size, pieces, mode, uid, gid, times, stamp, verifier if flags else None, number)
         file.nlink, file.parent = nlink, parent or None
-        holds(RANGE, f"{what}: a double indirect block", kind == REGULAR or not double)
-        {REGULAR: self.check_regular, DIRECTORY: self.read_directory, LINK: self.check_link}[kind](what, file, indirect)
+        {REGULAR: self.check_regular, DIRECTORY: self.read_directory, LINK: self.check_link}[kind](what, file)
         return file
 
     def pieces(self, what, direct, indirect, double):
-        numbers = {index: it for index, it in enumerate(direct) if it}
-        numbers.update(self.pointers(what, images.DIRECT, indirect))
-        for inner, it in self.pointers(what, 0, double).items():
-            numbers.update(self.pointers(what, images.NEAR + images.INDIRECT * inner, it))
-        return {index: self.own(what, it) for index, it in numbers.items()}
+        """A file's blocks by their indexes. One that has numbers of blocks is there only where it has that of a block."""
+        found = {DIRECT: self.numbers(what, indirect)}
+        for place, inner in enumerate(self.numbers(what, double)):
+            found[SPAN + place * images.INDIRECT] = self.numbers(what, inner)
+        pieces = {index: self.own(what, it) for index, it in enumerate(direct) if it}
+        for first, numbers in found.items():
+            pieces.update((index, self.own(what, it)) for index, it in enumerate(numbers, first) if it)
+        return pieces
 
-    def pointers(self, what, first, number):
-        """The numbers in a block of a file that holds some, by their indexes from one on, if there is this block."""
-        if not number:
-            return {}
-        found = struct.unpack("<1024I", self.own(what, number))
-        holds(RANGE, f"{what}: block {number} has no number", any(found))
-        return {first + index: it for index, it in enumerate(found) if it}
+    def numbers(self, what, block):
+        """The numbers that a block has, which is one of a file's pointer blocks, or none."""
+        if not block:
+            return ()
+        found = struct.unpack("<1024I", self.own(what, block))
+        holds(RANGE, f"{what}: block {block} has no number of a block", any(found))
+        return found
 
-    def check_regular(self, what, file, _):
-        holds(RANGE, f"{what}: size {file.size}", file.size <= LARGEST_FILE)
+    def check_regular(self, what, file):
+        holds(RANGE, f"{what}: size {file.size}", file.size <= images.LARGEST_FILES[max(self.version, wire.FORMAT)])
         self.check_end(what, file)
 
-    def check_link(self, what, file, indirect):
+    def check_link(self, what, file):
         holds(RANGE, f"{what}: size {file.size}", 1 <= file.size <= TARGET_BYTES)
-        holds(RANGE, f"{what}: blocks {list(file.pieces)}", list(file.pieces) == [0] and not indirect)
+        holds(RANGE, f"{what}: blocks {list(file.pieces)}", list(file.pieces) == [0])
         self.check_end(what, file)
 
     def check_end(self, what, file):
@@ -157,12 +158,11 @@ class Reader:
             end = max(0, file.size - index * BLOCK_BYTES)
             self.is_unsound(f"{what}: bytes past its size, in {index}", end >= BLOCK_BYTES or piece[end:] == ZEROS[end:])
 
-    def read_directory(self, what, file, indirect):
+    def read_directory(self, what, file):
         span = file.size // BLOCK_BYTES
-        holds(RANGE, f"{what}: size {file.size}", file.size <= images.NEAR_BYTES and file.size % BLOCK_BYTES == 0)
+        holds(RANGE, f"{what}: size {file.size}", span <= SPAN and file.size % BLOCK_BYTES == 0)
         holds(RANGE, f"{what}: {file.nlink} links", file.nlink >= 2)
-        is_spanned = list(file.pieces) == list(range(span)) and (indirect != 0) == (span > DIRECT)
-        holds(RANGE, f"{what}: blocks {list(file.pieces)}", is_spanned)
+        holds(RANGE, f"{what}: blocks {list(file.pieces)}", list(file.pieces) == list(range(span)))
         names = set()
         for index, piece in file.pieces.items():
             for place in range(SLOTS) if piece is not ZEROS else ():
@@ -381,16 +381,12 @@ class Spoiled:
         return BLOCK_BYTES * self.image.table + INODE_BYTES * self.number(*names)
 
     def numbers(self, *names):
-        """The block numbers of a file: those in its inode, and its indirect and double indirect block's."""
+        """The block numbers in a file's inode: eight of its own, its indirect block's, and its double indirect one's."""
         return struct.unpack_from("<8III", self.whole, self.inode(*names) + 88)
 
     def block(self, index, *names):
-        """Where a block of a file lies: one of its inode's, the indirect block or the double one."""
+        """Where one of the blocks lies that a file's inode names."""
         return BLOCK_BYTES * self.numbers(*names)[index]
-
-    def inner(self, *names):
-        """Where the first inner block of a file lies."""
-        return BLOCK_BYTES * struct.unpack_from("<I", self.whole, self.block(9, *names))[0]
 
     def slot(self, *names):
         """Where the slot of a name lies, in one of the blocks that the inode names."""
@@ -467,13 +463,11 @@ def test_the_faults_that_one_file_shows_by_itself(place, spoiled=Spoiled):
     hello, below, full, link = it.inode(b"hello"), it.inode(b"below"), it.inode(b"full"), it.inode(b"\xff\1")
     far, free = it.block(8, b"last byte"), BLOCK_BYTES * it.image.table + INODE_BYTES * 40
     data, slot = it.image.data, it.slot(b"hello")
-    inner, double, row = it.inode(b"inner"), it.block(9, b"inner"), it.inner(b"inner")
     for what, at in ("a file", hello), ("a directory", below), ("a link", link):
         assert_faults(it, RANGE, {f"{what}: {name}": [(at + offset, value)] for name, offset, value in (
             ("kind 3", 0, four(3)), ("kind 0", 0, four(0)), ("kind 257", 0, four(257)), ("mode 010000", 4, four(0o10000)),
             ("no links", 16, four(0)), ("32001 links", 16, four(32_001)), ("a gap", 20, four(1)),
-            ("a double indirect block before the data", 124, four(1)), ("one behind the last", 124, four(1030)),
-            ("a size past the largest", 24, eight(LARGEST_FILE + 4096)),
+            ("a number before the data, or a gap", 124, four(1)), ("a size past the largest", 24, eight(LARGEST_FILE + 4096)),
             ("atime", 36, four(10**9)), ("mtime", 44, four(10**9)), ("ctime", 52, four(2**32 - 1)),
             ("flags", 76, four(2)), ("a verifier", 80, b"v"),
             ("a block before the data", 88, four(data - 1)), ("a block behind the last", 88, four(1030)),
@@ -486,15 +480,6 @@ def test_the_faults_that_one_file_shows_by_itself(place, spoiled=Spoiled):
         "a file of a size past the largest": [(hello + 24, eight(LARGEST_FILE + 1))],
         "a file: an indirect block without a number": [(far + 4 * 1023, four(0))],
         "a file: a number before the data": [(far, four(data - 1))],
-        "a file of version 1 with a double indirect block": [(8, four(1))],
-        "a directory with a double indirect block": [(below + 124, four(it.numbers(b"inner")[9])), (inner + 124, four(0))],
-        "a link with a double indirect block": [(link + 124, four(it.numbers(b"inner")[9])), (inner + 124, four(0))],
-        "a file: a double indirect block without a number": [(double, bytes(BLOCK_BYTES))],
-        "a file: an inner block without a number": [(row, bytes(BLOCK_BYTES))],
-        "a file: an inner block before the data": [(double, four(data - 1))],
-        "a file: an inner block behind the last": [(double, four(1030))],
-        "a file: a number in an inner block before the data": [(row, four(data - 1))],
-        "a file: a number in an inner block behind the last": [(row + 4 * 1023, four(1030))],
         "a file: a number behind the last block": [(far, four(1030))],
         "a directory with a verifier": [(below + 76, four(1))],
         "a directory with one link": [(below + 16, four(1))],
@@ -533,10 +518,6 @@ def test_the_faults_of_owners_and_bitmaps(place, spoiled=Spoiled):
         "a block of an indirect one": [(far, four(one))],
         "a block twice in an indirect one": [(far, four(it.numbers(b"last byte")[8]))],
         "an indirect block of another": [(border + 92, four(it.numbers(b"last byte")[8]))],
-        "a double indirect block of another": [(border + 92, four(it.numbers(b"inner")[9]))],
-        "an inner block of another": [(border + 92, four(it.inner(b"inner") // BLOCK_BYTES))],
-        "a block of an inner one": [(it.inner(b"inner"), four(one))],
-        "an inner block twice": [(it.block(9, b"inner") + 4, four(it.inner(b"inner") // BLOCK_BYTES))],
         "a block twice, and the other isn't used": [(hello + 92, four(one)), it.bit(BITMAP, other, 0)],
     })
     inodes = it.image.inode_bitmap
@@ -600,7 +581,7 @@ def test_of_several_faults_the_first_is_told(place, spoiled=Spoiled):
     it = spoiled(place)
     changes = [
         (MAGIC, (0, b"x")),
-        (VERSION, (8, b"\2")),
+        (VERSION, (8, b"\3")),
         (RANGE, (4095, b"\1")),
         (LOG, (BLOCK_BYTES * images.START, b"\1")),
         (RANGE, (it.inode(b"far"), four(3))),

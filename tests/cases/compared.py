@@ -11,14 +11,14 @@ import os
 import random
 import struct
 
-from cases import checking, conversing, nfs, plain, wire
+from cases import checking, conversing, images, nfs, plain, wire
 from cases.running import MADE, expect, same
 
 FIRST_SEED = int(os.environ.get("FIRST_SEED", "0"))
 SEEDS, SEEDS_OF_A_CASE, CALLS, NOW = 200, 10, 80, 2000
 # Counts of blocks and inodes: enough of both; and few numbers, or few data blocks, which are soon used up.
 ROOMY, NARROW = (1024, 64), [(1024, 32), (1024, 14_208)]
-BLOCK, NEAR, LARGEST = 4096, 1032 * 4096, 1_049_608 * 4096
+BLOCK, LARGEST = 4096, images.LARGEST_FILE
 ROOT, MOUNT = nfs.handle(1, 0, 0), 100005
 
 # How often each procedure is drawn, of those that are served.
