@@ -3,7 +3,6 @@ ghost use Rattle.std.specs.Prelude.{◌≡◌, ◌+◌, ◌-◌, ◌<◌, ◌≤
 ghost use Rattle.limits.specs.declared.TheConstants.{MOST_BLOCKS, INODE_BYTES};
 ghost use Rattle.layout.specs.Geometry.{IsLawful, IsLawfulSize, IsLawfulCount, bitmap_blocks};
 ghost use Rattle.layout.specs.Geometry.{inode_bitmap_at, table_at, data_at};
-ghost use Rattle.layout.specs.Newest.{newest};
 
 use crate::FormatVersion;
 use disk::BlockNo;
@@ -37,6 +36,7 @@ pub struct Geometry {
 }
 
 impl Geometry {
+    ghost use Rattle.layout.specs.Newest.{newest};
     ghost use Rattle.layout.specs.Places.{is_data, inode_block, inode_offset};
 
     /// The geometry of an image of this version and these sizes. Blocks below 1024 or above 1048576 are refused
