@@ -65,7 +65,10 @@ fn cut_all(alloc: Global, snap: &Snap, inode: &Inode, count: usize) -> Result<Cu
     ensures pause { IfErr result (λ stop. (blocks : Image) (tree : Tree) (file : ℕ)
         → HasInode snap.now blocks tree file inode.now → IsPause stop) }
 {
-    if !is_placed(snap, inode.indirect) || !is_placed(snap, inode.double) {
+    if !is_placed(snap, inode.indirect) {
+        return Err(Stop::Io);
+    }
+    if !is_placed(snap, inode.double) {
         return Err(Stop::Io);
     }
     let indirect = indirect_numbers(alloc, snap, inode)?;

@@ -83,11 +83,28 @@ fn cut_inner(
     )?;
     add(&mut inners.numbers, row.pointer)?;
     inners.used += row.used;
-    if index == count / INDIRECT_INDEXES {
-        inners.part = row.pointer;
-        inners.part_numbers = row.numbers;
+    if index != count / INDIRECT_INDEXES {
+        return Ok(());
     }
+    inners.part = row.pointer;
+    inners.part_numbers = row.numbers;
     Ok(())
+}
+
+// What stays of no inner blocks.
+fn no_inners(alloc: Global) -> Result<Inners, AllocError>
+    ensures numbers { IfOk result (λ inners. inners.numbers.items ≡ []) }
+    ensures part { IfOk result (λ inners. inners.part ≡ 0) }
+    ensures count { IfOk result (λ inners. length inners.part_numbers.items ≡ INDIRECT_INDEXES) }
+    ensures used { IfOk result (λ inners. inners.used ≡ 0) }
+{
+    let zeros = vec![in alloc; 0; INDIRECT_INDEXES]?;
+    Ok(Inners {
+        numbers: Vec::new(alloc),
+        part: 0,
+        part_numbers: zeros,
+        used: 0,
+    })
 }
 
 // Cuts the inner blocks of these numbers.
@@ -110,12 +127,7 @@ fn cut_inners(
         → list_all (λ pointer. list_all (is_data_block_or_none snap.now.geometry)
         (numbers_in (content_in snap.now.geometry blocks) pointer)) pointers.now ≡ true → IsPause stop) }
 {
-    let mut inners = Inners {
-        numbers: Vec::new(alloc),
-        part: 0,
-        part_numbers: vec![in alloc; 0; INDIRECT_INDEXES]?,
-        used: 0,
-    };
+    let mut inners = no_inners(alloc)?;
     for pointer in pointers {
         cut_inner(alloc, snap, *pointer, count, &mut inners, gone)?;
     }

@@ -32,14 +32,12 @@ pub(crate) fn count_some(numbers: &[u32]) -> u32
 }
 
 // Adds those of the numbers that are those of blocks.
-fn add_some(numbers: &[u32], gone: &mut Vec<u32>) -> Result<(), AllocError>
+fn add_some(alloc: Global, numbers: &[u32], gone: &mut Vec<u32>) -> Result<(), AllocError>
     ensures { OnOk result (gone.new.items ≡ gone.old.items ++ filter is_some numbers.now) }
 {
-    for number in numbers {
-        if *number != 0 {
-            gone.push(*number)?;
-        }
-    }
+    let mut some = Vec::from_slice(alloc, numbers)?;
+    some.retain(|number| *number != 0);
+    gone.extend_from_slice(&some)?;
     Ok(())
 }
 
@@ -65,7 +63,7 @@ pub(crate) fn cut_numbers(
     ensures gone { IfOk result (λ _. gone.new.items ≡ gone.old.items ++ filter is_some (drop count numbers.now)) }
 {
     let most = count.min(numbers.len());
-    add_some(&numbers[most..], gone)?;
+    add_some(alloc, &numbers[most..], gone)?;
     let kept = first_of(alloc, numbers, most)?;
     let some = count_some(&kept);
     Ok(Kept {
