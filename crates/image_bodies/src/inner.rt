@@ -1,7 +1,7 @@
 //! What the double indirect block of a file reaches.
-ghost use Rattle.std.specs.Prelude.{◌≡◌, ◌++◌, ◌≤◌, ℕ, List, filter, length, true, IfOk, IsErrOf};
+ghost use Rattle.std.specs.Prelude.{◌≡◌, ◌++◌, ◌<◌, ◌≤◌, ℕ, List, filter, length, true, IfOk, IsErrOf};
+ghost use Rattle.limits.specs.declared.TheConstants.{INDIRECT_INDEXES};
 ghost use Rattle.layout.specs.Decode.{numbers_in};
-ghost use Rattle.layout.specs.InodeForm.{SoundInode};
 ghost use Rattle.wal_law.specs.Recovery.{HasOnlyRead, IsUnspoiled};
 ghost use Rattle.tallies.specs.Tally.{IsOwned};
 ghost use Rattle.file_counts.specs.Adds.{is_some};
@@ -34,6 +34,7 @@ fn look_at_row<D: CrashDisk>(
     owners: &mut Owners,
 ) -> Result<bool, PartFault>
     requires size { geometry.now.blocks ≤ (D.device disk.old).size }
+    requires inner { inner < INDIRECT_INDEXES }
     requires owners { length owners.old.has ≡ geometry.now.blocks }
     ensures reads { HasOnlyRead (D.device disk.old) (D.device disk.new) }
     ensures failure { CountsPart (D.device disk.old) (D.device disk.new) result }
@@ -81,8 +82,7 @@ pub(crate) fn look_below<D: CrashDisk>(
         × IsBelowMapped geometry.now (content_on geometry.now overlay.now (D.device disk.old)) inode.now.double
         × ((met : List ℕ) → IsOwned met owners.old → IsOwned
         (met ++ below_of (content_on geometry.now overlay.now (D.device disk.old)) inode.now.double) owners.new)) }
-    ensures refused { D.keeps_model disk.new → IsUnspoiled (D.device disk.old) → SoundInode geometry.now inode.now
-        → IsErrOf result PartFault.Range
+    ensures refused { D.keeps_model disk.new → IsUnspoiled (D.device disk.old) → IsErrOf result PartFault.Range
         → IsBelowMapped geometry.now (content_on geometry.now overlay.now (D.device disk.old)) inode.now.double → ⊥ }
 {
     if inode.double == 0 {
