@@ -11,6 +11,7 @@ use Rattle.wal_law.proofs.OnlyRead.{unspoiled_then}
 use Rattle.store_promise.proofs.Later.{past_none}
 use Rattle.store_images.proofs.Opens.{begins, is_new, is_opened, later_refused, next_boot}
 use Rattle.store_images.proofs.Opens.{none_home, read_refused}
+use Rattle.store_images.proofs.Raising.{raised_keeps}
 use Rattle.wal_law.proofs.OnlyRead.{no_read}
 use Rattle.txn.specs.Core.{CoreState}
 use Rattle.wal_law.specs.Log.{Log}
@@ -65,6 +66,26 @@ returns-in-Err-raise-clause-left g c = λ rest kept.
     let empty = none_home log c.lawful-3.ensures.log none.0 c.install.ensures.quiet.installing none.1
     brings.coming.logged in
     inr (found, is.is_super, c.in-Err-raise.ensures.raised before log c.lawful-3.ensures.log empty brings)
+
+pub returns-clause-left : goal.returns-clause-left
+returns-clause-left g c = λ rest kept.
+    let before = g.D.CrashDisk.device c.args.disk.now in
+    let now = g.D.CrashDisk.device c.find.new.disk in
+    let found = c.in-Ok-find.found.0 in
+    let log = c.install.new.core.log in
+    let kept_now = c.install.ensures.model (c.raise.ensures.model kept) in
+    let is = c.in-Ok-find.ensures.found kept_now rest.unspoiled in
+    let brings = c.install.ensures.home before (super_bytes (next_super found))
+    (subst (λ (log : Log). BringsHome before (super_bytes (next_super found)) now log)
+    (sym (ap (λ (core : CoreState). core.log) c.new-core.ensures))
+    (begins before rest found c.in-Ok-find.found.1 now (super_bytes (next_super found))
+    c.in-Ok-find.ensures.reads is c.lawful.ensures (g.met.D.CrashDisk.whole c.find.new.disk kept_now))) in
+    let none = c.in_default-install.ensures.none in
+    let empty = none_home log c.lawful-3.ensures.log none.0 c.install.ensures.quiet.installing none.1
+    brings.coming.logged in
+    inr (found, is.is_super, raised_keeps before (g.D.CrashDisk.device c.install.new.disk)
+    (g.D.CrashDisk.device c.raise.new.disk) log (super_bytes (next_super found)) c.lawful-3.ensures.log empty
+    (c.in_default-raise.ensures.raised before log c.lawful-3.ensures.log empty brings))
 
 pub returns-in-Err-clause-keeps : goal.returns-in-Err-clause-keeps
 returns-in-Err-clause-keeps g c = λ tree first holds kept.
