@@ -363,7 +363,7 @@ module _ (g : Geometry) (image : Image) (tree : Tree) (n : ℕ) (inode : Inode)
     row_now i less = elim (cases_eq i p) [
       | inl here ↦
           (λ t. numbers_in after (get_or news (here t) 0)) ∙ part_row (below here)
-          ∙ ap left (sym here)
+          ∙ ap (λ (q : ℕ). left q) (sym here)
       | inr other ↦ other_row i less other
     ]
       where

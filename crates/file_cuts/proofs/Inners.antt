@@ -1,5 +1,5 @@
 -- Pointer blocks that are cut one after another.
-use Rattle.std.proofs.Common.{◌≡◌, ℕ, zero, suc, ◌+◌, ◌-◌, ◌*◌, ◌/◌, ◌<◌, ◌≤◌, inl, inr, sym, ap, ◌∙◌, refl, Bool, true, false}
+use Rattle.std.proofs.Common.{◌≡◌, ℕ, zero, suc, ◌+◌, ◌-◌, ◌*◌, ◌/◌, ◌<◌, ◌≤◌, inl, inr, sym, ap, ◌∙◌, refl, subst, Bool, true, false}
 use Rattle.std.proofs.Common.{cond, List, [], ◌∷◌, ◌++◌, length, drop, get_or, nat_eq, count_by, filter}
 use Rattle.std.proofs.Common.{length-append, append-nil, append_assoc, arith}
 use Rattle.std.specs.List.{flat_map}
@@ -204,6 +204,45 @@ module _ (f : ℕ → List ℕ) (wide : (x : ℕ) → length (f x) ≡ INDIRECT_
       used_is = used_now;
       gone_are = gone_now;
     }
+
+  -- ---- where a block and its numbers are told
+
+  module _ (pointers : List ℕ) (count : ℕ) (before numbers : List ℕ) (part : ℕ) (part_numbers : List ℕ) (used : ℕ)
+      (gone : List ℕ) (is : AreInnersCut f pointers count before numbers part part_numbers used gone)
+      (p : ℕ) (next : List ℕ) where
+    -- there is none
+    pub cut_none : has_some (f 0) ≡ false → p ≡ 0 → next ≡ numbers ++ 0 ∷ []
+        → AreInnersCut f (pointers ++ p ∷ []) count before next part part_numbers used gone
+    cut_none empty none more =
+        let same : used + 0 ≡ used = omega arith in
+        let m = count - INDIRECT_INDEXES * length numbers in
+        subst (λ (t : ℕ × List ℕ × ℕ). AreInnersCut f (pointers ++ t.0 ∷ []) count before t.1 part part_numbers t.2 gone)
+        (λ i. (sym none i, sym more i, same i))
+        (cut_elsewhere pointers count before numbers part part_numbers used gone is 0 0 (first_of m (f 0)) 0 gone
+        (none_cut (f 0) m gone empty) (none_more numbers (count / INDIRECT_INDEXES)))
+
+    module _ (now : ℕ) (stay : List ℕ) (row_used : ℕ) (later named : List ℕ) (m : ℕ)
+        (row : IsRowCut p named m gone now stay row_used later) (named_is : named ≡ f p)
+        (m_is : m ≡ count - INDIRECT_INDEXES * length numbers) (more : next ≡ numbers ++ now ∷ []) where
+      row_there : IsRowCut p (f p) (count - INDIRECT_INDEXES * length numbers) gone now stay row_used later
+      row_there = subst (λ (t : List ℕ × ℕ). IsRowCut p t.0 t.1 gone now stay row_used later)
+          (λ i. (named_is i, m_is i)) row
+
+      -- it is the one through which the cut goes
+      pub cut_through : length numbers ≡ count / INDIRECT_INDEXES
+          → AreInnersCut f (pointers ++ p ∷ []) count before next now stay (used + row_used) later
+      cut_through here =
+          subst (λ l. AreInnersCut f (pointers ++ p ∷ []) count before l now stay (used + row_used) later) (sym more)
+          (cut_here pointers count before numbers part part_numbers used gone is p now stay row_used later row_there here)
+
+      -- it isn't
+      pub cut_beside : (length numbers ≡ count / INDIRECT_INDEXES → ⊥)
+          → AreInnersCut f (pointers ++ p ∷ []) count before next part part_numbers (used + row_used) later
+      cut_beside other =
+          subst (λ l. AreInnersCut f (pointers ++ p ∷ []) count before l part part_numbers (used + row_used) later)
+          (sym more)
+          (cut_elsewhere pointers count before numbers part part_numbers used gone is p now stay row_used later row_there
+          (other_more numbers now (count / INDIRECT_INDEXES) other))
 
   -- ---- the rows that stay are the first of all
 
