@@ -22,19 +22,22 @@ one_at_most false extra is = omega (arith, is)
 pub returns-clause-cost : goal.returns-clause-cost
 returns-clause-cost c =
     let ks : List ℕ = c.self.inside.indexes.items in
-    let len : c.len.result ≡ set.len (set.from_list {R = nat_cmp} ks) = ? in
-    let indirect = one is_indirect ks _ c.any_is_indirect.result c.one_if-indirect.result ? c.any_is_indirect.ensures
-    c.one_if-indirect.ensures in
-    let double = one is_double ks _ c.any_is_double.result c.one_if-double.result ? c.any_is_double.ensures
-    c.one_if-double.ensures in
-    let inner : c.inner_cost.result ≡ inner_cost INDIRECT_INDEXES (set.from_list ks) = ? in
+    let long : c.len.result ≡ length ks = cc in
+    let len : c.len.result ≡ set.len (set.from_list {R = nat_cmp} ks) = long ∙ sym c.self.invariant.0 in
+    let indirect = one is_indirect ks c.deref.result.now c.any_is_indirect.result c.one_if-indirect.result
+    c.deref.ensures.value c.any_is_indirect.ensures c.one_if-indirect.ensures in
+    let double = one is_double ks c.deref-2.result.now c.any_is_double.result c.one_if-double.result
+    c.deref-2.ensures.value c.any_is_double.ensures c.one_if-double.ensures in
+    let inner : c.inner_cost.result ≡ inner_cost INDIRECT_INDEXES (set.from_list ks) =
+    c.inner_cost.ensures.is ∙ ap (λ l. inner_cost INDIRECT_INDEXES (set.from_list l)) c.deref-3.ensures.value in
     (λ i. len i + indirect i + double i + inner i) ∙ ap file_cost c.self.view_is
 
 pub returns-clause-small : goal.returns-clause-small
 returns-clause-small c =
     let ks : List ℕ = c.self.inside.indexes.items in
     let few = few_indexes (set.from_list ks) c.self.invariant.1 in
-    let len : c.len.result ≡ set.len (set.from_list {R = nat_cmp} ks) = ? in
+    let long : c.len.result ≡ length ks = cc in
+    let len : c.len.result ≡ set.len (set.from_list {R = nat_cmp} ks) = long ∙ sym c.self.invariant.0 in
     let indirect = one_at_most c.any_is_indirect.result c.one_if-indirect.result c.one_if-indirect.ensures in
     let double = one_at_most c.any_is_double.result c.one_if-double.result c.one_if-double.ensures in
     omega (arith, few, len, indirect, double, c.inner_cost.ensures.few)
