@@ -2,8 +2,7 @@
 use Rattle.std.proofs.Common.{◌≡◌, ℕ, ◌+◌, ◌-◌, ◌*◌, ◌<◌, ◌≤◌, sym, ap, ◌∙◌, refl, Bool, true, ◌&&◌}
 use Rattle.std.proofs.Common.{List, [], ◌∷◌, ◌++◌, length, take, drop, get_or, nat_eq, arith, length-append, suc}
 use Rattle.std.specs.List.{flat_map}
-use Rattle.std.proofs.lemmas.List.{append-nil, length-take-le, take_all, take_more}
-use Rattle.std.proofs.lemmas.List.Concat.{flat_map-append}
+use Rattle.std.proofs.lemmas.List.{length-take-le}
 use Rattle.limits.specs.declared.TheConstants.{BLOCK_BYTES, DIRECT_INDEXES, FIRST_DOUBLE_INDEX, INDIRECT_INDEXES}
 use Rattle.disk.specs.Crash.{Image}
 use Rattle.layout.specs.declared.inode.Inode.{Inode}
@@ -14,25 +13,9 @@ use Rattle.layout.proofs.NumbersIn.{in_length, none_at, none_in}
 use Rattle.layout.proofs.Pieces.{pieces-length}
 use Rattle.image_files.specs.Content.{AreLong}
 use Rattle.image_files.specs.Far.{near_of}
+use Rattle.image_files.proofs.Rows.{rows_more, rows_of}
 use Rattle.image_files.proofs.TailBytes.{none_yet, zero_bytes, zeros_both}
 use Rattle.image_bodies.specs.Inner.{is_zero_below, is_zero_row}
-
--- the numbers in the first inner blocks
-abbrev pub rows_of : Image → List ℕ → ℕ → List ℕ
-rows_of content inner count = flat_map (numbers_in content) (take count inner)
-
-pub rows_more : (content : Image) (inner : List ℕ) (place : ℕ) → place < length inner
-    → rows_of content inner (place + 1) ≡ rows_of content inner place ++ numbers_in content (get_or inner place 0)
-rows_more content inner place less =
-    ap (flat_map (numbers_in content)) (take_more inner place 0 less)
-    ∙ flat_map-append (numbers_in content) (take place inner) (get_or inner place 0 ∷ [])
-    ∙ ap (λ l. rows_of content inner place ++ l) (append-nil (numbers_in content (get_or inner place 0)))
-
-pub all_rows : (content : Image) (double count : ℕ) → length (numbers_in content double) ≤ count
-    → rows_of content (numbers_in content double) count ≡ doubled_in content double
-unfolding doubled_in
-all_rows content double count all =
-    ap (flat_map (numbers_in content)) (take_all count (numbers_in content double) all)
 
 both_true : (a b : Bool) → a ≡ true → b ≡ true → (a && b) ≡ true
 both_true a b one other = λ i. one i && other i

@@ -7,7 +7,7 @@ use Rattle.layout.specs.declared.inode.InodeKind.{InodeKind}
 use Rattle.layout.specs.declared.inode.InodeKind.TheVariants.{Directory, Link}
 use Rattle.layout.specs.Decode.{span_of}
 use Rattle.layout.specs.InodeForm.{SoundInode, is_sound_inode, is_sound_kind}
-use Rattle.image_files.proofs.SoundKinds.{few_spanned, no_double_of_directory, no_double_of_link}
+use Rattle.image_law.proofs.SoundKinds.{few_spanned, no_double_of_directory, no_double_of_link}
 
 module _ (g : Geometry) (inode : Inode) (sound : SoundInode g inode) where
   good : is_sound_kind g inode.kind inode ≡ true

@@ -1,6 +1,6 @@
 -- The blocks of a file are what was met of it, in whatever order.
 use Rattle.std.proofs.Common.{◌≡◌, ℕ, ◌+◌, ◌<◌, ◌≤◌, sym, ap, ◌∙◌, refl, subst, Bool, true, false, cond, ◌||◌, List, [], ◌∷◌, ◌++◌}
-use Rattle.std.proofs.Common.{filter, length, length-append, nat_eq, get_or, Some, Ok, arith}
+use Rattle.std.proofs.Common.{filter, length, length-append, nat_eq, not, get_or, Some, Ok, arith}
 use Rattle.std.specs.List.{list_any}
 use Rattle.std.proofs.lemmas.List.{append_assoc}
 use Rattle.std.proofs.lemmas.List.Elements.{filter-append}
@@ -11,9 +11,11 @@ use Rattle.layout.specs.declared.inode.Inode.{Inode}
 use Rattle.layout.specs.Decode.{doubled_in, numbers_in, numbers_of, pointer_blocks}
 use Rattle.layout.specs.Owners.{owned_by}
 use Rattle.layout.proofs.FileNumbers.{in_parts, pointers_are}
+use Rattle.layout.proofs.NumbersIn.{no_double_left, none_left}
 use Rattle.tallies.specs.Tally.{IsOwned, Owned, is_in, times}
 use Rattle.file_counts.specs.Adds.{is_some}
 use Rattle.image_files.specs.Far.{near_of}
+use Rattle.image_files.proofs.Rows.{rows_more, rows_of}
 use Rattle.image_bodies.specs.Inner.{below_of}
 
 any_swapped : (p a b s : Bool) → (p || a || b || s) ≡ (p || b || a || s)
@@ -78,6 +80,26 @@ module _ (p a b s : List ℕ) where
     count = λ no. is.count no ∙ same_long;
     twice = λ yes. let found = is.twice yes in (found.0, subst (λ k. 2 ≤ k) (same_times found.0) found.1);
   }
+
+-- nothing is met below a double indirect block that isn't there
+pub nothing_below : (content : Image) (double : ℕ) → nat_eq double 0 ≡ true → below_of content double ≡ []
+nothing_below content double none =
+    (λ i. cond (not (none i)) (double ∷ inner) inner ++ no_double_left content double none i)
+    ∙ ap (λ l. l ++ []) (none_left content double none)
+  where
+    inner : List ℕ
+    inner = filter is_some (numbers_in content double)
+
+-- one inner block more
+pub met_more : (content : Image) (inner met : List ℕ) (place : ℕ) → place < length inner
+    → (met ++ filter is_some (rows_of content inner place)) ++ filter is_some (numbers_in content (get_or inner place 0))
+    ≡ met ++ filter is_some (rows_of content inner (place + 1))
+met_more content inner met place less =
+    append_assoc met (filter is_some (rows_of content inner place))
+    (filter is_some (numbers_in content (get_or inner place 0)))
+    ∙ ap (λ l. met ++ l)
+    (sym (filter-append is_some (rows_of content inner place) (numbers_in content (get_or inner place 0)))
+    ∙ ap (filter is_some) (sym (rows_more content inner place less)))
 
 module _ (content : Image) (inode : Inode) where
   abbrev indirect : List ℕ

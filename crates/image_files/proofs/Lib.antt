@@ -2,7 +2,7 @@ pub mod AllMapped
 pub mod AtHome
 pub mod Data
 pub mod Mapped
-pub mod SoundKinds
+pub mod Rows
 pub mod SlotBlocks
 pub mod Spanned
 pub mod TailBytes
