@@ -68,6 +68,7 @@ module _ (g : Geometry) (image : Image) (inodes : ℕ) (head : Head) (sound : So
       count = refl;
       direct = zeros_below DIRECT_INDEXES;
       indirect = omega arith;
+      double = omega arith;
     };
     good = good;
   }
@@ -88,7 +89,7 @@ module _ (g : Geometry) (image : Image) (inodes : ℕ) (head : Head) (sound : So
       (let few = g.lawful.1.1 in omega (arith, most, few))
       (λ i. file_good g image inodes (made kinds.Directory) head sound same i && true
       && (le-leb 2 head.nlink range.0 i && true && true && lt-ltb 0 head.parent range.1 i
-      && lt-ltb head.parent g.inodes most i && true && true && is_none (none i)))
+      && lt-ltb head.parent g.inodes most i && true && true && true && is_none (none i)))
 
 -- ---- what is in it
 
@@ -199,10 +200,10 @@ module _ (g : Geometry) (image : Image) (inodes : ℕ) (head : Head) (target : L
   named = λ i. (not (some i) && true) && true
 
   link_good : is_sound_kind g kinds.Link link ≡ true
-  link_good = λ i. file_good g image inodes link head sound same i && ((placed i && true) && true)
+  link_good = λ i. file_good g image inodes link head sound same i && ((placed i && true) && true && true && true)
       && (le-leb 1 (length target) (let more = good.some in omega (arith, more)) i
       && le-leb (length target) TARGET_BYTES good.short i && eq-eqb head.parent 0 no_parents i
-      && named i && true && is_none (none i))
+      && named i && true && true && is_none (none i))
 
   pub link_sound : SoundInode g link
   unfolding is_sound_inode
@@ -223,6 +224,7 @@ module _ (g : Geometry) (image : Image) (inodes : ℕ) (head : Head) (target : L
       count = refl;
       direct = (let low = within.1 in let most = g.lawful.0.1 in omega (arith, low, most), zeros_below 7);
       indirect = omega arith;
+      double = omega arith;
     };
     good = link_good;
   }

@@ -68,10 +68,11 @@ use Rattle.dir_writes.proofs.Spanned.{body_there, node_there}
 use Rattle.dir_writes.proofs.UsedBytes.{used_long, used_read}
 use Rattle.dir_writes.proofs.WideSlots.{as_many, past, widened, within}
 
-all_eight : (a b c d e f h k : Bool) → (a && b && c && d && e && f && h && k) ≡ true
+all_nine : (a b c d e f h k l : Bool) → (a && b && c && d && e && f && h && k && l) ≡ true
     → (a ≡ true) × (b ≡ true) × (c ≡ true) × (d ≡ true) × (e ≡ true) × (f ≡ true) × (h ≡ true) × (k ≡ true)
-all_eight true true true true true true true true e = (refl, refl, refl, refl, refl, refl, refl, refl)
-all_eight _ _ _ _ _ _ _ _ e = cc
+    × (l ≡ true)
+all_nine true true true true true true true true true e = (refl, refl, refl, refl, refl, refl, refl, refl, refl)
+all_nine _ _ _ _ _ _ _ _ _ e = cc
 
 same_number : (a b : ℕ) → nat_eq a b ≡ true → a ≡ b
 same_number a b e = grind (arith, nat_tests)
@@ -235,12 +236,12 @@ module _ (snap : Snap) (base : Image) (tree : Tree) (n : ℕ) (inode : Inode) (n
 
   whole_size : inode.size ≡ BLOCK_BYTES * span
   whole_size =
-      let eight = all_eight (nat_le 2 inode.nlink) (nat_le inode.size LARGEST_DIRECTORY)
+      let nine = all_nine (nat_le 2 inode.nlink) (nat_le inode.size LARGEST_DIRECTORY)
       (nat_eq (inode.size % BLOCK_BYTES) 0) (nat_lt 0 inode.parent) (nat_lt inode.parent g.inodes)
       (names_first (min (inode.size / BLOCK_BYTES) DIRECT_INDEXES) inode.direct)
       (cond (nat_lt DIRECT_INDEXES (inode.size / BLOCK_BYTES)) (not (nat_eq inode.indirect 0))
-      (nat_eq inode.indirect 0)) (nat_eq inode.double 0 && is_none inode.verifier) tests.2 in
-      let whole = same_number (inode.size % BLOCK_BYTES) 0 eight.2 in omega (arith, whole)
+      (nat_eq inode.indirect 0)) (nat_eq inode.double 0) (is_none inode.verifier) tests.2 in
+      let whole = same_number (inode.size % BLOCK_BYTES) 0 nine.2 in omega (arith, whole)
 
   pub size_is : grown_size inode.size offset block ≡ BLOCK_BYTES * (span + 1)
   size_is = let whole = whole_size in let long = block_long in omega (arith, whole, long)
@@ -248,11 +249,11 @@ module _ (snap : Snap) (base : Image) (tree : Tree) (n : ℕ) (inode : Inode) (n
   -- ---- its indirect block
 
   far_rule : cond (nat_lt DIRECT_INDEXES span) (not (nat_eq inode.indirect 0)) (nat_eq inode.indirect 0) ≡ true
-  far_rule = (all_eight (nat_le 2 inode.nlink) (nat_le inode.size LARGEST_DIRECTORY)
+  far_rule = (all_nine (nat_le 2 inode.nlink) (nat_le inode.size LARGEST_DIRECTORY)
       (nat_eq (inode.size % BLOCK_BYTES) 0) (nat_lt 0 inode.parent) (nat_lt inode.parent g.inodes)
       (names_first (min (inode.size / BLOCK_BYTES) DIRECT_INDEXES) inode.direct)
       (cond (nat_lt DIRECT_INDEXES (inode.size / BLOCK_BYTES)) (not (nat_eq inode.indirect 0))
-      (nat_eq inode.indirect 0)) (nat_eq inode.double 0 && is_none inode.verifier) tests.2).6
+      (nat_eq inode.indirect 0)) (nat_eq inode.double 0) (is_none inode.verifier) tests.2).6
 
   no_far : span ≤ DIRECT_INDEXES → nat_eq inode.indirect 0 ≡ true
   no_far few = sym (ap (λ t. cond t (not (nat_eq inode.indirect 0)) (nat_eq inode.indirect 0))
@@ -559,20 +560,22 @@ module _ (snap : Snap) (base : Image) (tree : Tree) (n : ℕ) (inode : Inode) (n
       };
       good = subst (λ kind. is_sound_kind g kind new ≡ true) (sym grows.is.kind)
           (λ i. tests.0 i && (fills.placed i && lie.0 i && lie.1 i && fills.has_double i)
-          && (eight.0 i && small i && whole i && eight.3 i && eight.4 i && direct_first i && far_first i && eight.7 i));
+          && (nine.0 i && small i && whole i && nine.3 i && nine.4 i && direct_first i && far_first i && nine.7 i
+          && nine.8 i));
     }
       where
-        eight : (nat_le 2 inode.nlink ≡ true) × (nat_le inode.size LARGEST_DIRECTORY ≡ true)
+        nine : (nat_le 2 inode.nlink ≡ true) × (nat_le inode.size LARGEST_DIRECTORY ≡ true)
             × (nat_eq (inode.size % BLOCK_BYTES) 0 ≡ true) × (nat_lt 0 inode.parent ≡ true)
             × (nat_lt inode.parent g.inodes ≡ true)
             × (names_first (min (inode.size / BLOCK_BYTES) DIRECT_INDEXES) inode.direct ≡ true)
             × (cond (nat_lt DIRECT_INDEXES (inode.size / BLOCK_BYTES)) (not (nat_eq inode.indirect 0))
-            (nat_eq inode.indirect 0) ≡ true) × ((nat_eq inode.double 0 && is_none inode.verifier) ≡ true)
-        eight = all_eight (nat_le 2 inode.nlink) (nat_le inode.size LARGEST_DIRECTORY)
+            (nat_eq inode.indirect 0) ≡ true) × (nat_eq inode.double 0 ≡ true)
+            × (is_none inode.verifier ≡ true)
+        nine = all_nine (nat_le 2 inode.nlink) (nat_le inode.size LARGEST_DIRECTORY)
             (nat_eq (inode.size % BLOCK_BYTES) 0) (nat_lt 0 inode.parent) (nat_lt inode.parent g.inodes)
             (names_first (min (inode.size / BLOCK_BYTES) DIRECT_INDEXES) inode.direct)
             (cond (nat_lt DIRECT_INDEXES (inode.size / BLOCK_BYTES)) (not (nat_eq inode.indirect 0))
-            (nat_eq inode.indirect 0)) (nat_eq inode.double 0 && is_none inode.verifier) tests.2
+            (nat_eq inode.indirect 0)) (nat_eq inode.double 0) (is_none inode.verifier) tests.2
 
         lie : (is_data_block_or_none g far ≡ true) × (is_data_block_or_none g inode.double ≡ true)
             × (list_all (is_data_block_or_none g) (numbers_in after inode.double) ≡ true)

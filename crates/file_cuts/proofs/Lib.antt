@@ -1,7 +1,14 @@
-pub mod Shrunk
-pub mod Grown
+pub mod FirstOnes
+pub mod Inners
+pub mod ReadBack
+pub mod RegularThere
 pub mod CutNumbers
 pub mod CutBytes
-pub mod CutFile
 pub mod CutBlocks
+pub mod CutContent
+pub mod CutOwned
+pub mod CutFile
+pub mod Shrunk
 pub mod CutHolds
+pub mod Told
+pub mod Grown

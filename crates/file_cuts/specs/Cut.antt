@@ -24,15 +24,25 @@ first_of count numbers = take count numbers ++ replicate (length numbers - count
 abbrev pub has_some : List ℕ → Bool
 has_some numbers = list_any is_some numbers
 
+-- a block that holds numbers stays where one of them does, and else is gone
+abbrev pub kept : ℕ → List ℕ → ℕ
+kept pointer stay = cond (has_some stay) pointer 0
+
+abbrev pub lost : ℕ → List ℕ → ℕ
+lost pointer stay = cond (has_some stay) 0 pointer
+
+-- as many blocks as this number is that of
+abbrev pub one_of : ℕ → ℕ
+one_of number = cond (is_some number) 1 0
+
 -- What stays of a block that holds numbers, of which the first so many stay: these, and the block where one of them is
 -- that of a block. All others are gone, and the block where none stays.
-pub record IsRowCut (pointer : ℕ) (numbers : List ℕ) (count : ℕ) (before : List ℕ) (kept : ℕ) (stay : List ℕ)
+pub record IsRowCut (pointer : ℕ) (numbers : List ℕ) (count : ℕ) (before : List ℕ) (now : ℕ) (stay : List ℕ)
     (used : ℕ) (gone : List ℕ) : Type 0 where
   pub numbers_are : stay ≡ first_of count numbers
-  pub pointer_is : kept ≡ cond (has_some stay) pointer 0
-  pub used_is : used ≡ cond (has_some stay) (count_by is_some stay + 1) 0
-  pub gone_are : gone ≡ before ++ filter is_some (drop count numbers)
-      ++ filter is_some (cond (has_some stay) 0 pointer ∷ [])
+  pub pointer_is : now ≡ kept pointer stay
+  pub used_is : used ≡ one_of now + count_by is_some stay
+  pub gone_are : gone ≡ before ++ filter is_some (drop count numbers) ++ filter is_some (lost pointer stay ∷ [])
 
 -- the inode of this size with these numbers
 abbrev pub numbered : Inode → ℕ → List ℕ → ℕ → ℕ → Inode

@@ -1,40 +1,58 @@
 -- What stays of a double indirect block where its file is cut.
-use Rattle.std.specs.Prelude.{◌≡◌, ℕ, ◌+◌, ◌-◌, ◌*◌, ◌/◌, ◌%◌, ◌<◌, Bool, false, cond, List, ◌∷◌, ◌++◌, get_or, filter, min}
-use Rattle.std.specs.Prelude.{nat_eq, count_by}
-use Rattle.limits.specs.declared.TheConstants.{INDIRECT_INDEXES}
+use Rattle.std.specs.Prelude.{◌≡◌, ℕ, ◌+◌, ◌-◌, ◌*◌, ◌/◌, ◌<◌, ◌≤◌, false, true, List, [], ◌∷◌, ◌++◌, length, get_or}
+use Rattle.std.specs.Prelude.{filter, nat_eq, count_by}
+use Rattle.std.specs.List.{flat_map, list_all}
+use Rattle.limits.specs.declared.TheConstants.{DOUBLE_INDEXES, INDIRECT_INDEXES}
 use Rattle.disk.specs.Crash.{Image}
-use Rattle.layout.specs.Decode.{doubled_in, numbers_in}
-use Rattle.file_cuts.specs.Cut.{first_of, has_some, is_some}
+use Rattle.layout.specs.declared.geometry.Geometry.{Geometry}
+use Rattle.layout.specs.Decode.{numbers_in}
+use Rattle.layout.specs.InodeForm.{is_data_block_or_none}
+use Rattle.file_cuts.specs.Cut.{first_of, is_some, kept, lost, one_of}
+use Rattle.file_cuts.specs.declared.doubles.Double.{Double}
+use Rattle.file_cuts.specs.declared.doubles.Inners.{Inners}
 
--- the number of an inner block
-abbrev pub inner_at : Image → ℕ → ℕ → ℕ
-inner_at content double inner = get_or (numbers_in content double) inner 0
+-- the numbers that stay in one of these pointer blocks, which have such numbers, where so many of all these stay
+abbrev pub row_left : (ℕ → List ℕ) → List ℕ → ℕ → ℕ → List ℕ
+row_left f pointers count k = first_of (count - INDIRECT_INDEXES * k) (f (get_or pointers k 0))
 
--- the numbers that stay in an inner block, where so many of all indexes stay
-abbrev pub row_left : Image → ℕ → ℕ → ℕ → List ℕ
-row_left content double count inner =
-    first_of (min (count - INDIRECT_INDEXES * inner) INDIRECT_INDEXES)
-    (numbers_in content (inner_at content double inner))
-
--- the blocks that a double indirect block has, with itself, by the numbers of inner blocks and all that these name
-abbrev pub held_by : ℕ → List ℕ → List ℕ → List ℕ
-held_by double inner numbers = filter is_some (double ∷ inner) ++ filter is_some numbers
-
--- as many of a number are among these
+-- as many of a number are among these, but for zeros
 abbrev pub times : ℕ → List ℕ → ℕ
-times q numbers = count_by (λ one. nat_eq one q) numbers
+times q numbers = count_by (λ one. nat_eq one q) (filter is_some numbers)
 
--- An inner block stays where one of its numbers does, and the double indirect block where one of these stays. The one of
--- which only a part stays is told with its numbers. What the file had is what it has now and what is gone.
-pub record IsDoubleCut (content : Image) (double count : ℕ) (before : List ℕ) (pointer : ℕ) (inner : List ℕ)
+-- Of each of these pointer blocks stays what lies before the cut. The one through which the cut goes is told with its
+-- numbers. Before it went on to them other blocks were gone already: what the blocks had is what they have now, and
+-- what has gone since.
+pub record AreInnersCut (f : ℕ → List ℕ) (pointers : List ℕ) (count : ℕ) (before : List ℕ) (numbers : List ℕ)
     (part : ℕ) (part_numbers : List ℕ) (used : ℕ) (gone : List ℕ) : Type 0 where
-  pub inner_are : (k : ℕ) → k < INDIRECT_INDEXES
-      → get_or inner k 0 ≡ cond (has_some (row_left content double count k)) (inner_at content double k) 0
-  pub pointer_is : pointer ≡ cond (has_some inner) double 0
-  pub part_is : part ≡ get_or inner (count / INDIRECT_INDEXES) 0
-  pub numbers_are : nat_eq part 0 ≡ false → part_numbers ≡ row_left content double count (count / INDIRECT_INDEXES)
-  pub used_is : used ≡ cond (has_some inner)
-      (1 + count_by is_some inner + count_by is_some (first_of count (doubled_in content double))) 0
+  pub long : length numbers ≡ length pointers
+  pub numbers_are : (k : ℕ) → k < length pointers
+      → get_or numbers k 0 ≡ kept (get_or pointers k 0) (row_left f pointers count k)
+  pub part_is : part ≡ get_or numbers (count / INDIRECT_INDEXES) 0
+  pub part_numbers_are : nat_eq part 0 ≡ false → part_numbers ≡ row_left f pointers count (count / INDIRECT_INDEXES)
+  pub used_is : used ≡ count_by is_some numbers + count_by is_some (first_of count (flat_map f pointers))
   pub gone_are : (q : ℕ)
-      → times q gone + times q (held_by pointer inner (first_of count (doubled_in content double)))
-      ≡ times q before + times q (held_by double (numbers_in content double) (doubled_in content double))
+      → count_by (λ one. nat_eq one q) gone + (times q numbers + times q (first_of count (flat_map f pointers)))
+      ≡ count_by (λ one. nat_eq one q) before + (times q pointers + times q (flat_map f pointers))
+
+-- The inner blocks are cut, and the double indirect block stays where one of them does.
+pub record IsDoubleCut (content : Image) (double count : ℕ) (before : List ℕ) (cut : Double) (gone : List ℕ) : Type 0
+  where
+    pub between : List ℕ
+    pub inners : AreInnersCut (numbers_in content) (numbers_in content double) count before cut.inners.numbers.items
+        cut.inners.part cut.inners.part_numbers.items cut.inners.used between
+    pub pointer_is : cut.pointer ≡ kept double cut.inners.numbers.items
+    pub used_is : cut.used ≡ one_of cut.pointer + cut.inners.used
+    pub gone_are : gone ≡ between ++ filter is_some (lost double cut.inners.numbers.items ∷ [])
+
+-- They are data blocks, and there are as many numbers as there are places for.
+pub record FitInners (g : Geometry) (inners : Inners) : Type 0 where
+  pub placed : list_all (is_data_block_or_none g) inners.numbers.items ≡ true
+  pub part_placed : is_data_block_or_none g inners.part ≡ true
+  pub part_count : length inners.part_numbers.items ≡ INDIRECT_INDEXES
+  pub few : inners.used ≤ (INDIRECT_INDEXES + 1) * length inners.numbers.items
+
+pub record FitsDouble (g : Geometry) (double : Double) : Type 0 where
+  pub placed : is_data_block_or_none g double.pointer ≡ true
+  pub inners : FitInners g double.inners
+  pub count : length double.inners.numbers.items ≡ INDIRECT_INDEXES
+  pub few : double.used ≤ DOUBLE_INDEXES + INDIRECT_INDEXES + 1

@@ -20,18 +20,18 @@ ghost use Rattle.file_cuts.specs.Sized.{IsUse};
 
 use crate::blocks::{put_numbers, zero_from};
 use crate::doubles::{Double, cut_double};
-use crate::numbers::{Kept, Row, cut_numbers, cut_row, near_numbers};
+use crate::numbers::{Kept, Row, cut_numbers, cut_row};
 use drafts::{Draft, attributed};
 use inode::{Snap, Stop, block_number, indirect_numbers};
 use inode_writes::free_all;
 use layout::Inode;
-use limits::{BLOCK_BYTES, DIRECT_INDEXES, FIRST_DOUBLE_INDEX, INDIRECT_INDEXES};
+use limits::{BLOCK_BYTES, DIRECT_INDEXES, FIRST_DOUBLE_INDEX};
 use std::alloc::Global;
 
 // What stays of a file's numbers of blocks: those that its inode names itself, its indirect block and its double
 // indirect block; and the blocks that it has no more.
 #[derive(Drop)]
-struct Cut {
+struct CutPointers {
     near: Kept,
     far: Row,
     double: Double,
@@ -39,7 +39,7 @@ struct Cut {
 }
 
 // How many blocks it uses.
-fn used_by(cut: &Cut) -> u32
+fn used_by(cut: &CutPointers) -> u32
     requires near { cut.now.near.count ≤ DIRECT_INDEXES }
     requires far { cut.now.far.used ≤ INDIRECT_INDEXES + 1 }
     requires double { cut.now.double.used ≤ DOUBLE_INDEXES + INDIRECT_INDEXES + 1 }
@@ -48,9 +48,15 @@ fn used_by(cut: &Cut) -> u32
     cut.near.count + cut.far.used + cut.double.used
 }
 
+// Whether the number is that of a data block, or 0.
+fn is_placed(snap: &Snap, number: u32) -> bool
+    ensures { result ≡ is_data_block_or_none snap.now.geometry number }
+{
+    number == 0 || snap.geometry.is_data(number)
+}
+
 // Cuts a file's numbers of blocks: the first so many indexes stay.
-fn cut_all(alloc: Global, snap: &Snap, inode: &Inode, count: usize) -> Result<Cut, Stop>
-    requires { count ≤ FILE_INDEXES }
+fn cut_all(alloc: Global, snap: &Snap, inode: &Inode, count: usize) -> Result<CutPointers, Stop>
     ensures fits { IfOk result (λ cut. FitsCut snap.now.geometry cut) }
     ensures ok { IfOk result (λ cut. (blocks : Image) (tree : Tree) (file : ℕ)
         → HasInode snap.now blocks tree file inode.now
@@ -59,15 +65,20 @@ fn cut_all(alloc: Global, snap: &Snap, inode: &Inode, count: usize) -> Result<Cu
     ensures pause { IfErr result (λ stop. (blocks : Image) (tree : Tree) (file : ℕ)
         → HasInode snap.now blocks tree file inode.now → IsPause stop) }
 {
-    let direct = near_numbers(alloc, snap, inode)?;
+    if !is_placed(snap, inode.indirect) {
+        return Err(Stop::Io);
+    }
+    if !is_placed(snap, inode.double) {
+        return Err(Stop::Io);
+    }
     let indirect = indirect_numbers(alloc, snap, inode)?;
     let mut gone = Vec::new(alloc);
-    let near = cut_numbers(alloc, &direct, count.min(DIRECT_INDEXES), &mut gone)?;
-    let behind = count.saturating_sub(DIRECT_INDEXES).min(INDIRECT_INDEXES);
+    let near = cut_numbers(alloc, &inode.direct, count, &mut gone)?;
+    let behind = count.saturating_sub(DIRECT_INDEXES);
     let far = cut_row(alloc, inode.indirect, &indirect, behind, &mut gone)?;
     let further = count.saturating_sub(FIRST_DOUBLE_INDEX);
     let double = cut_double(alloc, snap, inode, further, &mut gone)?;
-    Ok(Cut {
+    Ok(CutPointers {
         near,
         far,
         double,
@@ -76,7 +87,7 @@ fn cut_all(alloc: Global, snap: &Snap, inode: &Inode, count: usize) -> Result<Cu
 }
 
 // The inode of this size with what stays of its numbers.
-fn numbered(inode: &Inode, size: u64, cut: &Cut) -> Inode
+fn numbered(inode: &Inode, size: u64, cut: &CutPointers) -> Inode
     requires { length cut.now.near.numbers.items ≡ DIRECT_INDEXES }
     ensures { result ≡ numbered inode.now size cut.now.near.numbers.items cut.now.far.pointer
         cut.now.double.pointer }
@@ -92,7 +103,7 @@ fn numbered(inode: &Inode, size: u64, cut: &Cut) -> Inode
 }
 
 // Writes the numbers that stay in pointer blocks of which a part stays.
-fn write_pointers(alloc: Global, draft: &mut Draft, cut: &Cut) -> Result<(), Stop>
+fn write_pointers(alloc: Global, draft: &mut Draft, cut: &CutPointers) -> Result<(), Stop>
     requires { FitsCut draft.old.there.geometry cut.now }
     ensures shows { OnOk result ((blocks : Image) → Shows draft.old (image_of blocks draft.old)
         → Shows draft.new (image_of blocks draft.new)) }
@@ -109,11 +120,12 @@ fn write_pointers(alloc: Global, draft: &mut Draft, cut: &Cut) -> Result<(), Sto
         Ok(()) => {}
         Err(stop) => return Err(stop),
     }
-    match put_numbers(alloc, draft, cut.double.part, &cut.double.part_numbers) {
+    let inners = &cut.double.inners;
+    match put_numbers(alloc, draft, inners.part, &inners.part_numbers) {
         Ok(()) => {}
         Err(stop) => return Err(stop),
     }
-    put_numbers(alloc, draft, cut.double.pointer, &cut.double.inner)
+    put_numbers(alloc, draft, cut.double.pointer, &inners.numbers)
 }
 
 // Writes what a cut changes: zeros in the last block that stays, the numbers in pointer blocks, and the inode; and
@@ -125,7 +137,7 @@ fn write_cut(
     inode: &Inode,
     last: u32,
     from: usize,
-    cut: &Cut,
+    cut: &CutPointers,
 ) -> Result<(), Stop>
     requires less { number < draft.old.there.geometry.inodes }
     requires last { is_data_block_or_none draft.old.there.geometry last ≡ true }

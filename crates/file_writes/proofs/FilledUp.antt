@@ -156,47 +156,54 @@ behind_filled numbers first (suc k) lo low =
     (some_number (get_or (filled_up numbers first k) (first + k) 0)) (omega (arith, low))
     ∙ behind_filled numbers first k lo (omega (arith, low))
 
--- ---- how many of a list pass or lie in a part of it
+-- ---- how many of a list pass, where all in one part of it do
 
-none_below : (k : ℕ) → nat_lt k 0 ≡ false
-none_below zero = refl
-none_below (suc k) = refl
-
-first_part : (xs : List ℕ) (a lo m : ℕ) → lo + m ≤ length xs → (f : ℕ → Bool)
-    → ((k : ℕ) → k < length xs → f (a + k) ≡ ((nat_le lo k && nat_lt k (lo + m)) || is_some (get_or xs k 0)))
+pub first_part : (xs : List ℕ) (a lo m : ℕ) → lo + m ≤ length xs → (f : ℕ → Bool)
+    → ((k : ℕ) → k < length xs → lo ≤ k → k < lo + m → f (a + k) ≡ true)
+    → ((k : ℕ) → k < length xs → (lo ≤ k → k < lo + m → ⊥) → f (a + k) ≡ is_some (get_or xs k 0))
     → count_by f (range_with_len a (length xs))
     ≡ count_by is_some xs + count_by (λ n. nat_eq n 0) (take m (drop lo xs))
-first_part [] a lo zero room f same = refl
-first_part [] a lo (suc m) room f same = absurd (omega (arith, room))
-first_part (x ∷ xs) a zero zero room f same =
+first_part [] a lo zero room f inside outside = by_place lo
+  where
+    by_place : (lo : ℕ) → 0 ≡ 0 + count_by (λ n. nat_eq n 0) (take 0 (drop lo []))
+    by_place lo = refl
+first_part [] a lo (suc m) room f inside outside = absurd (omega (arith, room))
+first_part (x ∷ xs) a zero zero room f inside outside =
     let all = sum_by-cons (λ i. cond (f i) 1 0) a (range_with_len (a + 1) (length xs)) in
     let here : ◌≡◌ {A = ℕ} (cond (f a) 1 0) (cond (is_some x) 1 0) =
-    ap (λ t. cond t 1 0) (ap f (omega arith) ∙ same 0 (omega arith)) in
+    ap (λ t. cond t 1 0) (ap f (omega arith) ∙ outside 0 (omega arith) (λ from to. omega (arith, to))) in
     let was = sum_by-cons (λ y. cond (is_some y) 1 0) x xs in
     let rest = first_part xs (a + 1) zero zero (omega arith) f
-    (λ k less. ap f (omega arith) ∙ same (suc k) (omega (arith, less))
-    ∙ ap (λ t. t || is_some (get_or xs k 0)) (sym (none_below k))) in
+    (λ k less from to. absurd (omega (arith, to)))
+    (λ k less out. ap f (omega arith) ∙ outside (suc k) (omega (arith, less)) (λ from to. omega (arith, to))) in
     omega (arith, all, here, was, rest)
-first_part (x ∷ xs) a zero (suc m) room f same =
+first_part (x ∷ xs) a zero (suc m) room f inside outside =
     let all = sum_by-cons (λ i. cond (f i) 1 0) a (range_with_len (a + 1) (length xs)) in
-    let here : ◌≡◌ {A = ℕ} (cond (f a) 1 0) 1 = ap (λ t. cond t 1 0) (ap f (omega arith) ∙ same 0 (omega arith)) in
+    let here : ◌≡◌ {A = ℕ} (cond (f a) 1 0) 1 =
+    ap (λ t. cond t 1 0) (ap f (omega arith) ∙ inside 0 (omega arith) (omega arith) (omega arith)) in
     let was = sum_by-cons (λ y. cond (is_some y) 1 0) x xs in
     let none = sum_by-cons (λ y. cond (nat_eq y 0) 1 0) x (take m xs) in
     let either = one_or (nat_eq x 0) in
     let rest = first_part xs (a + 1) zero m (omega (arith, room)) f
-    (λ k less. ap f (omega arith) ∙ same (suc k) (omega (arith, less))) in
+    (λ k less from to. ap f (omega arith)
+    ∙ inside (suc k) (omega (arith, less)) (omega arith) (omega (arith, to)))
+    (λ k less out. ap f (omega arith)
+    ∙ outside (suc k) (omega (arith, less)) (λ from to. out (omega arith) (omega (arith, to)))) in
     omega (arith, all, here, was, none, either, rest)
   where
     one_or : (t : Bool) → cond (not t) 1 0 + cond t 1 0 ≡ 1
     one_or true = refl
     one_or false = refl
-first_part (x ∷ xs) a (suc lo) m room f same =
+first_part (x ∷ xs) a (suc lo) m room f inside outside =
     let all = sum_by-cons (λ i. cond (f i) 1 0) a (range_with_len (a + 1) (length xs)) in
     let here : ◌≡◌ {A = ℕ} (cond (f a) 1 0) (cond (is_some x) 1 0) =
-    ap (λ t. cond t 1 0) (ap f (omega arith) ∙ same 0 (omega arith)) in
+    ap (λ t. cond t 1 0) (ap f (omega arith) ∙ outside 0 (omega arith) (λ from to. omega (arith, from))) in
     let was = sum_by-cons (λ y. cond (is_some y) 1 0) x xs in
     let rest = first_part xs (a + 1) lo m (omega (arith, room)) f
-    (λ k less. ap f (omega arith) ∙ same (suc k) (omega (arith, less))) in
+    (λ k less from to. ap f (omega arith)
+    ∙ inside (suc k) (omega (arith, less)) (omega (arith, from)) (omega (arith, to)))
+    (λ k less out. ap f (omega arith)
+    ∙ outside (suc k) (omega (arith, less)) (λ from to. out (omega (arith, from)) (omega (arith, to)))) in
     omega (arith, all, here, was, rest)
 
 -- one more of those of no block
@@ -206,15 +213,39 @@ next_missing [] first k less = absurd (omega (arith, less))
 next_missing (x ∷ xs) zero zero less =
     let one = sum_by-cons (λ (n : ℕ). cond (nat_eq n 0) 1 0) x [] in omega (arith, one)
 next_missing (x ∷ xs) zero (suc k) less =
+    let next : 0 + suc k ≡ suc (0 + k) = omega arith in
+    let here : ◌≡◌ {A = ℕ} (cond (nat_eq (get_or (x ∷ xs) (0 + suc k) 0) 0) 1 0)
+    (cond (nat_eq (get_or xs (0 + k) 0) 0) 1 0) = ap (λ j. cond (nat_eq (get_or (x ∷ xs) j 0) 0) 1 0) next in
     let one = sum_by-cons (λ (n : ℕ). cond (nat_eq n 0) 1 0) x (take (suc k) xs) in
     let two = sum_by-cons (λ (n : ℕ). cond (nat_eq n 0) 1 0) x (take k xs) in
-    let rest = next_missing xs zero k (omega (arith, less)) in omega (arith, one, two, rest)
-next_missing (x ∷ xs) (suc first) k less = next_missing xs first k (omega (arith, less))
+    let rest = next_missing xs zero k (omega (arith, less)) in omega (arith, one, two, rest, here)
+next_missing (x ∷ xs) (suc first) k less =
+    let next : suc (first + k) ≡ suc first + k = omega arith in
+    next_missing xs first k (omega (arith, less))
+    ∙ ap (λ j. missing_between xs first k + cond (nat_eq (get_or (x ∷ xs) j 0) 0) 1 0) next
 
 -- ---- what they add
 
 abbrev one_if : Bool → ℕ
 one_if t = cond t 1 0
+
+from_none : (k : ℕ) → 0 + k ≡ k
+from_none k = omega arith
+
+-- the sums of what a file holds: its numbers, the indirect block, the double indirect block, and inner blocks
+near_sum : (missing indirect was now far far_now double double_now inner inner_now after before : ℕ)
+    → missing + was ≡ now → far_now ≡ far + indirect → double_now ≡ double → inner_now ≡ inner
+    → after ≡ now + far_now + double_now + inner_now → before ≡ was + far + double + inner
+    → missing + indirect ≡ after - before
+near_sum missing indirect was now far far_now double double_now inner inner_now after before one two three four five six =
+    omega (arith, one, two, three, four, five, six)
+
+far_sum : (missing indirect first rows was now far far_now double double_now inner inner_now after before : ℕ)
+    → missing + was ≡ now → far_now ≡ far + indirect → double_now ≡ double + first → inner_now ≡ inner + rows
+    → after ≡ now + far_now + double_now + inner_now → before ≡ was + far + double + inner
+    → missing + (indirect + (first + rows)) ≡ after - before
+far_sum missing indirect first rows was now far far_now double double_now inner inner_now after before one two three four five
+    six = omega (arith, one, two, three, four, five, six)
 
 module _ (g : Geometry) (base : Image) (tree : Tree) (n : ℕ) (inode : Inode)
     (has : HasRegular g base tree n inode) (first last missing : ℕ) (order : first ≤ last)
@@ -333,12 +364,11 @@ module _ (g : Geometry) (base : Image) (tree : Tree) (n : ℕ) (inode : Inode)
     pub near_added : missing + count_of numbers ≡ count_of filled
         → missing + new_indirect inode first last ≡ after - before
     near_added sum =
-        let far = far_now in
-        let double = ap {B = ℕ} (λ l. one_if (list_any is_some l)) double_same in
-        let inner : inner_in filled ≡ inner_in numbers =
-        (λ i. count_by (λ k. list_any is_some (inner_same k i)) (range_with_len 0 INDIRECT_INDEXES)) in
-        let one = after_is in
-        let two = before_is in omega (arith, sum, far, double, inner, one, two)
+        near_sum missing (new_indirect inode first last) (count_of numbers) (count_of filled)
+        (one_if (indirect_in numbers)) (one_if (indirect_in filled)) (one_if (double_in numbers))
+        (one_if (double_in filled)) (inner_in numbers) (inner_in filled) after before sum far_now
+        (ap {B = ℕ} (λ l. one_if (list_any is_some l)) double_same)
+        (λ i. count_by (λ k. list_any is_some (inner_same k i)) (range_with_len 0 INDIRECT_INDEXES)) after_is before_is
 
   -- ---- and behind it they add inner blocks, and the double indirect block
 
@@ -411,31 +441,23 @@ module _ (g : Geometry) (base : Image) (tree : Tree) (n : ℕ) (inode : Inode)
               | inr above ↦ omega (arith, above, order, past, is.1, is.2)
             ]
 
-    inner_by : (k : ℕ) → k < length inners → (a b : Bool) → nat_le lo k ≡ a → nat_lt k (lo + rows) ≡ b
-        → list_any is_some (inner_numbers filled k) ≡ ((a && b) || is_some (get_or inners k 0))
-    inner_by k less true true e f =
-        inner_hit k (leb-true lo k e) (ltb-true k (lo + rows) f) (let many = wide in omega (arith, less, many))
-    inner_by k less true false e f =
-        let above = ltb-false k (lo + rows) f in
-        ap (list_any is_some) (inner_miss k (λ _ below. omega (arith, above, below)))
-        ∙ inner_any g content inode direct mapped k less
-    inner_by k less false b e f =
-        let below = leb-false lo k e in
-        ap (list_any is_some) (inner_miss k (λ above _. omega (arith, above, below)))
-        ∙ inner_any g content inode direct mapped k less
-
     inner_now : inner_in filled ≡ inner_in numbers + missing_between inners lo rows
     inner_now =
+        let many = wide in
         ap (λ w. count_by (λ inner. list_any is_some (inner_numbers filled inner)) (range_with_len 0 w)) (sym wide)
         ∙ first_part inners 0 lo rows rows_fit (λ inner. list_any is_some (inner_numbers filled inner))
-        (λ k less. inner_by k less (nat_le lo k) (nat_lt k (lo + rows)) refl refl)
+        (λ k less from to. ap (λ j. list_any is_some (inner_numbers filled j)) (from_none k)
+        ∙ inner_hit k from to (omega (arith, less, many)))
+        (λ k less out. ap (λ j. list_any is_some (inner_numbers filled j)) (from_none k)
+        ∙ ap (list_any is_some) (inner_miss k out)
+        ∙ ap (λ j. list_any is_some (inner_numbers numbers j)) (sym (from_none k))
+        ∙ inner_any g content inode direct mapped k less)
         ∙ ap (λ c. c + missing_between inners lo rows) (sym (inner_count g content inode direct mapped))
 
     pub double_added : missing + count_of numbers ≡ count_of filled
         → missing + (new_indirect inode first last + new_inner content inode first last) ≡ after - before
     double_added sum =
-        let far = far_now in
-        let double = double_now in
-        let inner = inner_now in
-        let one = after_is in
-        let two = before_is in omega (arith, sum, far, double, inner, one, two)
+        far_sum missing (new_indirect inode first last) (cond (nat_eq inode.double 0) 1 0)
+        (missing_between inners lo rows) (count_of numbers) (count_of filled) (one_if (indirect_in numbers))
+        (one_if (indirect_in filled)) (one_if (double_in numbers)) (one_if (double_in filled)) (inner_in numbers)
+        (inner_in filled) after before sum far_now double_now inner_now after_is before_is

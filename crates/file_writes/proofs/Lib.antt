@@ -4,7 +4,7 @@ pub mod FarNumbers
 pub mod PieceWritten
 pub mod Owned
 pub mod Cases
-pub mod Doubles
+pub mod DoubleCases
 pub mod ImageWritten
 pub mod Stored
 pub mod Once

@@ -84,6 +84,19 @@ module _ (q b : ℕ) (xs ys : List ℕ) (i : ℕ) (is : is_some b ≡ true) wher
       ∙ once_more q b (xs ++ ys) i (omega (arith, long, less)) is
       (ap (λ n. nat_eq n 0) (get_or_append_left xs ys 0 i less) ∙ none)
 
+-- behind the first two
+pub two_behind : (a b i : ℕ) (l : List ℕ) → get_or (a ∷ b ∷ l) (2 + i) 0 ≡ get_or l i 0
+two_behind a b i l = ap (λ k. get_or (a ∷ b ∷ l) k 0) (two_more i)
+  where
+    two_more : (i : ℕ) → 2 + i ≡ suc (suc i)
+    two_more i = omega arith
+
+pub two_set : (a b i x : ℕ) (l : List ℕ) → set (a ∷ b ∷ l) (2 + i) x ≡ a ∷ b ∷ set l i x
+two_set a b i x l = ap (λ k. set (a ∷ b ∷ l) k x) (two_more i)
+  where
+    two_more : (i : ℕ) → 2 + i ≡ suc (suc i)
+    two_more i = omega arith
+
 pub one_first : (q x : ℕ) (xs : List ℕ) → times q (x ∷ xs) ≡ cond (nat_eq x q) 1 0 + times q xs
 one_first q x xs = sum_by-cons (λ one. cond (nat_eq one q) 1 0) x xs
 
@@ -236,6 +249,7 @@ module _ (g : Geometry) (base : Image) (tree : Tree) (n : ℕ) (inode : Inode)
 
   pub inner_behind : (i : ℕ) → get_or pointers (2 + i) 0 ≡ get_or inners i 0
   inner_behind i = ap (λ l. get_or l (2 + i) 0) (pointers_are was inode)
+      ∙ two_behind inode.indirect inode.double i inners
 
   pub pointers_used : (is_used_pointer was inode.indirect ≡ true) × (is_used_pointer was inode.double ≡ true)
       × (list_all (is_used_pointer was) inners ≡ true)

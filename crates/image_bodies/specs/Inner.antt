@@ -1,5 +1,6 @@
 -- What the double indirect block of a file reaches.
 use Rattle.std.specs.Prelude.{ℕ, ◌+◌, ◌-◌, ◌*◌, Bool, ◌++◌, ◌∷◌, List, drop, filter}
+use Rattle.std.specs.List.{flat_map}
 use Rattle.limits.specs.declared.TheConstants.{BLOCK_BYTES, FIRST_DOUBLE_INDEX, INDIRECT_INDEXES}
 use Rattle.disk.specs.Crash.{Image}
 use Rattle.layout.specs.declared.inode.Inode.{Inode}
@@ -17,7 +18,12 @@ is_zero_row content size pointer inner =
     is_zeros (drop (size - BLOCK_BYTES * (FIRST_DOUBLE_INDEX + INDIRECT_INDEXES * inner))
     (bytes_of content (numbers_in content pointer)))
 
--- and so have those of all of them
+-- so have those that inner blocks name
+abbrev pub are_zero_rows : Image → ℕ → List ℕ → Bool
+are_zero_rows content size inner =
+    is_zeros (drop (size - BLOCK_BYTES * FIRST_DOUBLE_INDEX) (bytes_of content (flat_map (numbers_in content) inner)))
+
+-- and those that all inner blocks of a file name
 abbrev pub is_zero_below : Image → Inode → Bool
 is_zero_below content inode =
     is_zeros (drop (inode.size - BLOCK_BYTES * FIRST_DOUBLE_INDEX) (bytes_of content (doubled_in content inode.double)))

@@ -1,5 +1,5 @@
 //! The files of an image.
-ghost use Rattle.std.specs.Prelude.{◌≡◌, ◌<◌, ◌≤◌, ℕ, None, Some, get_or, length, true, IfOk, IsErrOf, OnOk};
+ghost use Rattle.std.specs.Prelude.{◌≡◌, ◌&&◌, ◌<◌, ◌≤◌, ℕ, None, Some, get_or, length, true, IfOk, IsErrOf, OnOk};
 ghost use Rattle.std.specs.List.{list_all};
 ghost use Rattle.limits.specs.declared.TheConstants.{FIRST_DOUBLE_INDEX};
 ghost use Rattle.layout.specs.InodeForm.{SoundInode, is_data_block_or_none};
@@ -12,8 +12,9 @@ ghost use Rattle.image_files.specs.Slots.{IsSpanned};
 ghost use Rattle.image_links.specs.Linked.{HasCounts};
 ghost use Rattle.image_bodies.specs.Bodies.{AreAsRead, FitsFound, HasBlocks, HasBlocksOf, IsAdded, IsFound};
 ghost use Rattle.image_bodies.specs.Bodies.{IsLookedAt, first_untidy};
+ghost use Rattle.image_bodies.specs.Inner.{is_zero_below};
 
-use crate::inner::look_below;
+use crate::inner::{both, look_below};
 use crate::{Found, Progress};
 use disk::CrashDisk;
 use file_counts::{count_names, meet_blocks};
@@ -152,7 +153,7 @@ fn look_at_file<D: CrashDisk>(
     let tidy = look_inside(
         alloc, disk, overlay, geometry, table, number, inode, &numbers, links,
     )?;
-    found.untidy = first_untidy(found.untidy, number, tidy && further);
+    found.untidy = first_untidy(found.untidy, number, both(tidy, further));
     Ok(())
 }
 
@@ -166,7 +167,8 @@ fn first_untidy(first: Option<u32>, number: u32, tidy: bool) -> Option<u32>
     }
 }
 
-// Looks at what lies in a file's blocks, which have these numbers, and tells whether it is tidy.
+// Looks at what lies in a file's blocks in front of its double indirect block, which have these numbers, and tells whether
+// it is tidy, if nothing lies past its size in those behind.
 #[tactic(auto, using(wal_law::proofs::OnlyRead::reads_then, wal_law::proofs::OnlyRead::no_read))]
 fn look_inside<D: CrashDisk>(
     alloc: Global,
@@ -195,7 +197,7 @@ fn look_inside<D: CrashDisk>(
         (content_on geometry.now overlay.now (D.device disk.old)) inode.now
         → IfOk result (λ tidy. IsLookedAt geometry.now
         (content_on geometry.now overlay.now (D.device disk.old)) table.now number inode.now.kind inode.now links.old links.new
-        tidy) }
+        (tidy && is_zero_below (content_on geometry.now overlay.now (D.device disk.old)) inode.now)) }
     ensures refused { D.keeps_model disk.new → IsUnspoiled (D.device disk.old)
         → AreAsRead geometry.now (content_on geometry.now overlay.now (D.device disk.old)) table.now
         → SoundInode geometry.now inode.now → numbers.now ≡ near_of
@@ -242,6 +244,7 @@ fn look_at_slots<D: CrashDisk>(
     ensures counts { IfOk result (λ _. HasCounts geometry.now.inodes links.new) }
     ensures looked { D.keeps_model disk.new → IsUnspoiled (D.device disk.old)
         → AreAsRead geometry.now (content_on geometry.now overlay.now (D.device disk.old)) table.now
+        → SoundInode geometry.now inode.now → inode.now.kind ≡ Directory
         → numbers.now ≡ near_of (content_on geometry.now overlay.now (D.device disk.old)) inode.now
         → IfOk result (λ tidy. IsLookedAt geometry.now
         (content_on geometry.now overlay.now (D.device disk.old)) table.now number Directory inode.now links.old links.new tidy) }

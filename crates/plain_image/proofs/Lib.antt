@@ -1,5 +1,0 @@
-pub mod Decoded
-pub mod SameFile
-pub mod Bodies
-pub mod Contents
-pub mod Readable

@@ -1,18 +1,17 @@
 //! The parts of a file: its inode, the numbers of its blocks, their bytes, and the names in them.
 ghost use Rattle.std.specs.Prelude.{◌≡◌, ◌≤◌, ◌<◌, ◌/◌, ◌++◌, true, false, length, All, IsOk, IfOk, IfErr};
-ghost use Rattle.std.specs.Prelude.{IfSome, OnOk};
-ghost use Rattle.limits.specs.declared.TheConstants.{BLOCK_BYTES, FIRST_DOUBLE_INDEX, INDIRECT_INDEXES};
-ghost use Rattle.limits.specs.declared.TheConstants.{LARGEST_DIRECTORY};
+ghost use Rattle.std.specs.Prelude.{IfSome, OnOk, nat_eq, drop};
+ghost use Rattle.limits.specs.declared.TheConstants.{BLOCK_BYTES, INDIRECT_INDEXES, LARGEST_DIRECTORY};
 ghost use Rattle.disk.specs.Memory.{image_of, memory_device};
 ghost use Rattle.model.specs.SetAttr.{resized};
-ghost use Rattle.std.specs.List.{list_all};
+ghost use Rattle.std.specs.List.{flat_map, list_all};
 ghost use Rattle.layout.specs.Fields.{numbers_at, count_of};
 ghost use Rattle.layout.specs.InodeForm.{SoundInode, is_data_block_or_none};
 ghost use Rattle.layout.specs.declared.slot.TheConstants.{SLOT_BYTES};
 ghost use Rattle.plain_image.specs.PlainFile.{AreNumbersOf, AreWhole};
 ghost use Rattle.plain_image.specs.PlainName.{entries_in, entries_of, one_entry};
-ghost use Rattle.plain_image.specs.Refusal.{AreSlots, CanBeRead, IsRangeFor};
-ghost use Rattle.layout.specs.Decode.{bytes_of, content_of, inode_at, numbers_of};
+ghost use Rattle.plain_image.specs.Refusal.{AreSlots, CanBeRead, HasDataBlocks, IsRangeFor};
+ghost use Rattle.layout.specs.Decode.{bytes_of, content_of, inode_at, numbers_in};
 ghost use Rattle.layout.specs.SlotForm.{read_slot};
 
 use crate::ImageFault;
@@ -61,8 +60,8 @@ pub(crate) fn inode_of(
     Ok(found)
 }
 
-// The numbers in an indirect block.
-fn indirect(
+// The numbers in a block that holds numbers.
+fn spelled(
     alloc: Global,
     disk: &MemDisk,
     geometry: &Geometry,
@@ -79,25 +78,62 @@ fn indirect(
     Ok(numbers)
 }
 
-// Adds the numbers in inner blocks, up to the last that is there.
-fn add_inner(
+// The numbers in a block that holds numbers, zeros where there is none.
+fn numbers_in(
     alloc: Global,
     disk: &MemDisk,
     geometry: &Geometry,
-    inner: &[u32],
+    number: u32,
+) -> Result<Vec<u32>, ImageFault>
+    requires { number < (memory_device disk.now).size }
+    ensures are { IfOk result (λ numbers. numbers.items ≡ numbers_in (image_of disk.now) number) }
+    ensures places { IfOk result
+        (λ numbers. list_all (is_data_block_or_none geometry.now) numbers.items ≡ true) }
+    ensures refused { IfErr result (IsRangeFor (list_all (is_data_block_or_none geometry.now)
+        (numbers_in (image_of disk.now) number) ≡ false)) }
+{
+    let mut numbers = Vec::with_capacity(alloc, INDIRECT_INDEXES)?;
+    if number == 0 {
+        numbers.extend_from_slice(&[0; INDIRECT_INDEXES])?;
+    } else {
+        let more = spelled(alloc, disk, geometry, number)?;
+        numbers.extend_from_slice(more.as_slice())?;
+    }
+    Ok(numbers)
+}
+
+// How many numbers there are up to the last that isn't 0.
+fn used_of(numbers: &[u32]) -> usize
+    ensures few { result ≤ length numbers.now }
+    ensures rest { list_all (λ number. nat_eq number 0) (drop result numbers.now) ≡ true }
+{
+    let mut used = numbers.len();
+    'back: while used > 0 && numbers[used - 1] == 0 {
+        used -= 1;
+    }
+    used
+}
+
+// Adds the numbers in each of these blocks.
+fn add_numbers(
+    alloc: Global,
+    disk: &MemDisk,
+    geometry: &Geometry,
+    pointers: &[u32],
     numbers: &mut Vec<u32>,
 ) -> Result<(), ImageFault>
-    requires len { length inner.now ≡ INDIRECT_INDEXES }
     requires fits { geometry.now.blocks ≤ (memory_device disk.now).size }
-    requires placed { list_all (is_data_block_or_none geometry.now) inner.now ≡ true }
-    requires numbers { length numbers.old.items ≡ FIRST_DOUBLE_INDEX }
+    requires placed { list_all (is_data_block_or_none geometry.now) pointers.now ≡ true }
+    ensures numbers { OnOk result (numbers.new.items
+        ≡ numbers.old.items ++ flat_map (numbers_in (image_of disk.now)) pointers.now) }
+    ensures places { OnOk result (list_all (is_data_block_or_none geometry.now)
+        (flat_map (numbers_in (image_of disk.now)) pointers.now) ≡ true) }
+    ensures refused { IfErr result (IsRangeFor (list_all (is_data_block_or_none geometry.now)
+        (flat_map (numbers_in (image_of disk.now)) pointers.now) ≡ false)) }
 {
-    'inner: for index in 0..INDIRECT_INDEXES {
-        if inner[index] != 0 {
-            numbers.resize(FIRST_DOUBLE_INDEX + INDIRECT_INDEXES * index, 0)?;
-            let row = indirect(alloc, disk, geometry, inner[index])?;
-            numbers.extend_from_slice(row.as_slice())?;
-        }
+    'each: for pointer in pointers {
+        let more = numbers_in(alloc, disk, geometry, *pointer)?;
+        numbers.extend_from_slice(&more)?;
     }
     Ok(())
 }
@@ -113,21 +149,15 @@ pub(crate) fn numbers_of(
     requires fits { geometry.now.blocks ≤ (memory_device disk.now).size }
     ensures numbers { IfOk result
         (λ numbers. AreNumbersOf geometry.now (image_of disk.now) inode.now numbers.items) }
-    ensures refused { IfErr result (IsRangeFor (list_all (is_data_block_or_none geometry.now)
-        (numbers_of (image_of disk.now) inode.now) ≡ false)) }
+    ensures refused { IfErr result (IsRangeFor (HasDataBlocks geometry.now (image_of disk.now) inode.now → ⊥)) }
 {
     let mut numbers = Vec::with_capacity(alloc, FIRST_DOUBLE_INDEX)?;
     numbers.extend_from_slice(&inode.direct)?;
-    if inode.indirect == 0 {
-        numbers.extend_from_slice(&[0; INDIRECT_INDEXES])?;
-    } else {
-        let more = indirect(alloc, disk, geometry, inode.indirect)?;
-        numbers.extend_from_slice(more.as_slice())?;
-    }
-    if inode.double != 0 {
-        let inner = indirect(alloc, disk, geometry, inode.double)?;
-        add_inner(alloc, disk, geometry, inner.as_slice(), &mut numbers)?;
-    }
+    let far = numbers_in(alloc, disk, geometry, inode.indirect)?;
+    numbers.extend_from_slice(&far)?;
+    let inner = numbers_in(alloc, disk, geometry, inode.double)?;
+    let used = used_of(&inner);
+    add_numbers(alloc, disk, geometry, &inner[..used], &mut numbers)?;
     Ok(numbers)
 }
 
@@ -165,9 +195,6 @@ pub(crate) fn bytes_of(
 {
     let mut bytes = Vec::new(alloc);
     'each: for number in numbers {
-        if bytes.len() >= size {
-            break;
-        }
         push_block(disk, *number, &mut bytes)?;
     }
     bytes.resize(size, 0)?;

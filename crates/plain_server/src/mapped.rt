@@ -1,9 +1,9 @@
 //! The indexes of the blocks that a regular file has.
-ghost use Rattle.std.specs.Prelude.{◌≡◌, ℕ, ◌+◌, ◌*◌, ◌<◌, ◌≤◌, cond, nat_lt, count_by, length, filter, IfOk, OnOk};
+ghost use Rattle.std.specs.Prelude.{◌≡◌, ◌+◌, ◌*◌, ◌<◌, ◌≤◌, cond, nat_lt, length, filter, IfOk, OnOk};
 ghost use Rattle.std.specs.Prelude.{OnErr};
-ghost use Rattle.std.specs.List.{list_any, range_with_len};
+ghost use Rattle.std.specs.List.{list_any};
 ghost use Rattle.std.specs.FinSet as set;
-ghost use Rattle.model.specs.Cost.{file_cost, is_double, is_indirect, is_inner};
+ghost use Rattle.model.specs.Cost.{file_cost, inner_cost, is_double, is_indirect, is_inner};
 
 use limits::{BLOCK_BYTES, DIRECT_INDEXES, FILE_INDEXES, FIRST_DOUBLE_INDEX, INDIRECT_INDEXES};
 use std::alloc::{AllocError, Global};
@@ -122,14 +122,13 @@ fn any_is_inner(inner: usize, indexes: &[u32]) -> bool
 // How many inner blocks name one of these indexes.
 fn inner_cost(indexes: &[u32]) -> u64
     ensures few { result ≤ INDIRECT_INDEXES }
-    ensures is { result ≡ count_by (λ inner. list_any (is_inner inner) indexes.now)
-        (range_with_len 0 INDIRECT_INDEXES) }
+    ensures is { result ≡ inner_cost INDIRECT_INDEXES (set.from_list indexes.now) }
 {
     let mut cost = 0;
     if !any_is_double(indexes) {
         return 0;
     }
-    'inner: for inner in 0..INDIRECT_INDEXES {
+    'each: for inner in 0..INDIRECT_INDEXES {
         if any_is_inner(inner, indexes) {
             cost += 1;
         }

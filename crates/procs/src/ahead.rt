@@ -60,6 +60,21 @@ pub(crate) struct Listing {
     pointers: Option<Pointers>,
 }
 
+// Asks for the pointer blocks of a file, from those on that were asked for.
+fn ask_pointers(pointers: &mut Option<Pointers>, snap: &Snap, number: u32) -> Result<(), Stop>
+    ensures { IfErr result (λ why. MayStop snap.now why) }
+{
+    if pointers.is_none() {
+        if let Some(inode) = held(snap, number)? {
+            *pointers = Some(Pointers::begin(inode));
+        }
+    }
+    match pointers {
+        Some(pointers) => pointers.go_on(snap),
+        None => Ok(()),
+    }
+}
+
 // How far a listing is with what a directory lists, as long as there is room.
 impl Listing {
     // An entry more, if there is room for it.
@@ -106,30 +121,13 @@ impl Listing {
         ensures { IfErr result (λ why. MayStop snap.now why) }
     {
         'numbers: while self.told < self.numbers.len() {
-            self.ask_pointers(snap)?;
-            files.file(self.numbers[self.told])?;
+            let number = self.numbers[self.told];
+            ask_pointers(&mut self.pointers, snap, number)?;
+            files.file(number)?;
             self.told += 1;
             self.pointers = None;
         }
         Ok(())
-    }
-
-    // Asks for the pointer blocks of the next file that is told.
-    fn ask_pointers(&mut self, snap: &Snap) -> Result<(), Stop>
-        ensures { IfErr result (λ why. MayStop snap.now why) }
-    {
-        if self.told >= self.numbers.len() {
-            return Ok(());
-        }
-        if self.pointers.is_none() {
-            if let Some(inode) = held(snap, self.numbers[self.told])? {
-                self.pointers = Some(Pointers::begin(inode));
-            }
-        }
-        match self.pointers.as_mut() {
-            Some(pointers) => pointers.go_on(snap),
-            None => Ok(()),
-        }
     }
 
     fn go_on(&mut self, alloc: Global, snap: &Snap) -> Result<(), Stop>

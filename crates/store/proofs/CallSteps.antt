@@ -92,6 +92,7 @@ runs_of base now fetches first entries last opened = record {
   position = omega arith;
   blocks = opened.since.over.files.blocks_are;
   inodes = opened.since.over.files.inodes_are;
+  newest = opened.since.over.files.newest;
   stands = opened.stands;
   fetched = opened.fetched;
   placed = λ count. ap (blocks_after base now.core) (past_count (installed_place now.core.log) count);

@@ -44,7 +44,7 @@ use Rattle.store_images.specs.BringingHome.{IsFound, KeepsBlocks}
 use Rattle.store_images.specs.Opening.{HoldsTree}
 use Rattle.store_images.proofs.ComingHome.{ReadsAlike, found_home, found_stops, good_under, reads_same}
 use Rattle.store_images.proofs.Later.{some_image}
-use Rattle.store_images.proofs.Raising.{outside, raised_stops, settled_stops, under, under_raised, unlogged}
+use Rattle.store_images.proofs.Raising.{outside, raised_keeps, under, under_raised, unlogged}
 
 one_there : (contents : List Content) → length contents ≡ 1 → Contains contents (newest contents)
 one_there [] one = absurd (omega (arith, one))
@@ -190,8 +190,7 @@ module _ (before : Device) (tree : Tree) (first : ℕ) (holds : HoldsTree before
     module _ (now later : Device) (log : Log) (lawful : IsLawful log) (none : log.changes ≡ [])
         (raises : HasRaised before content now later log) (blocks : AreBlocks later) where
       keeps : KeepsBlocks before later content
-      keeps = settled_stops before raises.written later content (Ok tt) raises.settle
-          (raised_stops before now log content lawful none raises.brings raises.written (Ok tt) raises.write)
+      keeps = raised_keeps before now later log content lawful none raises
 
       abbrev home : Image
       home = under before now log content lawful none raises.brings

@@ -15,7 +15,7 @@ use Rattle.bitmap.proofs.NewBlocks.{none_taken}
 use Rattle.file_writes.specs.Filling.{Fills, mapping}
 use Rattle.file_writes.specs.Inner.{inner_of, place_of}
 use Rattle.file_writes.specs.Spent.{unspent}
-use Rattle.file_writes.proofs.Doubles.{block_named_inner}
+use Rattle.file_writes.proofs.DoubleCases.{block_named_inner}
 use Rattle.file_writes.proofs.FarNumbers.{named_count}
 use Rattle.file_writes.proofs.PieceWritten.{long_content, not_zero}
 use Rattle.file_writes.proofs.Stored.{content_are, named_are, stored_far}

@@ -4,4 +4,4 @@ use Rattle.layout.proofs.OneGeometry.{one_geometry}
 use Rattle.layout.proofs.geometry.Geometry.newest.Goals as goal
 
 pub returns-clause-is : goal.returns-clause-is
-returns-clause-is c = one_geometry c.result (newest c.args.self.now) refl refl refl
+returns-clause-is c = one_geometry _ (newest c.args.self.now) refl refl refl

@@ -36,6 +36,7 @@ use Rattle.file_writes.proofs.Owned.{far_holds, free_not_own, inner_behind, inne
 use Rattle.file_writes.proofs.Owned.{not_first, not_pointer, one_ahead, one_behind, one_first, one_if_same, or_right}
 use Rattle.file_writes.proofs.Owned.{pass_each}
 use Rattle.file_writes.proofs.Owned.{own_double, own_inner, own_number, placed, pointers_used, put_else, put_here}
+use Rattle.file_writes.proofs.Owned.{two_set}
 use Rattle.file_writes.proofs.PieceWritten.{not_zero, or_data}
 
 -- where an index lies that the double indirect block reaches
@@ -149,7 +150,7 @@ module _ (g : Geometry) (base : Image) (tree : Tree) (n : ℕ) (inode : Inode) (
       -- its pointer blocks, with the double indirect block and the inner one
       pointers_inner : pointer_blocks after new ≡ set (set pointers 1 double) (2 + row) x
       unfolding pointer_blocks
-      pointers_inner = λ i. inode.indirect ∷ double ∷ top i
+      pointers_inner = (λ i. inode.indirect ∷ double ∷ top i) ∙ sym (two_set inode.indirect double row x inners)
 
       used_x : is_used_pointer after x ≡ true
       used_x = or_right (nat_eq x 0)
