@@ -1,5 +1,5 @@
 //! What the double indirect block of a file reaches.
-ghost use Rattle.std.specs.Prelude.{◌≡◌, ◌++◌, ◌<◌, ◌≤◌, ℕ, List, filter, get_or, length, true, IfOk, IsErrOf};
+ghost use Rattle.std.specs.Prelude.{◌≡◌, ◌&&◌, ◌++◌, ◌<◌, ◌≤◌, ℕ, List, filter, get_or, length, true, IfOk, IsErrOf};
 ghost use Rattle.std.specs.List.{flat_map};
 ghost use Rattle.limits.specs.declared.TheConstants.{INDIRECT_INDEXES};
 ghost use Rattle.layout.specs.Decode.{numbers_in};
@@ -60,6 +60,13 @@ fn look_at_row<D: CrashDisk>(
     is_zero_past(alloc, disk, overlay, geometry, rest, numbers.as_slice())
 }
 
+/// Whether both hold.
+pub(crate) fn both(one: bool, other: bool) -> bool
+    ensures { result ≡ (one && other) }
+{
+    one && other
+}
+
 // Meets the blocks that inner blocks of a file name, one inner block after another, and tells whether they have nothing
 // but zeros past the file's size.
 #[tactic(auto, using(wal_law::proofs::OnlyRead::reads_then, wal_law::proofs::OnlyRead::no_read))]
@@ -102,7 +109,7 @@ fn look_at_rows<D: CrashDisk>(
             index,
             owners,
         )?;
-        is_zero = is_zero && row;
+        is_zero = both(is_zero, row);
     }
     Ok(is_zero)
 }

@@ -14,7 +14,7 @@ ghost use Rattle.image_bodies.specs.Bodies.{AreAsRead, FitsFound, HasBlocks, Has
 ghost use Rattle.image_bodies.specs.Bodies.{IsLookedAt, first_untidy};
 ghost use Rattle.image_bodies.specs.Inner.{is_zero_below};
 
-use crate::inner::look_below;
+use crate::inner::{both, look_below};
 use crate::{Found, Progress};
 use disk::CrashDisk;
 use file_counts::{count_names, meet_blocks};
@@ -153,7 +153,7 @@ fn look_at_file<D: CrashDisk>(
     let tidy = look_inside(
         alloc, disk, overlay, geometry, table, number, inode, &numbers, links,
     )?;
-    found.untidy = first_untidy(found.untidy, number, tidy && further);
+    found.untidy = first_untidy(found.untidy, number, both(tidy, further));
     Ok(())
 }
 

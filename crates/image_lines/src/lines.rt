@@ -197,7 +197,8 @@ fn count_rows<D: CrashDisk>(
 {
     let mut blocks = 0;
     'rows: for index in 0..inner.len() {
-        blocks += count_row(alloc, disk, overlay, geometry, inner[index])?;
+        let row = count_row(alloc, disk, overlay, geometry, inner[index])?;
+        blocks += row;
     }
     Ok(blocks)
 }

@@ -109,10 +109,8 @@ fn recover<D: CrashDisk>(alloc: Global, disk: &mut D) -> Result<(Core<Done>, u64
         return Err(fault);
     }
     core.lawful();
-    let raised = Super {
-        geometry: found.geometry.newest(),
-        boot,
-    };
+    let geometry = found.geometry.newest();
+    let raised = Super { geometry, boot };
     if let Err(fault) = raise(alloc, disk, &mut block, raised) {
         return Err(fault);
     }

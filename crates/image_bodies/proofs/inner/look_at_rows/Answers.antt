@@ -80,7 +80,7 @@ rows-preserved g c =
           let here : c.in_ok-row.row ≡ is_zero_row content c.args.size number index =
           row.0 ∙ ap (λ k. is_zero_row k c.args.size number index) same in
           let earlier = inv.zero (c.look_at_row.ensures.model keeps) unspoiled long in
-          (λ i. earlier i && here i) ∙ sym (rows_zero content long c.args.size index inner c.rows-test.true);
+          c.both-is_zero.ensures ∙ (λ i. earlier i && here i) ∙ sym (rows_zero content long c.args.size index inner c.rows-test.true);
       mapped = λ keeps unspoiled long.
           let row = c.in_ok-row.ensures.looked keeps (unspoiled_then first before inv.reads unspoiled)
           (long_then geometry logged first before inv.reads long) in

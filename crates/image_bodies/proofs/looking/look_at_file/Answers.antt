@@ -136,5 +136,5 @@ returns-clause-added g c = λ keeps unspoiled as_read sound.
     (subst (λ l. IsOwned (met ++ filter is_some (inode.indirect ∷ l)) c.meet_blocks.new.owners)
     (c.deref.ensures.value ∙ read.0) (c.meet_blocks.ensures.met met before)))))
     looked
-    (c.first_untidy-found.ensures ∙ ap (λ b. first_untidy c.args.found.now.untidy c.args.number (c.in_ok-tidy.tidy && b))
-    further)
+    (c.first_untidy-found.ensures
+    ∙ ap (first_untidy c.args.found.now.untidy c.args.number) (c.both.ensures ∙ ap (λ b. c.in_ok-tidy.tidy && b) further))

@@ -27,14 +27,14 @@ rows-init g c = record {
 pub count_row-requires : goal.count_row-requires
 count_row-requires g c = omega (arith, c.requires.size, c.rows.invariant.reads.size)
 
-pub returns-in_err-count_row-clause-refused : goal.returns-in_err-count_row-clause-refused
-returns-in_err-count_row-clause-refused g c = λ keeps unspoiled range rows.
+pub returns-in_err-row-clause-refused : goal.returns-in_err-row-clause-refused
+returns-in_err-row-clause-refused g c = λ keeps unspoiled range rows.
     let first : Device = g.D.CrashDisk.device c.args.disk.now in
     let before : Device = g.D.CrashDisk.device c.rows.disk in
     let inv = c.rows.invariant in
     let geometry = c.args.geometry.now in
     let same = contents_then geometry c.args.overlay.now first before inv.reads in
-    c.in_err-count_row.ensures.refused keeps (unspoiled_then first before inv.reads unspoiled) (search rules)
+    c.in_err-row.ensures.refused keeps (unspoiled_then first before inv.reads unspoiled) (search rules)
     (subst (λ k. IsRowMapped geometry k (get_or c.args.inner.now c.rows.index 0)) (sym same)
     (rows c.rows.index c.rows-test.true))
 
@@ -52,12 +52,12 @@ rows-preserved g c =
     let same = contents_then geometry logged first before inv.reads in
     record {
       reads = reads_then first before after inv.reads c.count_row.ensures.reads;
-      failures = c.in_ok-count_row.ensures.failure ∙ inv.failures;
+      failures = c.in_ok-row.ensures.failure ∙ inv.failures;
       model = λ keeps. inv.model (c.count_row.ensures.model keeps);
-      few = (let so_far = inv.few in let more = c.in_ok-count_row.ensures.few in omega (arith, so_far, more));
+      few = (let so_far = inv.few in let more = c.in_ok-row.ensures.few in omega (arith, so_far, more));
       counted = λ keeps unspoiled.
           let so_far = inv.counted (c.count_row.ensures.model keeps) unspoiled in
-          let row = c.in_ok-count_row.ensures.blocks keeps (unspoiled_then first before inv.reads unspoiled) in
+          let row = c.in_ok-row.ensures.blocks keeps (unspoiled_then first before inv.reads unspoiled) in
           let here = row ∙ ap (λ k. count_of (numbers_in k (get_or inner index 0))) same in
           (λ i. so_far i + here i) ∙ sym (counted_more content inner index c.rows-test.true);
     }

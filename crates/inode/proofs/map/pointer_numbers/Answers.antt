@@ -1,17 +1,26 @@
 use Rattle.std.proofs.Common.{rules, ◌≡◌, replicate}
 use Rattle.limits.specs.declared.TheConstants.{INDIRECT_INDEXES}
 use Rattle.layout.specs.Parts.{content_in}
+use Rattle.inode.specs.Asked.AreFarNumbers.{spelled, zeros}
 use Rattle.inode.proofs.PointersThere.{spelled_in, zeros_in}
 use Rattle.inode.proofs.map.pointer_numbers.Goals as goal
 
 pub returns-then-pointer-eq0-clause-ok : goal.returns-then-pointer-eq0-clause-ok
 returns-then-pointer-eq0-clause-ok c = λ blocks tree over.
-    let zeros : c.in_ok-zeros.zeros.items ≡ replicate INDIRECT_INDEXES 0 = search rules in
+    let are : c.in_ok-zeros.zeros.items ≡ replicate INDIRECT_INDEXES 0 = search rules in
     zeros_in (content_in c.args.snap.now.geometry blocks) c.args.pointer c.in_ok-zeros.zeros.items
-    (let h = c.if-pointer-eq0.true in search rules) zeros
+    (let h = c.if-pointer-eq0.true in search rules) are
 
 pub returns-in_ok-numbers-in-Ok-clause-ok : goal.returns-in_ok-numbers-in-Ok-clause-ok
 returns-in_ok-numbers-in-Ok-clause-ok c = λ blocks tree over.
     spelled_in (content_in c.args.snap.now.geometry blocks) c.args.pointer c.in_ok-bytes.bytes.now
     c.in_ok-numbers-in-Ok.numbers.items (let h = c.if-pointer-eq0.false in search rules)
     (c.in_ok-bytes.ensures.ok blocks tree over) (search rules)
+
+pub returns-then-pointer-eq0-clause-read : goal.returns-then-pointer-eq0-clause-read
+returns-then-pointer-eq0-clause-read c =
+    let are : c.in_ok-zeros.zeros.items ≡ replicate INDIRECT_INDEXES 0 = search rules in
+    zeros c.if-pointer-eq0.true are
+
+pub returns-in_ok-numbers-in-Ok-clause-read : goal.returns-in_ok-numbers-in-Ok-clause-read
+returns-in_ok-numbers-in-Ok-clause-read c = spelled c.in_ok-bytes.bytes.now c.in_ok-bytes.ensures.read (search rules)

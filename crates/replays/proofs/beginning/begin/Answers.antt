@@ -95,11 +95,11 @@ returns-in-Ok-begin_home-clause-begun g c = λ tree first holds kept.
     let came : HasComeHome now later (with_log_home (image_of now) logged end (super_bytes raised)) =
     subst (λ (bytes : Content). HasComeHome now later (with_log_home (image_of now) logged end bytes))
     (c.deref-2.ensures.value ∙ c.in-Ok.ensures.bytes
-    ∙ ap (λ (g : Geometry). super_bytes (record { geometry = g; boot = found.boot + 1 })) c.newest.ensures.is)
+    ∙ ap (λ (g : Geometry). super_bytes (record { geometry = g; boot = found.boot + 1 })) c.newest-geometry.ensures.is)
     (subst (λ (xs : List (BlockNo × Content)). HasComeHome now later
     (with_log_home (image_of now) xs end c.deref-2.result.now))
     c.deref.ensures.value c.in-Ok-begin_home.ensures.home) in
-    subst (λ (g : Geometry). HoldsAtHome g later tree (first + 1)) (sym c.newest.ensures.is)
+    subst (λ (g : Geometry). HoldsAtHome g later tree (first + 1)) (sym c.newest-geometry.ensures.is)
     (begins_at_home before mid now later tree first holds super.reads c.find_log.ensures.reads found raised
     (super_bytes raised) logged end (super.found kept_mid holds.rest.unspoiled) super.blocks refl refl
     (c.a_super_block_is_its_bytes.ensures raised found.geometry.lawful super.boot)
