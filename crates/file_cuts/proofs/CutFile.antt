@@ -34,7 +34,7 @@ use Rattle.file_cuts.proofs.CutContent as cuts
 use Rattle.file_cuts.proofs.CutNumbers.{all_stay, before, past, still_mapped}
 use Rattle.file_cuts.proofs.CutOwned as owned
 use Rattle.file_cuts.proofs.FirstOnes.{more_zeros}
-use Rattle.file_cuts.proofs.Inners.{how_often}
+use Rattle.file_cuts.proofs.InnersCut.{how_often}
 use Rattle.file_cuts.proofs.ReadBack.{small_all, small_one, zeros_else, zeros_here}
 use Rattle.file_cuts.proofs.RegularThere as file
 use Rattle.file_cuts.proofs.RegularThere.{IsRegularThere}

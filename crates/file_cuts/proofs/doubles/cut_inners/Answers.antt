@@ -8,7 +8,7 @@ use Rattle.layout.specs.Parts.{content_in}
 use Rattle.layout.proofs.NumbersIn.{none_pass, some_in}
 use Rattle.inode.proofs.Placed.{passes_at}
 use Rattle.file_cuts.specs.Doubles.{AreInnersCut}
-use Rattle.file_cuts.proofs.Inners.{none_yet}
+use Rattle.file_cuts.proofs.InnersCut.{none_yet}
 use Rattle.file_cuts.proofs.doubles.cut_inners.Goals as goal
 
 pub loop-pointer-init : goal.loop-pointer-init
