@@ -1,11 +1,12 @@
-use Rattle.std.proofs.Common.{rules, ◌≡◌, ap, ◌∙◌, arith}
+use Rattle.std.proofs.Common.{rules, ◌≡◌, sym, ap, ◌∙◌, subst, true, arith}
+use Rattle.layout.specs.InodeForm.{is_data_block_or_none}
 use Rattle.layout.specs.Parts.{content_in}
 use Rattle.inode.specs.Asked.{IsBlockAddr, IsOfDouble}
 use Rattle.inode.specs.Asked.IsFarNumber.{named}
 use Rattle.inode.specs.Asked.IsOfDouble.{below, itself}
-use Rattle.inode.specs.Over.{far_at}
+use Rattle.inode.specs.Over.{are_far_placed, far_at}
 use Rattle.inode.proofs.HeldThere.{no_data}
-use Rattle.inode.proofs.Placed.{some_far}
+use Rattle.inode.proofs.Placed.{inner_data, inner_far_placed, some_far}
 use Rattle.inode.proofs.Stops.{at_err, stop_more}
 use Rattle.inode.proofs.UsedBlocks.{double_rows, no_double, row_held, rows_more}
 use Rattle.inode.proofs.inodes.double_used.Goals as goal
@@ -58,3 +59,16 @@ returns-in_err-far_used-clause-asks c =
     (λ addr at. below c.inner.inner c.at.result (omega (arith, less))
     (named c.in_ok-bytes.bytes.now c.in_ok-bytes.ensures.read c.at.ensures) at)
     c.in_err-far_used.field-0.0 c.in_err-far_used.ensures.asks)
+
+pub returns-in_err-far_used-clause-pause : goal.returns-in_err-far_used-clause-pause
+returns-in_err-far_used-clause-pause c =
+    at_err c.from_residual-in_err-far_used.result c.in_err-far_used.field-0.0 _ (search rules)
+    (λ blocks tree over placed are.
+    let g = c.args.snap.now.geometry in
+    let named : far_at (content_in g blocks) c.args.double c.inner.inner ≡ c.at.result =
+    sym (c.at.ensures
+    ∙ some_far (content_in g blocks) c.args.double c.inner.inner c.in_ok-bytes.bytes.now
+    (let h = c.if-double-eq0.false in search rules) (c.in_ok-bytes.ensures.ok blocks tree over)) in
+    c.in_err-far_used.ensures.pause blocks tree over
+    (subst (λ n. is_data_block_or_none g n ≡ true) named (inner_data g blocks c.args.double are c.inner.inner))
+    (subst (are_far_placed g blocks) named (inner_far_placed g blocks c.args.double are c.inner.inner)))

@@ -1,4 +1,4 @@
-use Rattle.std.proofs.Common.{sym, ap, ◌∙◌, ◌++◌, refl, ℕ, List, append-nil, arith}
+use Rattle.std.proofs.Common.{sym, ap, ◌∙◌, ◌++◌, refl, ℕ, List, append-nil, arith, rules}
 use Rattle.std.specs.List.{flat_map, list_all}
 use Rattle.std.proofs.lemmas.List.{take_all}
 use Rattle.layout.specs.Decode.{numbers_in}
@@ -6,6 +6,7 @@ use Rattle.layout.specs.InodeForm.{is_data_block_or_none}
 use Rattle.layout.specs.Parts.{content_in}
 use Rattle.layout.proofs.NumbersIn.{none_pass, some_in}
 use Rattle.inode.proofs.Placed.{passes_at}
+use Rattle.inode.proofs.Stops.{at_err}
 use Rattle.inode_writes.specs.Frees.{named_by}
 use Rattle.inode_writes.proofs.OwnedBlocks.{one_more}
 use Rattle.inode_writes.proofs.numbers.add_below.Goals as goal
@@ -28,7 +29,8 @@ returns-clause-ok c = λ blocks tree over.
     (take_all c.loop-pointer.pointer-index c.args.pointers.now (omega (arith, past)))
 
 pub returns-in_err-add_inner-clause-pause : goal.returns-in_err-add_inner-clause-pause
-returns-in_err-add_inner-clause-pause c = λ blocks tree over named.
+returns-in_err-add_inner-clause-pause c =
+    at_err c.from_residual.result c.in_err-add_inner.field-0.0 _ (search rules) (λ blocks tree over named.
     let test = is_data_block_or_none c.args.snap.now.geometry in
     let content = content_in c.args.snap.now.geometry blocks in
     let i = c.loop-pointer.pointer-index in
@@ -36,4 +38,4 @@ returns-in_err-add_inner-clause-pause c = λ blocks tree over named.
     c.in_err-add_inner.ensures.pause blocks tree over (passes_at test pointers i refl c.requires)
     (λ some. ap (list_all test) (sym (some_in content _ some))
     ∙ passes_at (λ pointer. list_all test (numbers_in content pointer)) pointers i (none_pass content 0 refl test refl)
-    named)
+    named))

@@ -1,10 +1,11 @@
-use Rattle.std.proofs.Common.{ap, sym, ◌∙◌, ◌++◌, ◌∷◌, filter}
+use Rattle.std.proofs.Common.{ap, sym, ◌∙◌, ◌++◌, ◌∷◌, filter, rules}
 use Rattle.std.specs.List.{flat_map, list_all}
 use Rattle.layout.specs.Decode.{numbers_in}
 use Rattle.layout.specs.InodeForm.{is_data_block_or_none}
 use Rattle.layout.specs.Parts.{content_in}
 use Rattle.layout.proofs.NumbersIn.{doubled_pass}
 use Rattle.inode.proofs.Placed.{inner_placed}
+use Rattle.inode.proofs.Stops.{at_err}
 use Rattle.inode_writes.specs.Frees.{is_some, named_by}
 use Rattle.inode_writes.proofs.OwnedBlocks.{all_owned}
 use Rattle.inode_writes.proofs.numbers.blocks_of.Goals as goal
@@ -27,7 +28,8 @@ returns-clause-ok c = λ blocks tree file has.
     ∙ all_owned content inode
 
 pub returns-in_err-add_below-clause-pause : goal.returns-in_err-add_below-clause-pause
-returns-in_err-add_below-clause-pause c = λ blocks tree file has.
+returns-in_err-add_below-clause-pause c =
+    at_err c.from_residual-in_err-add_below.result c.in_err-add_below.field-0.0 _ (search rules) (λ blocks tree file has.
     let inode = c.args.inode.now in
     let content = content_in c.args.snap.now.geometry blocks in
     let test = is_data_block_or_none c.args.snap.now.geometry in
@@ -35,4 +37,4 @@ returns-in_err-add_below-clause-pause c = λ blocks tree file has.
     c.in_err-add_below.ensures.pause blocks tree has.over
     (ap (list_all (λ pointer. list_all test (numbers_in content pointer))) inner
     ∙ sym (doubled_pass content inode.double test)
-    ∙ (inner_placed c.args.snap.now blocks tree file inode has).named)
+    ∙ (inner_placed c.args.snap.now blocks tree file inode has).named))
