@@ -48,13 +48,14 @@ pub data AreFarNumbers (objects : List ObjectBytes) (pointer : ℕ) (numbers : L
   spelled : (bytes : List ℕ) → WasReadBlock objects pointer bytes → numbers ≡ numbers_at INDIRECT_INDEXES 0 bytes
       → AreFarNumbers objects pointer numbers
 
--- the number of the inner block that reaches an index of a file, as the double indirect block was read: 0 where there is none
+-- the number of the inner block that reaches an index of a file, as the double indirect block was read, 0 where there is
+-- none
 abbrev pub IsInnerFor : List ObjectBytes → Inode → ℕ → ℕ → Type 0
 IsInnerFor objects inode index inner =
     IsFarNumber objects inode.double ((index - FIRST_DOUBLE_INDEX) / INDIRECT_INDEXES) inner
 
--- the number at an index of a file: as the inode names it, or its indirect block as it was read, or the inner block that
--- reaches the index, as it was read
+-- the number at an index of a file: as the inode names it, or its indirect block as it was read, or the inner block
+-- that reaches the index, as it was read
 pub data IsNumberAt (objects : List ObjectBytes) (inode : Inode) (index number : ℕ) : Type 0 where
   direct : index < DIRECT_INDEXES → number ≡ get_or inode.direct index 0 → IsNumberAt objects inode index number
   far : DIRECT_INDEXES ≤ index → index < FIRST_DOUBLE_INDEX
@@ -63,8 +64,8 @@ pub data IsNumberAt (objects : List ObjectBytes) (inode : Inode) (index number :
       → IsFarNumber objects inner ((index - FIRST_DOUBLE_INDEX) % INDIRECT_INDEXES) number
       → IsNumberAt objects inode index number
 
--- the address is that of a pointer block by which the number at an index is found: of the indirect block, or of the double
--- indirect block, or, once that was read, of the inner block that it names
+-- the address is that of a pointer block by which the number at an index is found: of the indirect block, or of the
+-- double indirect block, or, once that was read, of the inner block that it names
 pub data IsPointerFor (objects : List ObjectBytes) (inode : Inode) (index : ℕ) (addr : Addr) : Type 0 where
   indirect : DIRECT_INDEXES ≤ index → index < FIRST_DOUBLE_INDEX → IsBlockAddr inode.indirect addr
       → IsPointerFor objects inode index addr

@@ -8,8 +8,8 @@ ghost use Rattle.layout.specs.Decode.{numbers_in};
 ghost use Rattle.layout.specs.InodeForm.{is_data_block_or_none};
 ghost use Rattle.layout.specs.Parts.{content_in};
 ghost use Rattle.layout.specs.Places.{is_data};
-ghost use Rattle.inode.specs.Asked.{AreFarNumbers, IsBlockAddr, IsFarNumber, IsNumberAt, IsPointerFor, IsStopFor, MayStopFor};
-ghost use Rattle.inode.specs.Asked.{WasReadBlock};
+ghost use Rattle.inode.specs.Asked.{AreFarNumbers, IsBlockAddr, IsFarNumber, IsNumberAt, IsPointerFor, IsStopFor};
+ghost use Rattle.inode.specs.Asked.{MayStopFor, WasReadBlock};
 ghost use Rattle.inode.specs.Over.{HasInode, IsOver, IsPause, MayStop, are_far_placed, far_at, number_at};
 
 use crate::read::bytes_at;

@@ -8,33 +8,32 @@ use Rattle.disk.specs.Crash.{Image}
 use Rattle.layout.specs.declared.inode.Inode.{Inode}
 use Rattle.layout.specs.Decode.{doubled_in, numbers_in, numbers_of, pointer_blocks}
 use Rattle.layout.specs.Owners.{owned_by}
-use Rattle.inode_writes.specs.Frees.{is_some}
+use Rattle.inode_writes.specs.Frees.{is_some, named_by}
 
 module _ (content : Image) where
-  -- the blocks that a pointer block names
-  abbrev pub named_by : ℕ → List ℕ
-  named_by pointer = filter is_some (numbers_in content pointer)
+  abbrev named : ℕ → List ℕ
+  named = named_by content
 
   kept_of_each : (pointers : List ℕ)
-      → flat_map named_by pointers ≡ filter is_some (flat_map (numbers_in content) pointers)
+      → flat_map named pointers ≡ filter is_some (flat_map (numbers_in content) pointers)
   kept_of_each [] = refl
   kept_of_each (n ∷ pointers) =
-      ap (λ l. named_by n ++ l) (kept_of_each pointers)
+      ap (λ l. named n ++ l) (kept_of_each pointers)
       ∙ sym (filter-append is_some (numbers_in content n) (flat_map (numbers_in content) pointers))
 
   -- with those of one pointer block more
   pub one_more : (before all numbers now : List ℕ) (index : ℕ) → index < length all
-      → numbers ≡ before ++ flat_map named_by (take index all) → now ≡ numbers ++ named_by (get_or all index 0)
-      → now ≡ before ++ flat_map named_by (take (index + 1) all)
+      → numbers ≡ before ++ flat_map named (take index all) → now ≡ numbers ++ named (get_or all index 0)
+      → now ≡ before ++ flat_map named (take (index + 1) all)
   one_more before all numbers now index less was is =
-      is ∙ ap (λ l. l ++ named_by (get_or all index 0)) was
-      ∙ flat_map_more named_by before (take index all) (get_or all index 0)
-      ∙ ap (λ l. before ++ flat_map named_by l) (sym (take_more all index 0 less))
+      is ∙ ap (λ l. l ++ named (get_or all index 0)) was
+      ∙ flat_map_more named before (take index all) (get_or all index 0)
+      ∙ ap (λ l. before ++ flat_map named l) (sym (take_more all index 0 less))
 
   -- all of them
   pub all_owned : (inode : Inode)
       → filter is_some (inode.indirect ∷ inode.double ∷ numbers_in content inode.double ++ inode.direct
-      ++ numbers_in content inode.indirect) ++ flat_map named_by (numbers_in content inode.double)
+      ++ numbers_in content inode.indirect) ++ flat_map named (numbers_in content inode.double)
       ≡ owned_by content (Ok (Some inode))
   unfolding numbers_of doubled_in pointer_blocks
   all_owned inode =

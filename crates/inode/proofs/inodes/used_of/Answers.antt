@@ -14,16 +14,18 @@ returns-clause-ok c = λ blocks tree file has.
     + c.in_ok-further.ensures.ok blocks tree has.over i)
 
 pub returns-in_err-far-clause-pause : goal.returns-in_err-far-clause-pause
-returns-in_err-far-clause-pause c = λ blocks tree file has.
+returns-in_err-far-clause-pause c =
+    at_err c.from_residual.result c.in_err-far.field-0.0 _ (search rules) (λ blocks tree file has.
     c.in_err-far.ensures.pause blocks tree has.over
     (indirect_placed c.args.snap.now blocks tree file c.args.inode.now has)
-    (far_placed c.args.snap.now blocks tree file c.args.inode.now has)
+    (far_placed c.args.snap.now blocks tree file c.args.inode.now has))
 
 pub returns-in_err-further-clause-pause : goal.returns-in_err-further-clause-pause
-returns-in_err-further-clause-pause c = λ blocks tree file has.
+returns-in_err-further-clause-pause c =
+    at_err c.from_residual-in_err-further.result c.in_err-further.field-0.0 _ (search rules) (λ blocks tree file has.
     c.in_err-further.ensures.pause blocks tree has.over
     (double_placed c.args.snap.now blocks tree file c.args.inode.now has)
-    (inner_placed c.args.snap.now blocks tree file c.args.inode.now has)
+    (inner_placed c.args.snap.now blocks tree file c.args.inode.now has))
 
 pub returns-in_err-far-clause-asks : goal.returns-in_err-far-clause-asks
 returns-in_err-far-clause-asks c =
