@@ -37,12 +37,13 @@ returns-then-index-through-clause-ok c = λ blocks tree pointers before over is.
     let content = content_in c.args.snap.now.geometry blocks in
     let inners = c.args.inners.now in
     let row = c.in_ok-row.row in
+    let at : c.len-index.result ≡ length inners.numbers.items = omega (arith, c.len-index.ensures) in
     cut_beside (numbers_in content) (in_length content) pointers c.args.count before inners.numbers.items inners.part
     inners.part_numbers.items inners.used c.args.gone.now.items is c.args.pointer c.add-2.new.numbers.items
     row.pointer row.numbers.items row.used c.cut_row.new.gone.items c.deref.result.now c.saturating_sub.result
     c.in_ok-row.ensures.is (c.deref.ensures.value ∙ c.in_ok-numbers.ensures.ok blocks tree over)
-    (c.saturating_sub.ensures ∙ ap (λ (n : ℕ). c.args.count - INDIRECT_INDEXES * n) c.len-index.ensures)
-    c.in_ok-add-2.ensures (λ e. c.if-index-through.true (c.len-index.ensures ∙ e))
+    (c.saturating_sub.ensures ∙ ap (λ (n : ℕ). c.args.count - INDIRECT_INDEXES * n) at)
+    c.in_ok-add-2.ensures (λ e. c.if-index-through.true (at ∙ e))
 
 pub returns-then-index-through-clause-fits : goal.returns-then-index-through-clause-fits
 returns-then-index-through-clause-fits c = λ placed.
@@ -67,12 +68,13 @@ returns-clause-ok c = λ blocks tree pointers before over is.
     let content = content_in c.args.snap.now.geometry blocks in
     let inners = c.args.inners.now in
     let row = c.in_ok-row.row in
+    let at : c.len-index.result ≡ length inners.numbers.items = omega (arith, c.len-index.ensures) in
     cut_through (numbers_in content) (in_length content) pointers c.args.count before inners.numbers.items inners.part
     inners.part_numbers.items inners.used c.args.gone.now.items is c.args.pointer c.add-2.new.numbers.items
     row.pointer row.numbers.items row.used c.cut_row.new.gone.items c.deref.result.now c.saturating_sub.result
     c.in_ok-row.ensures.is (c.deref.ensures.value ∙ c.in_ok-numbers.ensures.ok blocks tree over)
-    (c.saturating_sub.ensures ∙ ap (λ (n : ℕ). c.args.count - INDIRECT_INDEXES * n) c.len-index.ensures)
-    c.in_ok-add-2.ensures (sym c.len-index.ensures ∙ c.if-index-through.false)
+    (c.saturating_sub.ensures ∙ ap (λ (n : ℕ). c.args.count - INDIRECT_INDEXES * n) at)
+    c.in_ok-add-2.ensures (sym at ∙ c.if-index-through.false)
 
 pub returns-clause-fits : goal.returns-clause-fits
 returns-clause-fits c = λ placed.
