@@ -1,6 +1,8 @@
 -- The indexes of a file that get blocks, and what they add to its cost.
-use Rattle.std.proofs.Common.{◌≡◌, ℕ, zero, suc, ◌+◌, ◌-◌, ◌*◌, ◌<◌, ◌≤◌, inl, inr, sym, ap, ◌∙◌, refl, Bool, true, false}
-use Rattle.std.proofs.Common.{cond, max, not, ◌||◌, ◌&&◌, List, [], ◌∷◌, length, get_or, drop, set, take, nat_eq, nat_le}
+use Rattle.std.proofs.Common.{◌≡◌, ℕ, zero, suc, ◌+◌, ◌-◌, ◌*◌, ◌<◌, ◌≤◌, inl, inr, sym}
+use Rattle.std.proofs.Common.{ap, ◌∙◌, refl, Bool, true, false}
+use Rattle.std.proofs.Common.{cond, max, not, ◌||◌, ◌&&◌, List, [], ◌∷◌, length, get_or}
+use Rattle.std.proofs.Common.{drop, set, take, nat_eq, nat_le}
 use Rattle.std.proofs.Common.{nat_lt, count_by, arith}
 use Rattle.std.specs.FinSet.{insert}
 use Rattle.std.specs.List.{list_any, range_with_len}
@@ -128,7 +130,8 @@ behind_there (x ∷ xs) zero zero less from is = ap (λ t. t || list_any is_some
 behind_there (x ∷ xs) zero (suc j) less from is =
     or_right (is_some x) (behind_there xs zero j (omega (arith, less)) (omega arith) is)
 behind_there (x ∷ xs) (suc lo) zero less from is = absurd (omega (arith, from))
-behind_there (x ∷ xs) (suc lo) (suc j) less from is = behind_there xs lo j (omega (arith, less)) (omega (arith, from)) is
+behind_there (x ∷ xs) (suc lo) (suc j) less from is = behind_there xs lo j (omega (arith, less)) (omega (arith, from))
+    is
 
 -- what lies in front of an index that is set is as it was
 same_ahead : (xs : List ℕ) (lo w j b : ℕ) → lo + w ≤ j → take w (drop lo (set xs j b)) ≡ take w (drop lo xs)
@@ -237,14 +240,16 @@ near_sum : (missing indirect was now far far_now double double_now inner inner_n
     → missing + was ≡ now → far_now ≡ far + indirect → double_now ≡ double → inner_now ≡ inner
     → after ≡ now + far_now + double_now + inner_now → before ≡ was + far + double + inner
     → missing + indirect ≡ after - before
-near_sum missing indirect was now far far_now double double_now inner inner_now after before one two three four five six =
+near_sum missing indirect was now far far_now double double_now inner inner_now after before one two three four five
+    six =
     omega (arith, one, two, three, four, five, six)
 
 far_sum : (missing indirect first rows was now far far_now double double_now inner inner_now after before : ℕ)
     → missing + was ≡ now → far_now ≡ far + indirect → double_now ≡ double + first → inner_now ≡ inner + rows
     → after ≡ now + far_now + double_now + inner_now → before ≡ was + far + double + inner
     → missing + (indirect + (first + rows)) ≡ after - before
-far_sum missing indirect first rows was now far far_now double double_now inner inner_now after before one two three four five
+far_sum missing indirect first rows was now far far_now double double_now inner inner_now after before one two three
+    four five
     six = omega (arith, one, two, three, four, five, six)
 
 module _ (g : Geometry) (base : Image) (tree : Tree) (n : ℕ) (inode : Inode)
@@ -359,7 +364,11 @@ module _ (g : Geometry) (base : Image) (tree : Tree) (n : ℕ) (inode : Inode)
 
     inner_same : (inner : ℕ) → inner_numbers filled inner ≡ inner_numbers numbers inner
     inner_same inner = ap (take INDIRECT_INDEXES)
-        (behind_filled numbers first count_up (FIRST_DOUBLE_INDEX + INDIRECT_INDEXES * inner) (omega (arith, low, order)))
+        (behind_filled numbers first count_up (FIRST_DOUBLE_INDEX + INDIRECT_INDEXES * inner) (omega (
+          arith,
+          low,
+          order,
+        )))
 
     pub near_added : missing + count_of numbers ≡ count_of filled
         → missing + new_indirect inode first last ≡ after - before

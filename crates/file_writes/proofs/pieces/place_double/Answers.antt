@@ -45,16 +45,20 @@ returns-then-inner-eq0-clause-ok c =
     let zero : nat_eq c.in-Ok.inner 0 ≡ true = (let h = c.if-inner-eq0.true in search rules) in
     mapped _ _ (λ done leads yes blocks tree offset piece draft write at none.
     leads yes blocks tree offset piece draft write at none
-    (ap (λ k. nat_eq k 0) (sym (inner_is c.args.draft.now c.there-2.result.now blocks tree c.args.number c.args.inode.now c.in-Ok.inner
-    c.inner_of.result c.args.index c.there-2.ensures.there draft write.has c.in-Ok.ensures.ok c.inner_of.ensures.is)) ∙ zero))
+    (ap (λ k. nat_eq k 0) (sym (inner_is c.args.draft.now c.there-2.result.now blocks tree c.args.number
+    c.args.inode.now c.in-Ok.inner
+    c.inner_of.result c.args.index c.there-2.ensures.there draft write.has c.in-Ok.ensures.ok c.inner_of.ensures.is))
+    ∙ zero))
     c.map_first_inner.result c.map_first_inner.ensures.ok
 
 pub returns-then-inner-eq0-clause-room : goal.returns-then-inner-eq0-clause-room
 returns-then-inner-eq0-clause-room c =
     let zero : nat_eq c.in-Ok.inner 0 ≡ true = (let h = c.if-inner-eq0.true in search rules) in
     mapped _ _ (λ done leads blocks tree offset piece draft write at none room.
-    let no_inner = ap (λ k. nat_eq k 0) (sym (inner_is c.args.draft.now c.there-2.result.now blocks tree c.args.number c.args.inode.now c.in-Ok.inner
-    c.inner_of.result c.args.index c.there-2.ensures.there draft write.has c.in-Ok.ensures.ok c.inner_of.ensures.is)) ∙ zero in
+    let no_inner = ap (λ k. nat_eq k 0) (sym (inner_is c.args.draft.now c.there-2.result.now blocks tree c.args.number
+    c.args.inode.now c.in-Ok.inner
+    c.inner_of.result c.args.index c.there-2.ensures.there draft write.has c.in-Ok.ensures.ok c.inner_of.ensures.is))
+    ∙ zero in
     leads blocks tree draft
     (let adds = inner_adds c.args.draft.now.there.geometry (image_of blocks c.args.draft.now) tree c.args.number
     c.args.inode.now write.has offset piece write.fits none (let past = c.requires.past in omega (arith, past, at))
@@ -65,7 +69,8 @@ returns-then-inner-eq0-clause-room c =
 pub returns-clause-ok : goal.returns-clause-ok
 returns-clause-ok c =
     mapped _ _ (λ done leads yes blocks tree offset piece draft write at none.
-    leads yes blocks tree offset piece draft write at none (inner_is c.args.draft.now c.there-2.result.now blocks tree c.args.number c.args.inode.now c.in-Ok.inner
+    leads yes blocks tree offset piece draft write at none (inner_is c.args.draft.now c.there-2.result.now blocks tree
+    c.args.number c.args.inode.now c.in-Ok.inner
     c.inner_of.result c.args.index c.there-2.ensures.there draft write.has c.in-Ok.ensures.ok c.inner_of.ensures.is))
     c.map_inner.result c.map_inner.ensures.ok
 
