@@ -1,23 +1,11 @@
-use Rattle.std.proofs.Common.{◌≡◌, sym, ◌∙◌, subst, true, length}
-use Rattle.limits.specs.declared.TheConstants.{INDIRECT_INDEXES}
+use Rattle.std.proofs.Common.{sym, ◌∙◌, subst}
 use Rattle.layout.specs.declared.geometry.Geometry.{Geometry}
-use Rattle.layout.specs.InodeForm.{is_data_block_or_none}
 use Rattle.bitmap.specs.Bits.{AreOfBytes}
 use Rattle.drafts.specs.Drafted.{image_of}
 use Rattle.drafts.proofs.PutThere.{both_ok}
 use Rattle.file_cuts.specs.CutBlocks.{HasNumbers}
 use Rattle.file_cuts.proofs.CutBlocks.{all_pointers}
 use Rattle.file_cuts.proofs.cutting.write_pointers.Goals as goal
-
-pub put_numbers-2-requires-clause-placed : goal.put_numbers-2-requires-clause-placed
-put_numbers-2-requires-clause-placed c =
-    subst (λ (s : Geometry). is_data_block_or_none s c.args.cut.now.double.inners.part ≡ true)
-    (sym c.put_numbers.ensures.geometry) c.requires.double.inners.part_placed
-
-pub put_numbers-3-requires-clause-placed : goal.put_numbers-3-requires-clause-placed
-put_numbers-3-requires-clause-placed c =
-    subst (λ (s : Geometry). is_data_block_or_none s c.args.cut.now.double.pointer ≡ true)
-    (sym (c.put_numbers-2.ensures.geometry ∙ c.put_numbers.ensures.geometry)) c.requires.double.placed
 
 pub returns-clause-shows : goal.returns-clause-shows
 returns-clause-shows c =
