@@ -28,7 +28,7 @@ use Rattle.file_cuts.specs.Cut.{count_before, last_of, left_in, numbered}
 use Rattle.file_cuts.specs.CutBlocks.{IsCut, IsCutOf}
 use Rattle.file_cuts.specs.declared.cutting.CutPointers.{CutPointers}
 use Rattle.file_cuts.proofs.CutFile.{after, body_now, fewer, new, outside, rules}
-use Rattle.file_cuts.proofs.Inners.{how_often}
+use Rattle.file_cuts.proofs.InnersCut.{how_often}
 use Rattle.file_cuts.proofs.RegularThere.{IsRegularThere}
 use Rattle.file_cuts.proofs.Shrunk.{shrunk}
 

@@ -140,7 +140,7 @@ zero_count : (b : Bool) (n : ℕ) → b ≡ true → n ≡ 0 → cond (not b) 1 
 zero_count true n is e = omega (arith, e)
 zero_count false n is e = cc
 
-no_count : (numbers : List ℕ) → list_all (λ number. nat_eq number 0) numbers ≡ true
+pub no_count : (numbers : List ℕ) → list_all (λ number. nat_eq number 0) numbers ≡ true
     → count_by is_some numbers ≡ 0
 no_count [] e = refl
 no_count (n ∷ numbers) e =

@@ -1,7 +1,7 @@
 -- The numbers of a file's blocks as they are read, block of numbers after block of numbers, up to the last that is
 -- there.
 use Rattle.std.proofs.Common.{◌≡◌, ℕ, sym, ap, ◌∙◌, refl, Bool, true, false, ◌&&◌, ◌||◌, nat_eq, List, [], ◌∷◌, ◌++◌}
-use Rattle.std.proofs.Common.{take, drop}
+use Rattle.std.proofs.Common.{◌<◌, get_or, length, take, drop}
 use Rattle.std.specs.List.{flat_map, list_all}
 use Rattle.std.proofs.lemmas.Grind.{flat_map-append}
 use Rattle.std.proofs.lemmas.List.{append-nil, append_assoc, take-append-drop}
@@ -15,7 +15,9 @@ use Rattle.layout.specs.Places.{is_data}
 use Rattle.layout.proofs.AllNumbers.{maps}
 use Rattle.layout.proofs.FileNumbers.{all_pass, in_parts, parts_pass, pass_pointers, pointers_pass}
 use Rattle.layout.proofs.NumbersIn.{none_pass}
+use Rattle.layout.proofs.Pieces.{pieces_pass}
 use Rattle.layout.proofs.Respelled.{all_two}
+use Rattle.layout.proofs.Used.{all_at}
 use Rattle.plain_image.specs.PlainFile.{AreNumbersOf}
 use Rattle.plain_image.specs.Refusal.{HasDataBlocks}
 
@@ -25,6 +27,10 @@ is_zero number = nat_eq number 0
 -- a false part makes the whole false
 clash : {P : Type 0} (b : Bool) → b ≡ true → b ≡ false → P
 clash b is isnt = absurd (let no : true ≡ false = sym is ∙ isnt in cc)
+
+not_true : (b : Bool) → (b ≡ true → ⊥) → b ≡ false
+not_true true h = absurd (h refl)
+not_true false h = refl
 
 module _ (g : Geometry) (image : Image) where
   abbrev is_placed : ℕ → Bool
@@ -52,6 +58,23 @@ module _ (g : Geometry) (image : Image) where
   one_row inner pointer =
       flat_map-append (numbers_in image) inner (pointer ∷ [])
       ∙ ap (λ l. flat_map (numbers_in image) inner ++ l) (append-nil (numbers_in image pointer))
+
+  -- what the first of some numbers are, and a block of numbers among others that is refused
+  pub first_placed : (count : ℕ) (numbers : List ℕ) → list_all is_placed numbers ≡ true
+      → list_all is_placed (take count numbers) ≡ true
+  first_placed count numbers all =
+      (all_two (list_all is_placed (take count numbers)) (list_all is_placed (drop count numbers))
+      (sym (list_all-append is_placed (take count numbers) (drop count numbers))
+      ∙ ap (list_all is_placed) (take-append-drop count numbers) ∙ all)).0
+
+  pub row_refused : (pointers : List ℕ) (index : ℕ) → index < length pointers
+      → list_all is_placed (numbers_in image (get_or pointers index 0)) ≡ false
+      → list_all is_placed (flat_map (numbers_in image) pointers) ≡ false
+  row_refused pointers index less none =
+      not_true (list_all is_placed (flat_map (numbers_in image) pointers))
+      (λ all. clash (list_all is_placed (numbers_in image (get_or pointers index 0)))
+      (all_at (λ pointer. list_all is_placed (numbers_in image pointer)) pointers
+      (sym (pieces_pass (numbers_in image) is_placed pointers) ∙ all) index less) none)
 
   module _ (inode : Inode) (used : ℕ) where
     abbrev inner_of : List ℕ

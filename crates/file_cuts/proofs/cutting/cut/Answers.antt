@@ -55,8 +55,8 @@ returns-in-Ok-write_cut-clause-ok c = λ blocks tree draft has sound.
           (λ q low. shows.long q (subst (λ (s : Geometry). q < s.blocks) (sym c.write_cut.ensures.geometry) low))),
     )
 
-pub returns-in-Err-write_cut-clause-pause : goal.returns-in-Err-write_cut-clause-pause
-returns-in-Err-write_cut-clause-pause c = λ blocks tree draft has.
+pub returns-clause-pause : goal.returns-clause-pause
+returns-clause-pause c = λ blocks tree draft has.
     let g = c.args.draft.now.there.geometry in
     let inode = c.args.inode.now in
     let image = image_of blocks c.args.draft.now in
