@@ -92,7 +92,8 @@ fn double_used(snap: &Snap, double: u32) -> Result<u32, Stop>
     let bytes = data_block(snap, double)?;
     let mut used = 1;
     'inner: for inner in 0..INDIRECT_INDEXES {
-        used += far_used(snap, Numbers::at(bytes, inner))?;
+        let far = far_used(snap, Numbers::at(bytes, inner))?;
+        used += far;
     }
     Ok(used)
 }

@@ -22,7 +22,7 @@ returns-then-not-is_data-clause-pause c = λ blocks tree over placed are.
 
 pub inner-preserved : goal.inner-preserved
 inner-preserved c =
-    let few = c.in_ok-far_used.ensures.few in
+    let few = c.in_ok-far.ensures.few in
     let was = c.inner.invariant.0 in
     let less = c.inner-test.true in (
       omega (arith, few, was),
@@ -32,9 +32,9 @@ inner-preserved c =
           c.at.ensures
           ∙ some_far content c.args.double c.inner.inner c.in_ok-bytes.bytes.now
           (let h = c.if-double-eq0.false in search rules) (c.in_ok-bytes.ensures.ok blocks tree over) in
-          rows_more content c.args.double c.inner.inner c.inner.used c.in_ok-far_used.field-0 (omega (arith, less))
+          rows_more content c.args.double c.inner.inner c.inner.used c.in_ok-far.far (omega (arith, less))
           (c.inner.invariant.1 blocks tree over)
-          (c.in_ok-far_used.ensures.ok blocks tree over ∙ ap (row_held content) named),
+          (c.in_ok-far.ensures.ok blocks tree over ∙ ap (row_held content) named),
     )
 
 pub returns-clause-ok : goal.returns-clause-ok
@@ -51,24 +51,24 @@ returns-in_err-bytes-clause-asks c =
     (stop_more (IsBlockAddr c.args.double) (IsOfDouble c.args.snap.now.objects.items c.args.double)
     (λ addr at. itself at) c.in_err-bytes.field-0.0 c.in_err-bytes.ensures.asks)
 
-pub returns-in_err-far_used-clause-asks : goal.returns-in_err-far_used-clause-asks
-returns-in_err-far_used-clause-asks c =
+pub returns-in_err-far-clause-asks : goal.returns-in_err-far-clause-asks
+returns-in_err-far-clause-asks c =
     let less = c.inner-test.true in
-    at_err c.from_residual-in_err-far_used.result c.in_err-far_used.field-0.0 _ (search rules)
+    at_err c.from_residual-in_err-far.result c.in_err-far.field-0.0 _ (search rules)
     (stop_more (IsBlockAddr c.at.result) (IsOfDouble c.args.snap.now.objects.items c.args.double)
     (λ addr at. below c.inner.inner c.at.result (omega (arith, less))
     (named c.in_ok-bytes.bytes.now c.in_ok-bytes.ensures.read c.at.ensures) at)
-    c.in_err-far_used.field-0.0 c.in_err-far_used.ensures.asks)
+    c.in_err-far.field-0.0 c.in_err-far.ensures.asks)
 
-pub returns-in_err-far_used-clause-pause : goal.returns-in_err-far_used-clause-pause
-returns-in_err-far_used-clause-pause c =
-    at_err c.from_residual-in_err-far_used.result c.in_err-far_used.field-0.0 _ (search rules)
+pub returns-in_err-far-clause-pause : goal.returns-in_err-far-clause-pause
+returns-in_err-far-clause-pause c =
+    at_err c.from_residual-in_err-far.result c.in_err-far.field-0.0 _ (search rules)
     (λ blocks tree over placed are.
     let g = c.args.snap.now.geometry in
     let named : far_at (content_in g blocks) c.args.double c.inner.inner ≡ c.at.result =
     sym (c.at.ensures
     ∙ some_far (content_in g blocks) c.args.double c.inner.inner c.in_ok-bytes.bytes.now
     (let h = c.if-double-eq0.false in search rules) (c.in_ok-bytes.ensures.ok blocks tree over)) in
-    c.in_err-far_used.ensures.pause blocks tree over
+    c.in_err-far.ensures.pause blocks tree over
     (subst (λ n. is_data_block_or_none g n ≡ true) named (inner_data g blocks c.args.double are c.inner.inner))
     (subst (are_far_placed g blocks) named (inner_far_placed g blocks c.args.double are c.inner.inner)))
