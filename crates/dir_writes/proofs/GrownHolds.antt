@@ -133,7 +133,8 @@ module _ (snap : Snap) (base : Image) (tree : Tree) (n : ℕ) (inode : Inode) (n
       → ((q : ℕ) → q < g.blocks → length (middle q) ≡ BLOCK_BYTES) → span < DIRECT_INDEXES
       → Grows (with_bytes middle b 0 block) (mapping inode size (set inode.direct span b) inode.indirect inode.double)
   near_grows b middle taken long near =
-      subst (λ k. Grows (with_bytes middle b 0 block) (mapping inode size (set inode.direct k b) inode.indirect inode.double))
+      subst (λ k. Grows (with_bytes middle b 0 block)
+      (mapping inode size (set inode.direct k b) inode.indirect inode.double))
       at_index
       (one (b ∷ []) middle taken long b taken.were_free.0.lies (set inode.direct (offset / BLOCK_BYTES) b)
       inode.indirect (grown.far_near snap base tree n inode node name number grows near)
@@ -165,7 +166,8 @@ module _ (snap : Snap) (base : Image) (tree : Tree) (n : ℕ) (inode : Inode) (n
       let place = offset / BLOCK_BYTES - DIRECT_INDEXES in
       let some = not_zero g far far_lies in
       subst (λ k. Grows (with_bytes (with_bytes middle far 0
-      (spliced (content far) (4 * (k - DIRECT_INDEXES)) (four_bytes b))) b 0 block) (mapping inode size inode.direct far inode.double))
+      (spliced (content far) (4 * (k - DIRECT_INDEXES)) (four_bytes b))) b 0 block)
+      (mapping inode size inode.direct far inode.double))
       at_index
       (both (b ∷ []) middle taken long b taken.were_free.0.lies inode.direct far
       (grown.far_past snap base tree n inode node name number grows far past some)

@@ -27,7 +27,7 @@ use Rattle.file_cuts.specs.Doubles.{row_left}
 use Rattle.file_cuts.specs.declared.cutting.CutPointers.{CutPointers}
 use Rattle.file_cuts.proofs.CutNumbers.{all_stay}
 use Rattle.file_cuts.proofs.FirstOnes.{first-length, first_all, first_both, none_first}
-use Rattle.file_cuts.proofs.Inners.{get_or-more, how_often, rows_stay}
+use Rattle.file_cuts.proofs.InnersCut.{get_or-more, how_often, rows_stay}
 use Rattle.file_cuts.proofs.ReadBack.{kept_any, kept_none, kept_passes, kept_some, numbers_else, numbers_here}
 use Rattle.file_cuts.proofs.ReadBack.{read_back, used_one, zeros_else}
 use Rattle.file_cuts.proofs.RegularThere.{IsRegularThere, mapped, numbers, rules, was}

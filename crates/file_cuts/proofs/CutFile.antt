@@ -34,7 +34,7 @@ use Rattle.file_cuts.proofs.CutContent as cuts
 use Rattle.file_cuts.proofs.CutNumbers.{all_stay, before, past, still_mapped}
 use Rattle.file_cuts.proofs.CutOwned as owned
 use Rattle.file_cuts.proofs.FirstOnes.{more_zeros}
-use Rattle.file_cuts.proofs.Inners.{how_often}
+use Rattle.file_cuts.proofs.InnersCut.{how_often}
 use Rattle.file_cuts.proofs.ReadBack.{small_all, small_one, zeros_else, zeros_here}
 use Rattle.file_cuts.proofs.RegularThere as file
 use Rattle.file_cuts.proofs.RegularThere.{IsRegularThere}
@@ -83,7 +83,7 @@ module _ (g : Geometry) (image : Image) (tree : Tree) (n : ℕ) (inode : Inode) 
       let many = count in let most = file.size_fits g image tree n inode has in
       omega (arith, many, most, less)
 
-  at_low : k - 1 < length numbers
+  pub at_low : k - 1 < length numbers
   at_low = let few = low in let many = count in omega (arith, few, many)
 
   -- ---- the last that stays
@@ -101,7 +101,7 @@ module _ (g : Geometry) (image : Image) (tree : Tree) (n : ℕ) (inode : Inode) 
         let clash : true ≡ false = sym (eq-eqb last 0 zero_is) ∙ some in cc
   ]
 
-  last_there : nat_eq last 0 ≡ false → get_or numbers (k - 1) 0 ≡ last
+  pub last_there : nat_eq last 0 ≡ false → get_or numbers (k - 1) 0 ≡ last
   last_there some =
       let more = some_last some in
       sym (last_is (k - 1) (omega (arith, more)))

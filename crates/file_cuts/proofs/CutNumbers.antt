@@ -66,11 +66,6 @@ pub all_stay : (p : ℕ → Bool) (k : ℕ) (numbers : List ℕ) → list_all p 
     → list_all p (first_of k numbers) ≡ true
 all_stay p k numbers all is = all_padded p k (length numbers - k) numbers all is
 
-pub all_dropped : (p : ℕ → Bool) (k : ℕ) (xs : List ℕ) → list_all p xs ≡ true → list_all p (drop k xs) ≡ true
-all_dropped p zero xs all = all
-all_dropped p (suc k) [] all = refl
-all_dropped p (suc k) (x ∷ xs) all = all_dropped p k xs (all_two (p x) (list_all p xs) all).1
-
 -- ---- zeros
 
 pub are_zeros : (xs : List ℕ) → ((q : ℕ) → q < length xs → get_or xs q 0 ≡ 0) → xs ≡ replicate (length xs) 0

@@ -17,7 +17,7 @@ use Rattle.file_cuts.specs.Doubles.{times}
 use Rattle.file_cuts.specs.declared.cutting.CutPointers.{CutPointers}
 use Rattle.file_cuts.proofs.CutContent.{after, all_left, new, numbers_now, pointers_now}
 use Rattle.file_cuts.proofs.FirstOnes.{count_both, count_first, kept_or_lost, parted, times_both, times_first}
-use Rattle.file_cuts.proofs.Inners.{how_often, often_both, row_parted}
+use Rattle.file_cuts.proofs.InnersCut.{how_often, often_both, row_parted}
 use Rattle.file_cuts.proofs.RegularThere.{IsRegularThere, numbers, was}
 
 -- as many of a number in the parts of a file's numbers
@@ -102,8 +102,22 @@ module _ (g : Geometry) (image : Image) (tree : Tree) (n : ℕ) (inode : Inode)
         let parts = kept_parts in
         let near_is = ap (times q) is.near in
         let far_is = ap (times q) is.far.numbers_are in
-        omega (arith, was_all, was_pointers, was_numbers, now_all, now_pointers, stay, near, far, inner, double, parts,
-        near_is, far_is)
+        omega (
+          arith,
+          was_all,
+          was_pointers,
+          was_numbers,
+          now_all,
+          now_pointers,
+          stay,
+          near,
+          far,
+          inner,
+          double,
+          parts,
+          near_is,
+          far_is,
+        )
       where
         kept_parts : times q (first_of k all)
             ≡ times q cut.near.numbers.items + times q cut.far.numbers.items + times q (first_of c doubled)

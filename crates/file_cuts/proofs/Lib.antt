@@ -1,5 +1,5 @@
 pub mod FirstOnes
-pub mod Inners
+pub mod InnersCut
 pub mod ReadBack
 pub mod RegularThere
 pub mod CutNumbers

@@ -83,7 +83,8 @@ fn cut_inner(
     )?;
     add(&mut inners.numbers, row.pointer)?;
     inners.used += row.used;
-    if index != count / INDIRECT_INDEXES {
+    let through = count / INDIRECT_INDEXES;
+    if index != through {
         return Ok(());
     }
     inners.part = row.pointer;

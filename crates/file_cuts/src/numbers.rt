@@ -74,11 +74,7 @@ pub(crate) fn cut_numbers(
 
 /// Keeps a block that holds numbers where so many of these are left: it is gone where none is. Said is its number, 0
 /// where it is gone.
-pub(crate) fn keep_pointer(
-    pointer: u32,
-    left: u32,
-    gone: &mut Vec<u32>,
-) -> Result<u32, AllocError>
+pub(crate) fn keep_pointer(pointer: u32, left: u32, gone: &mut Vec<u32>) -> Result<u32, AllocError>
     ensures is { IfOk result (λ kept. kept ≡ cond (nat_eq left 0) 0 pointer) }
     ensures gone { IfOk result
         (λ _. gone.new.items ≡ gone.old.items ++ filter is_some (cond (nat_eq left 0) pointer 0 ∷ [])) }

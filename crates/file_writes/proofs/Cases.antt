@@ -33,7 +33,8 @@ use Rattle.file_writes.proofs.OneNumber.{all_still, any_behind, is_some, some}
 use Rattle.file_writes.proofs.MappedFile.{content, count, long_content, numbers, sound}
 use Rattle.file_writes.proofs.Owned.{all_kept, alone, data_fits, direct_count, direct_fits, double_holds, each_place}
 use Rattle.file_writes.proofs.Owned.{far_at_first, free_not_own, inner_holds, many_pointers, not_behind, not_first}
-use Rattle.file_writes.proofs.Owned.{not_pointer, numbers_apart, one_ahead, one_behind, one_first, one_if_same, or_right}
+use Rattle.file_writes.proofs.Owned.{not_pointer, numbers_apart, one_ahead, one_behind}
+use Rattle.file_writes.proofs.Owned.{one_first, one_if_same, or_right}
 use Rattle.file_writes.proofs.Owned.{own_far, own_number, placed, pointers_used, put_else, put_here, used_alike}
 use Rattle.file_writes.proofs.PieceWritten.{not_zero, or_data}
 
@@ -230,7 +231,8 @@ module _ (g : Geometry) (base : Image) (tree : Tree) (n : ℕ) (inode : Inode)
 
           named_far : numbers_of after far_new ≡ set all index b
           named_far =
-              indirect_set was after inode far_new (direct_count g base tree n inode has) index b past within refl in_far
+              indirect_set was after inode far_new (direct_count g base tree n inode has) index b past within refl
+              in_far
               (same_doubled after was inode.double inode.double
               (λ i less. ap (λ l. numbers_in after (get_or l i 0)) top ∙ inner i less))
 
@@ -246,7 +248,8 @@ module _ (g : Geometry) (base : Image) (tree : Tree) (n : ℕ) (inode : Inode)
               (let less = far_low in let many = in_length was inode.indirect in omega (arith, less, many)) b_is_some))
               (ap (λ l. nat_eq inode.double 0 || list_any is_some l) top ∙ (pointers_used g base tree n inode has).1)
               (ap (list_all (is_used_pointer after)) top
-              ∙ used_alike was after inners (each_place (λ number. numbers_in after number ≡ numbers_in was number) inners
+              ∙ used_alike was after inners (each_place (λ number. numbers_in after number ≡ numbers_in was number)
+              inners
               (λ i less. let many = in_length was inode.double in inner i (omega (arith, less, many))))
               ∙ (pointers_used g base tree n inode has).2)
 
@@ -259,7 +262,8 @@ module _ (g : Geometry) (base : Image) (tree : Tree) (n : ℕ) (inode : Inode)
 
           far_has : after_far inode.indirect ≡ far_block
           far_has = put_else (put was inode.indirect far_block) b block inode.indirect
-              (not_new inode.indirect (own_far g base tree n inode has some_far)) ∙ put_here was inode.indirect far_block
+              (not_new inode.indirect (own_far g base tree n inode has some_far))
+              ∙ put_here was inode.indirect far_block
 
           in_far : numbers_in after_far inode.indirect ≡ set (numbers_in was inode.indirect) place b
           in_far =
@@ -374,7 +378,8 @@ module _ (g : Geometry) (base : Image) (tree : Tree) (n : ℕ) (inode : Inode)
                 put_else (put was far first_block) b block q (not_first q b [] (not_behind q far (b ∷ []) new))
                 ∙ put_else was far first_block q (not_first q far (b ∷ []) new);
             counted = λ q.
-                let here = ap (λ l. times q (some (l ++ set all index b))) (pointers_far after_first far kept_first in_first)
+                let here = ap (λ l. times q (some (l ++ set all index b))) (pointers_far after_first far kept_first
+                in_first)
                 in
                 let one = one_behind q b (set pointers 0 far) all index b_is_some low none in
                 let two = one_ahead q far pointers all 0 (ap not (not_zero g far far_free.lies)) some_pointer

@@ -129,7 +129,8 @@ module _ (g : Geometry) (base : Image) (tree : Tree) (n : ℕ) (inode : Inode)
       let was : ◌≡◌ {A = ℕ} (cond (list_any is_indirect (items less)) 1 0) 0 =
       ap (λ t. cond t 1 0) (mapped-between DIRECT_INDEXES FIRST_DOUBLE_INDEX INDIRECT_INDEXES numbers (omega arith)
       ∙ ap (list_any is_some) (middle content inode direct) ∙ none_some content inode.indirect no_far) in
-      let far = one_now is_indirect (λ i. le-leb DIRECT_INDEXES index past i && lt-ltb index FIRST_DOUBLE_INDEX within i) in
+      let far = one_now is_indirect (λ i. le-leb DIRECT_INDEXES index past i && lt-ltb index FIRST_DOUBLE_INDEX within
+      i) in
       let double = double_more in
       let inner = inner_more less more (still_in less index) INDIRECT_INDEXES in
       omega (arith, one, two, long, was, far, double, inner)

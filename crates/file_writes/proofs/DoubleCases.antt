@@ -117,7 +117,11 @@ module _ (g : Geometry) (base : Image) (tree : Tree) (n : ℕ) (inode : Inode) (
 
     there : (row < INDIRECT_INDEXES) × (column < INDIRECT_INDEXES)
         × (FIRST_DOUBLE_INDEX + (row * INDIRECT_INDEXES + column) ≡ index)
-    there = place_there index past (let less = low in let many = count g base tree n inode has in omega (arith, less, many))
+    there = place_there index past (let less = low in let many = count g base tree n inode has in omega (
+      arith,
+      less,
+      many,
+    ))
 
     row_low : row < length inners
     row_low = let less = there.0 in let many = in_length was inode.double in omega (arith, less, many)
@@ -167,7 +171,11 @@ module _ (g : Geometry) (base : Image) (tree : Tree) (n : ℕ) (inode : Inode) (
             ap (is_used_pointer after) (get_or-set_other inners row i x 0 other)
             ∙ ap (λ l. nat_eq (get_or inners i 0) 0 || list_any is_some l)
             (rest i (let many = in_length was inode.double in omega (arith, less, long, many)) other)
-            ∙ all_at (is_used_pointer was) inners (pointers_used g base tree n inode has).2 i (omega (arith, less, long))
+            ∙ all_at (is_used_pointer was) inners (pointers_used g base tree n inode has).2 i (omega (
+              arith,
+              less,
+              long,
+            ))
       ]
         where
           long : length (set inners row x) ≡ length inners
@@ -224,7 +232,8 @@ module _ (g : Geometry) (base : Image) (tree : Tree) (n : ℕ) (inode : Inode) (
           inner_holds g base tree n inode has after_inner (2 + row) place_low kept_inner i less
           (λ e. other (omega (arith, e)))
 
-      pointers_still : pointer_blocks after_inner (mapping inode size inode.direct inode.indirect inode.double) ≡ pointers
+      pointers_still : pointer_blocks after_inner (mapping inode size inode.direct inode.indirect inode.double) ≡
+          pointers
       pointers_still =
           pointers_inner after_inner inode.double x (ap not x_some) far_there top_there inner_there rest_there
           ∙ ap (λ l. set l (2 + row) x)
@@ -290,7 +299,8 @@ module _ (g : Geometry) (base : Image) (tree : Tree) (n : ℕ) (inode : Inode) (
       place_free : (double : ℕ) → nat_eq (get_or (set pointers 1 double) (2 + row) 0) 0 ≡ true
       place_free double =
           ap (λ k. nat_eq k 0)
-          (get_or-set_other pointers 1 (2 + row) double 0 (λ e. omega (arith, e)) ∙ inner_behind g base tree n inode has row)
+          (get_or-set_other pointers 1 (2 + row) double 0 (λ e. omega (arith, e))
+          ∙ inner_behind g base tree n inode has row)
           ∙ no_inner
 
       place_still : (double : ℕ) → 2 + row < length (set pointers 1 double)
@@ -319,7 +329,8 @@ module _ (g : Geometry) (base : Image) (tree : Tree) (n : ℕ) (inode : Inode) (
         double_has =
             put_else (put (put was inode.double double_block) x first_inner_block) b block inode.double
             (not_new inode.double double_own)
-            ∙ put_else (put was inode.double double_block) x first_inner_block inode.double (not_x inode.double double_own)
+            ∙ put_else (put was inode.double double_block) x first_inner_block inode.double (not_x inode.double
+            double_own)
             ∙ put_here was inode.double double_block
 
         x_has : after_first_inner x ≡ first_inner_block
@@ -341,7 +352,10 @@ module _ (g : Geometry) (base : Image) (tree : Tree) (n : ℕ) (inode : Inode) (
         rest_first : (i : ℕ) → i < INDIRECT_INDEXES → (i ≡ row → ⊥)
             → numbers_in after_first_inner (get_or inners i 0) ≡ numbers_in was (get_or inners i 0)
         rest_first i less other =
-            inner_holds g base tree n inode has after_first_inner 1 second_low kept_double i less (λ e. omega (arith, e))
+            inner_holds g base tree n inode has after_first_inner 1 second_low kept_double i less (λ e. omega (
+              arith,
+              e,
+            ))
 
         inner_first : numbers_in after_first_inner x ≡ set (numbers_in was here) column b
         inner_first = first_named after_first_inner x_has
@@ -407,13 +421,15 @@ module _ (g : Geometry) (base : Image) (tree : Tree) (n : ℕ) (inode : Inode) (
         kept_own q some_q other =
             put_else (put (put was double first_double_block) x first_inner_block) b block q (not_new q some_q)
             ∙ put_else (put was double first_double_block) x first_inner_block q (not_x q some_q)
-            ∙ put_else was double first_double_block q (free_not_own g base tree n inode has double double_free q some_q)
+            ∙ put_else was double first_double_block q (free_not_own g base tree n inode has double double_free q
+            some_q)
 
         new_has : after_double double ≡ first_double_block
         new_has =
             put_else (put (put was double first_double_block) x first_inner_block) b block double
             (first_and_third double x b apart)
-            ∙ put_else (put was double first_double_block) x first_inner_block double (two_blocks double x (b ∷ []) apart)
+            ∙ put_else (put was double first_double_block) x first_inner_block double (two_blocks double x (b ∷ [])
+            apart)
             ∙ put_here was double first_double_block
 
         x_there : after_double x ≡ first_inner_block

@@ -1,6 +1,8 @@
 -- The indexes of a file that get blocks, and what they add to its cost.
-use Rattle.std.proofs.Common.{◌≡◌, ℕ, zero, suc, ◌+◌, ◌-◌, ◌*◌, ◌<◌, ◌≤◌, inl, inr, sym, ap, ◌∙◌, refl, Bool, true, false}
-use Rattle.std.proofs.Common.{cond, max, not, ◌||◌, ◌&&◌, List, [], ◌∷◌, length, get_or, drop, set, take, nat_eq, nat_le}
+use Rattle.std.proofs.Common.{◌≡◌, ℕ, zero, suc, ◌+◌, ◌-◌, ◌*◌, ◌<◌, ◌≤◌, inl, inr, sym}
+use Rattle.std.proofs.Common.{ap, ◌∙◌, refl, Bool, true, false}
+use Rattle.std.proofs.Common.{cond, max, not, ◌||◌, ◌&&◌, List, [], ◌∷◌, length, get_or}
+use Rattle.std.proofs.Common.{drop, set, take, nat_eq, nat_le}
 use Rattle.std.proofs.Common.{nat_lt, count_by, arith}
 use Rattle.std.specs.FinSet.{insert}
 use Rattle.std.specs.List.{list_any, range_with_len}
@@ -128,7 +130,8 @@ behind_there (x ∷ xs) zero zero less from is = ap (λ t. t || list_any is_some
 behind_there (x ∷ xs) zero (suc j) less from is =
     or_right (is_some x) (behind_there xs zero j (omega (arith, less)) (omega arith) is)
 behind_there (x ∷ xs) (suc lo) zero less from is = absurd (omega (arith, from))
-behind_there (x ∷ xs) (suc lo) (suc j) less from is = behind_there xs lo j (omega (arith, less)) (omega (arith, from)) is
+behind_there (x ∷ xs) (suc lo) (suc j) less from is = behind_there xs lo j (omega (arith, less)) (omega (arith, from))
+    is
 
 -- what lies in front of an index that is set is as it was
 same_ahead : (xs : List ℕ) (lo w j b : ℕ) → lo + w ≤ j → take w (drop lo (set xs j b)) ≡ take w (drop lo xs)
@@ -228,6 +231,26 @@ next_missing (x ∷ xs) (suc first) k less =
 
 abbrev one_if : Bool → ℕ
 one_if t = cond t 1 0
+
+from_none : (k : ℕ) → 0 + k ≡ k
+from_none k = omega arith
+
+-- the sums of what a file holds: its numbers, the indirect block, the double indirect block, and inner blocks
+near_sum : (missing indirect was now far far_now double double_now inner inner_now after before : ℕ)
+    → missing + was ≡ now → far_now ≡ far + indirect → double_now ≡ double → inner_now ≡ inner
+    → after ≡ now + far_now + double_now + inner_now → before ≡ was + far + double + inner
+    → missing + indirect ≡ after - before
+near_sum missing indirect was now far far_now double double_now inner inner_now after before one two three four five
+    six =
+    omega (arith, one, two, three, four, five, six)
+
+far_sum : (missing indirect first rows was now far far_now double double_now inner inner_now after before : ℕ)
+    → missing + was ≡ now → far_now ≡ far + indirect → double_now ≡ double + first → inner_now ≡ inner + rows
+    → after ≡ now + far_now + double_now + inner_now → before ≡ was + far + double + inner
+    → missing + (indirect + (first + rows)) ≡ after - before
+far_sum missing indirect first rows was now far far_now double double_now inner inner_now after before one two three
+    four five
+    six = omega (arith, one, two, three, four, five, six)
 
 module _ (g : Geometry) (base : Image) (tree : Tree) (n : ℕ) (inode : Inode)
     (has : HasRegular g base tree n inode) (first last missing : ℕ) (order : first ≤ last)
@@ -341,17 +364,20 @@ module _ (g : Geometry) (base : Image) (tree : Tree) (n : ℕ) (inode : Inode)
 
     inner_same : (inner : ℕ) → inner_numbers filled inner ≡ inner_numbers numbers inner
     inner_same inner = ap (take INDIRECT_INDEXES)
-        (behind_filled numbers first count_up (FIRST_DOUBLE_INDEX + INDIRECT_INDEXES * inner) (omega (arith, low, order)))
+        (behind_filled numbers first count_up (FIRST_DOUBLE_INDEX + INDIRECT_INDEXES * inner) (omega (
+          arith,
+          low,
+          order,
+        )))
 
     pub near_added : missing + count_of numbers ≡ count_of filled
         → missing + new_indirect inode first last ≡ after - before
     near_added sum =
-        let far = far_now in
-        let double = ap {B = ℕ} (λ l. one_if (list_any is_some l)) double_same in
-        let inner : inner_in filled ≡ inner_in numbers =
-        (λ i. count_by (λ k. list_any is_some (inner_same k i)) (range_with_len 0 INDIRECT_INDEXES)) in
-        let one = after_is in
-        let two = before_is in omega (arith, sum, far, double, inner, one, two)
+        near_sum missing (new_indirect inode first last) (count_of numbers) (count_of filled)
+        (one_if (indirect_in numbers)) (one_if (indirect_in filled)) (one_if (double_in numbers))
+        (one_if (double_in filled)) (inner_in numbers) (inner_in filled) after before sum far_now
+        (ap {B = ℕ} (λ l. one_if (list_any is_some l)) double_same)
+        (λ i. count_by (λ k. list_any is_some (inner_same k i)) (range_with_len 0 INDIRECT_INDEXES)) after_is before_is
 
   -- ---- and behind it they add inner blocks, and the double indirect block
 
@@ -429,19 +455,18 @@ module _ (g : Geometry) (base : Image) (tree : Tree) (n : ℕ) (inode : Inode)
         let many = wide in
         ap (λ w. count_by (λ inner. list_any is_some (inner_numbers filled inner)) (range_with_len 0 w)) (sym wide)
         ∙ first_part inners 0 lo rows rows_fit (λ inner. list_any is_some (inner_numbers filled inner))
-        (λ k less from to. ap (λ j. list_any is_some (inner_numbers filled j)) (omega arith)
+        (λ k less from to. ap (λ j. list_any is_some (inner_numbers filled j)) (from_none k)
         ∙ inner_hit k from to (omega (arith, less, many)))
-        (λ k less out. ap (λ j. list_any is_some (inner_numbers filled j)) (omega arith)
+        (λ k less out. ap (λ j. list_any is_some (inner_numbers filled j)) (from_none k)
         ∙ ap (list_any is_some) (inner_miss k out)
-        ∙ ap (λ j. list_any is_some (inner_numbers numbers j)) (omega arith)
+        ∙ ap (λ j. list_any is_some (inner_numbers numbers j)) (sym (from_none k))
         ∙ inner_any g content inode direct mapped k less)
         ∙ ap (λ c. c + missing_between inners lo rows) (sym (inner_count g content inode direct mapped))
 
     pub double_added : missing + count_of numbers ≡ count_of filled
         → missing + (new_indirect inode first last + new_inner content inode first last) ≡ after - before
     double_added sum =
-        let far = far_now in
-        let double = double_now in
-        let inner = inner_now in
-        let one = after_is in
-        let two = before_is in omega (arith, sum, far, double, inner, one, two)
+        far_sum missing (new_indirect inode first last) (cond (nat_eq inode.double 0) 1 0)
+        (missing_between inners lo rows) (count_of numbers) (count_of filled) (one_if (indirect_in numbers))
+        (one_if (indirect_in filled)) (one_if (double_in numbers)) (one_if (double_in filled)) (inner_in numbers)
+        (inner_in filled) after before sum far_now double_now inner_now after_is before_is

@@ -76,7 +76,8 @@ module _ (g : Geometry) (base : Image) (tree : Tree) (n : ℕ) (inode : Inode)
   tests = all_three (is_sound_file inode) (is_sound_map g inode) (is_sound_regular inode) good
 
   pub size_fits : inode.size ≤ LARGEST_FILE
-  size_fits = no_more inode.size LARGEST_FILE (all_two (nat_le inode.size LARGEST_FILE) (nat_eq inode.parent 0) tests.2).0
+  size_fits = no_more inode.size LARGEST_FILE (all_two (nat_le inode.size LARGEST_FILE) (nat_eq inode.parent 0)
+      tests.2).0
 
   pub bytes_count : length (bytes_of content numbers) ≡ LARGEST_FILE
   bytes_count = let all = bytes-length content long_content numbers in let many = count in omega (arith, all, many)

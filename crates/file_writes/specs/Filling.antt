@@ -57,7 +57,8 @@ pub record Fills (g : Geometry) (base : Image) (inode : Inode) (offset : ℕ) (p
       ≡ set (numbers_of (content_in g base) inode) (offset / BLOCK_BYTES) b
   pub lies : is_data g b ≡ true
   pub here : content b
-      ≡ spliced (content_of (content_in g base) (get_or (numbers_of (content_in g base) inode) (offset / BLOCK_BYTES) 0))
+      ≡ spliced (content_of (content_in g base) (get_or (numbers_of (content_in g base) inode) (offset / BLOCK_BYTES)
+      0))
       (offset % BLOCK_BYTES) piece
   pub others : (j : ℕ) → j < length (numbers_of (content_in g base) inode) → (j ≡ offset / BLOCK_BYTES → ⊥)
       → nat_eq (get_or (numbers_of (content_in g base) inode) j 0) 0 ≡ false

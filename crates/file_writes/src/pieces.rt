@@ -1,5 +1,6 @@
 //! Pieces of bytes, each of which lies in one block of a regular file.
-ghost use Rattle.std.specs.Prelude.{ℕ, ◌≡◌, ◌+◌, ◌-◌, ◌/◌, ◌%◌, ◌<◌, ◌≤◌, List, length, max, nat_eq, true, Some, IfErr, IfOk};
+ghost use Rattle.std.specs.Prelude.{ℕ, ◌≡◌, ◌+◌, ◌-◌, ◌/◌, ◌%◌, ◌<◌, ◌≤◌, List, length};
+ghost use Rattle.std.specs.Prelude.{max, nat_eq, true, Some, IfErr, IfOk};
 ghost use Rattle.limits.specs.declared.TheConstants.{BLOCK_BYTES, FILE_INDEXES, FIRST_DOUBLE_INDEX, LARGEST_FILE};
 ghost use Rattle.disk.specs.Crash.{Image};
 ghost use Rattle.model.specs.Cost.{cost};

@@ -52,7 +52,8 @@ module _ (g : Geometry) (content : Image) (i : Inode) (k : ℕ)
   has_body Link is good file =
       let three = all_three (is_sound_file i) (is_sound_map g i) (is_sound_link i) good in
       let rules = all_five (nat_le 1 i.size) (nat_le i.size TARGET_BYTES) (nat_eq i.parent 0)
-      (names_first 1 i.direct) (nat_eq i.indirect 0) (all_two _ (nat_eq i.double 0) (all_two _ (is_none i.verifier) three.2).0).0 in
+      (names_first 1 i.direct) (nat_eq i.indirect 0)
+      (all_two _ (nat_eq i.double 0) (all_two _ (is_none i.verifier) three.2).0).0 in
       record {
         kind = ap file_kind (sym is);
         size = link_size content i direct long (no_more i.size TARGET_BYTES rules.1);

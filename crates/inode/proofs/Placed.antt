@@ -135,4 +135,5 @@ module _ (snap : Snap) (blocks : Image) (tree : Tree) (number : ℕ) (inode : In
 
   pub double_far_placed : are_far_placed g blocks inode.double
   double_far_placed some =
-      ap (list_all (is_data_block_or_none g)) (sym (some_in (content_in g blocks) inode.double some)) ∙ inner_placed.inner
+      ap (list_all (is_data_block_or_none g)) (sym (some_in (content_in g blocks) inode.double some))
+      ∙ inner_placed.inner

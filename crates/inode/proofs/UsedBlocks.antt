@@ -1,8 +1,9 @@
 -- A file that was read uses as many blocks as its inode and its pointer blocks name, and those.
-use Rattle.std.proofs.Common.{◌≡◌, ℕ, zero, suc, ◌+◌, ◌≤◌, get_or, ◌++◌, sym, ap, ◌∙◌, refl, Bool, true, false, cond, not}
+use Rattle.std.proofs.Common.{◌≡◌, ℕ, ◌+◌, ◌<◌, ◌≤◌, get_or, sym, ap, ◌∙◌, refl, Bool, true, false, cond, not}
 use Rattle.std.proofs.Common.{List, [], ◌∷◌, length, take, drop, nat_eq, nat_lt, count_by, sum_by, arith}
-use Rattle.std.specs.List.{flat_map, list_all, range_with_len}
-use Rattle.std.proofs.lemmas.List.Sums.{sum_by-append, sum_by-cons}
+use Rattle.std.specs.List.{flat_map, list_all}
+use Rattle.std.proofs.lemmas.List.{take_all, take_more}
+use Rattle.std.proofs.lemmas.List.Sums.{sum_by-append, sum_by-cons, sum_by_push}
 use Rattle.limits.specs.declared.TheConstants.{DIRECT_INDEXES, INDIRECT_INDEXES, LARGEST_DIRECTORY}
 use Rattle.disk.specs.Crash.{Image}
 use Rattle.model.specs.Cost.{file_cost}
@@ -71,28 +72,15 @@ rows_held content (n ∷ pointers) =
     + sym (sum_by-append (λ (y : ℕ). cond (is_some y) 1 0) (numbers_in content n)
     (flat_map (numbers_in content) pointers)) i)
 
--- the same by the places of its numbers
-places : (f : ℕ → ℕ) (xs : List ℕ) (a : ℕ) (g : ℕ → ℕ) → ((k : ℕ) → g (a + k) ≡ f (get_or xs k 0))
-    → sum_by g (range_with_len a (length xs)) ≡ sum_by f xs
-places f [] a g same = refl
-places f (x ∷ xs) a g same =
-    let here : g a ≡ f x = ap g (omega arith) ∙ same 0 in
-    let rest : sum_by g (range_with_len (a + 1) (length xs)) ≡ sum_by f xs =
-    places f xs (a + 1) g (λ k. ap g (omega arith) ∙ same (suc k)) in
-    sum_by-cons g a (range_with_len (a + 1) (length xs)) ∙ (λ i. here i + rest i) ∙ sym (sum_by-cons f x xs)
-
 -- where there is a double indirect block it is held, and what its inner blocks hold
-pub double_rows : (content : Image) (double : ℕ) → nat_eq double 0 ≡ false
-    → 1 + sum_by (λ k. row_held content (get_or (numbers_in content double) k 0)) (range_with_len 0 INDIRECT_INDEXES)
-    ≡ double_held content double
+pub double_rows : (content : Image) (double place : ℕ) → nat_eq double 0 ≡ false → INDIRECT_INDEXES ≤ place
+    → 1 + sum_by (row_held content) (take place (numbers_in content double)) ≡ double_held content double
 unfolding double_held doubled_in
-double_rows content double some =
-    ap (λ n. 1 + sum_by (λ k. row_held content (get_or (numbers_in content double) k 0)) (range_with_len 0 n))
-    (sym (in_length content double))
-    ∙ ap (λ k. 1 + k) (places (row_held content) (numbers_in content double) 0
-    (λ k. row_held content (get_or (numbers_in content double) k 0))
-    (λ k. ap (λ i. row_held content (get_or (numbers_in content double) i 0)) (omega arith))
-    ∙ rows_held content (numbers_in content double))
+double_rows content double place some past =
+    let long = in_length content double in
+    ap (λ l. 1 + sum_by (row_held content) l)
+    (take_all place (numbers_in content double) (omega (arith, long, past)))
+    ∙ ap (λ k. 1 + k) (rows_held content (numbers_in content double))
     ∙ joined (count_of (numbers_in content double))
     (count_of (flat_map (numbers_in content) (numbers_in content double)))
     ∙ sym (ap (λ b. cond b 0 (1 + count_of (numbers_in content double)
@@ -101,24 +89,23 @@ double_rows content double some =
     joined : (a b : ℕ) → 1 + (a + b) ≡ 1 + a + b
     joined a b = omega arith
 
--- one inner block more
-pub rows_at : (f : ℕ → ℕ) (count used more : ℕ) → used ≡ 1 + sum_by f (range_with_len 0 count) → more ≡ f count
-    → used + more ≡ 1 + sum_by f (range_with_len 0 (count + 1))
-rows_at f count used more was is =
-    let at : f (0 + count) ≡ f count = ap f (omega arith) in
-    let all = ranges f count in
-    omega (arith, was, is, at, all)
-  where
-    ranges : (f : ℕ → ℕ) (count : ℕ)
-        → sum_by f (range_with_len 0 (count + 1)) ≡ sum_by f (range_with_len 0 count) + f (0 + count)
-    ranges f count =
-        ap (λ l. sum_by f l) (range_more 0 count) ∙ sum_by-append f (range_with_len 0 count) ((0 + count) ∷ [])
-        ∙ ap (λ k. sum_by f (range_with_len 0 count) + k) (sum_by-cons f (0 + count) [] ∙ omega arith)
+one_row_more : (used more before row after : ℕ) → used ≡ 1 + before → more ≡ row → after ≡ before + row
+    → used + more ≡ 1 + after
+one_row_more used more before row after was is sum = omega (arith, was, is, sum)
 
-    range_more : (a n : ℕ) → range_with_len a (n + 1) ≡ range_with_len a n ++ (a + n) ∷ []
-    range_more a zero = ap (λ k. k ∷ []) (omega arith)
-    range_more a (suc n) =
-        ap (λ l. a ∷ l) (range_more (a + 1) n ∙ ap (λ k. range_with_len (a + 1) n ++ k ∷ []) (omega arith))
+-- with what one inner block more holds
+pub rows_more : (content : Image) (double place used more : ℕ) → place < INDIRECT_INDEXES
+    → used ≡ 1 + sum_by (row_held content) (take place (numbers_in content double))
+    → more ≡ row_held content (get_or (numbers_in content double) place 0)
+    → used + more ≡ 1 + sum_by (row_held content) (take (place + 1) (numbers_in content double))
+rows_more content double place used more less was is =
+    let long = in_length content double in
+    one_row_more used more (sum_by (row_held content) (take place (numbers_in content double)))
+    (row_held content (get_or (numbers_in content double) place 0))
+    (sum_by (row_held content) (take (place + 1) (numbers_in content double))) was is
+    (ap (sum_by (row_held content)) (take_more (numbers_in content double) place 0 (omega (arith, less, long)))
+    ∙ sum_by_push (row_held content) (take place (numbers_in content double))
+    (get_or (numbers_in content double) place 0))
 
 pub no_double : (content : Image) (double : ℕ) → nat_eq double 0 ≡ true → 0 ≡ double_held content double
 unfolding double_held

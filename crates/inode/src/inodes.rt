@@ -8,7 +8,7 @@ ghost use Rattle.layout.specs.Fields.{count_of, numbers_at};
 ghost use Rattle.layout.specs.InodeForm.{is_data_block_or_none};
 ghost use Rattle.layout.specs.Parts.{content_in};
 ghost use Rattle.model.specs.Tree.{Tree};
-ghost use Rattle.inode.specs.Asked.{IsBlockAddr, IsStopFor};
+ghost use Rattle.inode.specs.Asked.{IsBlockAddr, IsOfDouble, IsPointerOf, IsStopFor};
 ghost use Rattle.inode.specs.Read.{IsAskedInode};
 ghost use Rattle.inode.specs.Over.{AreInnerPlaced, HasInode, IsOver, IsPause, MayStop, are_far_placed};
 ghost use Rattle.inode.specs.Shown.{double_held, IsInodeOf, IsShown, body_in, file_kind};
@@ -78,6 +78,7 @@ fn double_used(snap: &Snap, double: u32) -> Result<u32, Stop>
     ensures ok { IfOk result (λ used. (blocks : Image) (tree : Tree) → IsOver snap.now blocks tree
         → used ≡ double_held (content_in snap.now.geometry blocks) double) }
     ensures err { IfErr result (λ stop. MayStop snap.now stop) }
+    ensures asks { IfErr result (λ stop. IsStopFor (IsOfDouble snap.now.objects.items double) stop) }
     ensures pause { IfErr result (λ stop. (blocks : Image) (tree : Tree) → IsOver snap.now blocks tree
         → is_data_block_or_none snap.now.geometry double ≡ true
         → AreInnerPlaced snap.now.geometry blocks double → IsPause stop) }
@@ -91,7 +92,8 @@ fn double_used(snap: &Snap, double: u32) -> Result<u32, Stop>
     let bytes = data_block(snap, double)?;
     let mut used = 1;
     'inner: for inner in 0..INDIRECT_INDEXES {
-        used += far_used(snap, Numbers::at(bytes, inner))?;
+        let far = far_used(snap, Numbers::at(bytes, inner))?;
+        used += far;
     }
     Ok(used)
 }
@@ -103,7 +105,7 @@ pub fn used_of(snap: &Snap, inode: &Inode) -> Result<u32, Stop>
         → HasInode snap.now blocks tree file inode.now
         → IsShown inode.now used (body_in snap.now.geometry blocks inode.now)) }
     ensures err { IfErr result (λ stop. MayStop snap.now stop) }
-    ensures asks { IfErr result (λ stop. IsStopFor (IsBlockAddr inode.now.indirect) stop) }
+    ensures asks { IfErr result (λ stop. IsStopFor (IsPointerOf snap.now.objects.items inode.now) stop) }
     ensures pause { IfErr result (λ stop. (blocks : Image) (tree : Tree) (file : ℕ)
         → HasInode snap.now blocks tree file inode.now → IsPause stop) }
 {

@@ -8,7 +8,8 @@ ghost use Rattle.layout.specs.Decode.{numbers_in};
 ghost use Rattle.layout.specs.InodeForm.{is_data_block_or_none};
 ghost use Rattle.layout.specs.Parts.{content_in};
 ghost use Rattle.layout.specs.Places.{is_data};
-ghost use Rattle.inode.specs.Asked.{IsBlockAddr, IsFarNumber, IsIndirectFor, IsNumberAt, IsStopFor, WasReadBlock};
+ghost use Rattle.inode.specs.Asked.{AreFarNumbers, IsBlockAddr, IsFarNumber, IsNumberAt, IsPointerFor, IsStopFor};
+ghost use Rattle.inode.specs.Asked.{MayStopFor, WasReadBlock};
 ghost use Rattle.inode.specs.Over.{HasInode, IsOver, IsPause, MayStop, are_far_placed, far_at, number_at};
 
 use crate::read::bytes_at;
@@ -61,7 +62,9 @@ pub fn pointer_numbers(alloc: Global, snap: &Snap, pointer: u32) -> Result<Vec<u
         (λ numbers. list_all (is_data_block_or_none snap.now.geometry) numbers.items ≡ true) }
     ensures ok { IfOk result (λ numbers. (blocks : Image) (tree : Tree) → IsOver snap.now blocks tree
         → numbers.items ≡ numbers_in (content_in snap.now.geometry blocks) pointer) }
+    ensures read { IfOk result (λ numbers. AreFarNumbers snap.now.objects.items pointer numbers.items) }
     ensures err { IfErr result (λ stop. MayStop snap.now stop) }
+    ensures asks { IfErr result (λ stop. MayStopFor (IsBlockAddr pointer) stop) }
     ensures pause { IfErr result (λ stop. (blocks : Image) (tree : Tree) → IsOver snap.now blocks tree
         → is_data_block_or_none snap.now.geometry pointer ≡ true
         → are_far_placed snap.now.geometry blocks pointer → IsPause stop) }
@@ -91,7 +94,9 @@ pub fn indirect_numbers(alloc: Global, snap: &Snap, inode: &Inode) -> Result<Vec
     ensures ok { IfOk result (λ numbers. (blocks : Image) (tree : Tree) (file : ℕ)
         → HasInode snap.now blocks tree file inode.now
         → numbers.items ≡ numbers_in (content_in snap.now.geometry blocks) inode.now.indirect) }
+    ensures read { IfOk result (λ numbers. AreFarNumbers snap.now.objects.items inode.now.indirect numbers.items) }
     ensures err { IfErr result (λ stop. MayStop snap.now stop) }
+    ensures asks { IfErr result (λ stop. MayStopFor (IsBlockAddr inode.now.indirect) stop) }
     ensures pause { IfErr result (λ stop. (blocks : Image) (tree : Tree) (file : ℕ)
         → HasInode snap.now blocks tree file inode.now → IsPause stop) }
 {
@@ -106,7 +111,9 @@ pub fn double_numbers(alloc: Global, snap: &Snap, inode: &Inode) -> Result<Vec<u
     ensures ok { IfOk result (λ numbers. (blocks : Image) (tree : Tree) (file : ℕ)
         → HasInode snap.now blocks tree file inode.now
         → numbers.items ≡ numbers_in (content_in snap.now.geometry blocks) inode.now.double) }
+    ensures read { IfOk result (λ numbers. AreFarNumbers snap.now.objects.items inode.now.double numbers.items) }
     ensures err { IfErr result (λ stop. MayStop snap.now stop) }
+    ensures asks { IfErr result (λ stop. MayStopFor (IsBlockAddr inode.now.double) stop) }
     ensures pause { IfErr result (λ stop. (blocks : Image) (tree : Tree) (file : ℕ)
         → HasInode snap.now blocks tree file inode.now → IsPause stop) }
 {
@@ -119,7 +126,9 @@ pub fn inner_number(snap: &Snap, inode: &Inode, inner: usize) -> Result<u32, Sto
     ensures ok { IfOk result (λ number. (blocks : Image) (tree : Tree) (file : ℕ)
         → HasInode snap.now blocks tree file inode.now
         → number ≡ far_at (content_in snap.now.geometry blocks) inode.now.double inner) }
+    ensures read { IfOk result (λ number. IsFarNumber snap.now.objects.items inode.now.double inner number) }
     ensures err { IfErr result (λ stop. MayStop snap.now stop) }
+    ensures asks { IfErr result (λ stop. IsStopFor (IsBlockAddr inode.now.double) stop) }
     ensures pause { IfErr result (λ stop. (blocks : Image) (tree : Tree) (file : ℕ)
         → HasInode snap.now blocks tree file inode.now → IsPause stop) }
 {
@@ -132,7 +141,9 @@ fn double_number(snap: &Snap, inode: &Inode, index: usize) -> Result<u32, Stop>
     requires within { index < FILE_INDEXES }
     ensures ok { IfOk result (λ number. (blocks : Image) (tree : Tree) (file : ℕ)
         → HasInode snap.now blocks tree file inode.now → number ≡ number_at snap.now.geometry blocks inode.now index) }
+    ensures read { IfOk result (λ number. IsNumberAt snap.now.objects.items inode.now index number) }
     ensures err { IfErr result (λ stop. MayStop snap.now stop) }
+    ensures asks { IfErr result (λ stop. IsStopFor (IsPointerFor snap.now.objects.items inode.now index) stop) }
     ensures pause { IfErr result (λ stop. (blocks : Image) (tree : Tree) (file : ℕ)
         → HasInode snap.now blocks tree file inode.now → IsPause stop) }
 {
@@ -148,7 +159,7 @@ fn named_number(snap: &Snap, inode: &Inode, index: usize) -> Result<u32, Stop>
         → HasInode snap.now blocks tree file inode.now → number ≡ number_at snap.now.geometry blocks inode.now index) }
     ensures read { IfOk result (λ number. IsNumberAt snap.now.objects.items inode.now index number) }
     ensures err { IfErr result (λ stop. MayStop snap.now stop) }
-    ensures asks { IfErr result (λ stop. IsStopFor (IsIndirectFor inode.now index) stop) }
+    ensures asks { IfErr result (λ stop. IsStopFor (IsPointerFor snap.now.objects.items inode.now index) stop) }
     ensures pause { IfErr result (λ stop. (blocks : Image) (tree : Tree) (file : ℕ)
         → HasInode snap.now blocks tree file inode.now → IsPause stop) }
 {
@@ -176,7 +187,7 @@ pub fn block_number(snap: &Snap, inode: &Inode, index: usize) -> Result<u32, Sto
     ensures read { IfOk result (λ number. IsNumberAt snap.now.objects.items inode.now index number) }
     ensures data { IfOk result (λ number. is_data_block_or_none snap.now.geometry number ≡ true) }
     ensures err { IfErr result (λ stop. MayStop snap.now stop) }
-    ensures asks { IfErr result (λ stop. IsStopFor (IsIndirectFor inode.now index) stop) }
+    ensures asks { IfErr result (λ stop. IsStopFor (IsPointerFor snap.now.objects.items inode.now index) stop) }
     ensures pause { IfErr result (λ stop. (blocks : Image) (tree : Tree) (file : ℕ)
         → HasInode snap.now blocks tree file inode.now → IsPause stop) }
 {

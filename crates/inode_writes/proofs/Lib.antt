@@ -3,3 +3,4 @@ pub mod Cleared
 pub mod Removed
 pub mod Made
 pub mod Linked
+pub mod OwnedBlocks

@@ -1,13 +1,18 @@
 -- What blocks stand for where others became free.
-use Rattle.std.specs.Prelude.{◌≡◌, ℕ, Bool, false, not, List, [], ◌∷◌, nat_eq, None, Ok}
+use Rattle.std.specs.Prelude.{◌≡◌, ℕ, Bool, false, not, List, [], ◌∷◌, filter, nat_eq, None, Ok}
 use Rattle.disk.specs.Crash.{Image}
 use Rattle.layout.specs.declared.geometry.Geometry.{Geometry}
+use Rattle.layout.specs.Decode.{numbers_in}
 use Rattle.layout.specs.Parts.{parts_of, put}
 use Rattle.bitmap.specs.Bits.{AreOfBytes}
 
 -- the number of a block
 abbrev pub is_some : ℕ → Bool
 is_some number = not (nat_eq number 0)
+
+-- the blocks that a pointer block names
+abbrev pub named_by : Image → ℕ → List ℕ
+named_by content pointer = filter is_some (numbers_in content pointer)
 
 -- the bits with those of these numbers clear
 abbrev pub without : List ℕ → (ℕ → Bool) → ℕ → Bool

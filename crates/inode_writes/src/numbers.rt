@@ -1,5 +1,6 @@
 //! The blocks of a file.
-ghost use Rattle.std.specs.Prelude.{◌≡◌, ◌++◌, ℕ, Some, Ok, true, not, filter, nat_eq, IfErr, IfOk, OnOk};
+ghost use Rattle.std.specs.Prelude.{◌≡◌, ◌++◌, ◌∷◌, ℕ, Some, Ok, true, filter, IfErr, IfOk, OnOk};
+ghost use Rattle.std.specs.List.{flat_map, list_all};
 ghost use Rattle.disk.specs.Crash.{Image};
 ghost use Rattle.layout.specs.Decode.{numbers_in};
 ghost use Rattle.layout.specs.InodeForm.{is_data_block_or_none};
@@ -7,16 +8,35 @@ ghost use Rattle.layout.specs.Owners.{owned_by};
 ghost use Rattle.layout.specs.Parts.{content_in};
 ghost use Rattle.model.specs.Tree.{Tree};
 ghost use Rattle.inode.specs.Over.{HasInode, IsOver, IsPause, MayStop, are_far_placed};
+ghost use Rattle.inode_writes.specs.Frees.{is_some, named_by};
 
 use inode::{Snap, Stop, double_numbers, indirect_numbers, pointer_numbers};
 use layout::Inode;
-use std::alloc::Global;
+use std::alloc::{AllocError, Global};
+
+// The blocks of a file that no inner block names: its pointer blocks, those that its inode names itself, and those that
+// its indirect block names.
+fn near_blocks(
+    alloc: Global,
+    inode: &Inode,
+    inner: &[u32],
+    far: &[u32],
+) -> Result<Vec<u32>, AllocError>
+    ensures { IfOk result (λ numbers. numbers.items ≡ filter is_some
+        (inode.now.indirect ∷ inode.now.double ∷ inner.now ++ inode.now.direct ++ far.now)) }
+{
+    let mut numbers = Vec::from_slice(alloc, &[inode.indirect, inode.double])?;
+    numbers.extend_from_slice(inner)?;
+    numbers.extend_from_slice(&inode.direct)?;
+    numbers.extend_from_slice(far)?;
+    numbers.retain(|number| *number != 0);
+    Ok(numbers)
+}
 
 // Adds the numbers of the blocks that an inner block of a file names, if it has this one.
 fn add_inner(alloc: Global, snap: &Snap, pointer: u32, numbers: &mut Vec<u32>) -> Result<(), Stop>
     ensures ok { OnOk result ((blocks : Image) (tree : Tree) → IsOver snap.now blocks tree
-        → numbers.new.items ≡ numbers.old.items
-        ++ filter (λ number. not (nat_eq number 0)) (numbers_in (content_in snap.now.geometry blocks) pointer)) }
+        → numbers.new.items ≡ numbers.old.items ++ named_by (content_in snap.now.geometry blocks) pointer) }
     ensures err { IfErr result (λ stop. MayStop snap.now stop) }
     ensures pause { IfErr result (λ stop. (blocks : Image) (tree : Tree) → IsOver snap.now blocks tree
         → is_data_block_or_none snap.now.geometry pointer ≡ true
@@ -28,6 +48,28 @@ fn add_inner(alloc: Global, snap: &Snap, pointer: u32, numbers: &mut Vec<u32>) -
     let mut named = pointer_numbers(alloc, snap, pointer)?;
     named.retain(|number| *number != 0);
     numbers.extend_from_slice(&named)?;
+    Ok(())
+}
+
+// The same of all inner blocks.
+fn add_below(
+    alloc: Global,
+    snap: &Snap,
+    pointers: &[u32],
+    numbers: &mut Vec<u32>,
+) -> Result<(), Stop>
+    requires { list_all (is_data_block_or_none snap.now.geometry) pointers.now ≡ true }
+    ensures ok { OnOk result ((blocks : Image) (tree : Tree) → IsOver snap.now blocks tree
+        → numbers.new.items
+        ≡ numbers.old.items ++ flat_map (named_by (content_in snap.now.geometry blocks)) pointers.now) }
+    ensures err { IfErr result (λ stop. MayStop snap.now stop) }
+    ensures pause { IfErr result (λ stop. (blocks : Image) (tree : Tree) → IsOver snap.now blocks tree
+        → list_all (λ pointer. list_all (is_data_block_or_none snap.now.geometry)
+        (numbers_in (content_in snap.now.geometry blocks) pointer)) pointers.now ≡ true → IsPause stop) }
+{
+    for pointer in pointers {
+        add_inner(alloc, snap, *pointer, numbers)?;
+    }
     Ok(())
 }
 
@@ -43,13 +85,7 @@ pub(crate) fn blocks_of(alloc: Global, snap: &Snap, inode: &Inode) -> Result<Vec
 {
     let far = indirect_numbers(alloc, snap, inode)?;
     let inner = double_numbers(alloc, snap, inode)?;
-    let mut numbers = Vec::from_slice(alloc, &[inode.indirect, inode.double])?;
-    numbers.extend_from_slice(&inner)?;
-    numbers.extend_from_slice(&inode.direct)?;
-    numbers.extend_from_slice(&far)?;
-    numbers.retain(|number| *number != 0);
-    'inner: for pointer in &inner {
-        add_inner(alloc, snap, *pointer, &mut numbers)?;
-    }
+    let mut numbers = near_blocks(alloc, inode, &inner, &far)?;
+    add_below(alloc, snap, &inner, &mut numbers)?;
     Ok(numbers)
 }

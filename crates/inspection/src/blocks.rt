@@ -1,5 +1,5 @@
 //! The blocks of a file, as far as they were read.
-ghost use Rattle.std.specs.Prelude.{ℕ, ◌≡◌, ◌<◌, length, true, false, IfNone, IfSome};
+ghost use Rattle.std.specs.Prelude.{ℕ, ◌≡◌, ◌<◌, ◌⊎◌, length, get_or, true, false, IfNone, IfSome};
 ghost use Rattle.std.specs.List.{list_all};
 ghost use Rattle.limits.specs.declared.TheConstants.{BLOCK_BYTES, INDIRECT_INDEXES, MOST_SPAN};
 ghost use Rattle.disk.specs.Crash.{Image};
@@ -132,20 +132,44 @@ fn is_refused_pointer(snap: &Snap, pointer: u32) -> bool
     }
 }
 
-// Whether a double indirect block was read, and one of its inner blocks, which names what is no data block.
-fn is_refused_below(snap: &Snap, double: u32) -> bool
-    ensures some { result ≡ true → (blocks : Image) → AreRead snap.now blocks → IsRefusedBelow snap.now blocks double }
-    ensures none { result ≡ false → (blocks : Image) → Saw blocks snap.now → IsRefusedBelow snap.now blocks double → ⊥ }
+// Whether a block has the number of a pointer block that was read and names what is no data block.
+fn names_refused(snap: &Snap, block: &[u8]) -> bool
+    requires { length block.now ≡ BLOCK_BYTES }
+    ensures some { result ≡ true → (blocks : Image) → AreRead snap.now blocks → (inner : ℕ) × (inner < INDIRECT_INDEXES)
+        × IsRefusedPointer snap.now blocks (get_or (numbers_at INDIRECT_INDEXES 0 block.now) inner 0) }
+    ensures none { result ≡ false → (blocks : Image) (inner : ℕ) → Saw blocks snap.now → inner < INDIRECT_INDEXES
+        → IsRefusedPointer snap.now blocks (get_or (numbers_at INDIRECT_INDEXES 0 block.now) inner 0) → ⊥ }
 {
-    let Some(block) = read_block(snap, double) else {
-        return false;
-    };
-    'inner: for inner in 0..INDIRECT_INDEXES {
+    'inners: for inner in 0..INDIRECT_INDEXES {
         if is_refused_pointer(snap, Numbers::at(block, inner)) {
             return true;
         }
     }
     false
+}
+
+// Whether a double indirect block was read, and one of its inner blocks, which names what is no data block.
+fn is_refused_below(snap: &Snap, double: u32) -> bool
+    ensures some { result ≡ true → (blocks : Image) → AreRead snap.now blocks → IsRefusedBelow snap.now blocks double }
+    ensures none { result ≡ false → (blocks : Image) → Saw blocks snap.now → IsRefusedBelow snap.now blocks double → ⊥ }
+{
+    match read_block(snap, double) {
+        Some(block) => names_refused(snap, block),
+        None => false,
+    }
+}
+
+// Whether a double indirect block names what is no data block, or one of its inner blocks does.
+fn is_refused_double(snap: &Snap, double: u32) -> bool
+    ensures some { result ≡ true → (blocks : Image) → AreRead snap.now blocks
+        → IsRefusedPointer snap.now blocks double ⊎ IsRefusedBelow snap.now blocks double }
+    ensures none { result ≡ false → (blocks : Image) → Saw blocks snap.now
+        → IsRefusedPointer snap.now blocks double ⊎ IsRefusedBelow snap.now blocks double → ⊥ }
+{
+    if is_refused_pointer(snap, double) {
+        return true;
+    }
+    is_refused_below(snap, double)
 }
 
 // Whether a pointer block was read of a file that names what is no data block.
@@ -155,9 +179,10 @@ fn is_refused_far(snap: &Snap, inode: &Inode) -> bool
     ensures none { result ≡ false → (blocks : Image) → Saw blocks snap.now
         → HasRefusedPointer snap.now blocks inode.now → ⊥ }
 {
-    is_refused_pointer(snap, inode.indirect)
-        || is_refused_pointer(snap, inode.double)
-        || is_refused_below(snap, inode.double)
+    if is_refused_pointer(snap, inode.indirect) {
+        return true;
+    }
+    is_refused_double(snap, inode.double)
 }
 
 /// Whether the layout refuses a block of a file, as far as its blocks were read.

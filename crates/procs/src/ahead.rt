@@ -45,7 +45,8 @@ pub(crate) struct Blocks {
 }
 
 /// A listing: the slot from which it goes on, the room that is left for names and for the whole, and the numbers that it
-/// has listed, of which the first were told; these only where their files are told, with the pointer blocks of the next.
+/// has listed, of which the first were told; these only where their files are told, with the pointer blocks of the
+/// next.
 #[derive(Drop)]
 pub(crate) struct Listing {
     directory: Head,

@@ -10,8 +10,8 @@ use layout::Inode;
 use limits::INDIRECT_INDEXES;
 use nfs_types::Call;
 
-/// The pointer blocks of a file that has a double indirect block, from one on: its indirect block, this one, and the inner
-/// blocks.
+/// The pointer blocks of a file that has a double indirect block, from one on: its indirect block, this one, and the
+/// inner blocks.
 #[derive(Drop)]
 pub(crate) struct Pointers {
     inode: Inode,

@@ -144,9 +144,11 @@ module _ (before : Device) (tree : Tree) (first : ℕ) (holds : HoldsTree before
         let blocks : raised.geometry.blocks ≡ good.super.geometry.blocks =
         ap (λ (g : Geometry). g.blocks) geometry ∙ ap (λ (g : Geometry). g.blocks) same_geometry in
         let inodes : raised.geometry.inodes ≡ good.super.geometry.inodes =
-        ap (λ (g : Geometry). g.inodes) geometry ∙ ap (λ (g : Geometry). g.inodes) same_geometry in
-        (blocks, λ at tree stands.
-        stands_alike good.super.geometry raised.geometry at tree raised_version blocks inodes stands)
+        ap (λ (g : Geometry). g.inodes) geometry ∙ ap (λ (g : Geometry). g.inodes) same_geometry in (
+          blocks,
+          λ at tree stands.
+              stands_alike good.super.geometry raised.geometry at tree raised_version blocks inodes stands,
+        )
 
     pub next_boot : raised.boot ≡ first + 1
     next_boot = boot ∙ ap (λ n. n + 1) (is_super.boot ∙ sym good.is_super.boot ∙ good.boot_is)

@@ -49,7 +49,8 @@ returns-in-Ok-clause-ok c = λ blocks tree node name number draft grows bytes_is
     let named : numbers ≡ names =
     c.in_ok-numbers-in-Ok-Some-take_block.ensures.made ∙ (λ i. spliced (replicate BLOCK_BYTES 0) (place i) (four_bytes b)) in
     let size_is : c.size_with.result ≡ size = c.size_with.ensures ∙ ap (λ k. BLOCK_BYTES * (k + 1)) at in
-    let led : c.led_far-led.result ≡ new = c.led_far-led.ensures ∙ ap (λ k. mapping inode k inode.direct far inode.double) size_is in
+    let led : c.led_far-led.result ≡ new =
+    c.led_far-led.ensures ∙ ap (λ k. mapping inode k inode.direct far inode.double) size_is in
     let image = with_inode g (with_bytes (with_bytes middle far 0 names) b 0 block) n new in
     let written : with_inode c.take_block-2.new.draft.there.geometry
     (with_bytes (with_bytes middle far 0 numbers) b 0 c.args.bytes.items) n c.led_far-led.result ≡ image =

@@ -4,6 +4,7 @@ use Rattle.layout.specs.declared.geometry.Geometry.{Geometry}
 use Rattle.layout.specs.declared.inode.Inode.{Inode}
 use Rattle.layout.specs.InodeForm.{SoundInode, is_data_block_or_none}
 use Rattle.inode.specs.declared.snap.Snap.{Snap}
+use Rattle.inode.specs.Over.{HasInode}
 use Rattle.drafts.specs.Drafted.{image_of}
 use Rattle.drafts.proofs.PutThere.{moved_draft}
 use Rattle.file_cuts.specs.Cut.{numbered}
@@ -13,6 +14,18 @@ use Rattle.file_cuts.proofs.CutHolds.{cut_holds, gone_below}
 use Rattle.file_cuts.proofs.RegularThere.{IsRegularThere}
 use Rattle.file_cuts.proofs.Told.{told_cut, told_last}
 use Rattle.file_cuts.proofs.cutting.cut.Goals as goal
+
+pub returns-in-Err-clause-pause : goal.returns-in-Err-clause-pause
+returns-in-Err-clause-pause c = λ blocks tree draft has.
+    let image = image_of blocks c.args.draft.now in
+    c.in-Err.ensures.pause image tree c.args.number
+    (subst (λ (s : Snap). HasInode s image tree c.args.number c.args.inode.now) (sym c.there-2.ensures.there) has)
+
+pub returns-in-Err-last_of-clause-pause : goal.returns-in-Err-last_of-clause-pause
+returns-in-Err-last_of-clause-pause c = λ blocks tree draft has.
+    let image = image_of blocks c.args.draft.now in
+    c.in-Err-last_of.ensures.pause image tree c.args.number
+    (subst (λ (s : Snap). HasInode s image tree c.args.number c.args.inode.now) (sym c.there-3.ensures.there) has)
 
 pub write_cut-requires-clause-last : goal.write_cut-requires-clause-last
 write_cut-requires-clause-last c =
@@ -55,8 +68,8 @@ returns-in-Ok-write_cut-clause-ok c = λ blocks tree draft has sound.
           (λ q low. shows.long q (subst (λ (s : Geometry). q < s.blocks) (sym c.write_cut.ensures.geometry) low))),
     )
 
-pub returns-in-Err-write_cut-clause-pause : goal.returns-in-Err-write_cut-clause-pause
-returns-in-Err-write_cut-clause-pause c = λ blocks tree draft has.
+pub returns-clause-pause : goal.returns-clause-pause
+returns-clause-pause c = λ blocks tree draft has.
     let g = c.args.draft.now.there.geometry in
     let inode = c.args.inode.now in
     let image = image_of blocks c.args.draft.now in

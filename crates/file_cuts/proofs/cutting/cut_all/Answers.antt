@@ -5,6 +5,7 @@ use Rattle.layout.specs.InodeForm.{is_data_block_or_none}
 use Rattle.layout.specs.Parts.{content_in}
 use Rattle.inode.proofs.InodeThere.{maps}
 use Rattle.file_cuts.specs.Cut.{IsRowCut, is_some}
+use Rattle.file_cuts.specs.Doubles.{IsDoubleCut}
 use Rattle.file_cuts.proofs.ReadBack.{kept_passes}
 use Rattle.file_cuts.proofs.cutting.cut_all.Goals as goal
 
@@ -25,7 +26,7 @@ cut_double-requires c = sym c.is_placed-2.ensures ∙ (let no = c.if-not-is_plac
 
 pub returns-clause-fits : goal.returns-clause-fits
 returns-clause-fits c =
-    let eight : length c.args.inode.now.direct ≡ DIRECT_INDEXES = ? in
+    let eight : length c.args.inode.now.direct ≡ DIRECT_INDEXES = omega arith in
     let few = c.in_ok-near.ensures.few in
     record {
       near = (c.in_ok-near.ensures.len ∙ eight, omega (arith, few, eight));
@@ -50,5 +51,6 @@ returns-clause-ok c = λ blocks tree file has.
       far = subst (λ (t : List ℕ × ℕ × List ℕ). IsRowCut inode.indirect t.0 t.1 t.2 c.in_ok-far.far.pointer
           c.in_ok-far.far.numbers.items c.in_ok-far.far.used c.cut_row.new.gone.items)
           (λ i. (far_is i, c.saturating_sub-behind.ensures i, before i)) c.in_ok-far.ensures.is;
-      further = c.in_ok-double.ensures.ok blocks tree file has;
+      further = subst (λ (m : ℕ). IsDoubleCut content inode.double m c.cut_row.new.gone.items c.in_ok-double.double
+          c.cut_double.new.gone.items) c.saturating_sub-further.ensures (c.in_ok-double.ensures.ok blocks tree file has);
     }

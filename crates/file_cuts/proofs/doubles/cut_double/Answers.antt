@@ -1,29 +1,29 @@
-use Rattle.std.proofs.Common.{◌≡◌, ℕ, ◌+◌, sym, ap, ◌∙◌, refl, subst, cond, nat_eq, ◌++◌, ◌∷◌, [], List, filter, count_by, arith}
+use Rattle.std.proofs.Common.{rules, ◌≡◌, ℕ, ◌+◌, sym, ap, ◌∙◌, refl, subst, cond, nat_eq, ◌++◌, ◌∷◌, [], List, filter, count_by, arith}
 use Rattle.std.specs.List.{list_all}
 use Rattle.layout.specs.Decode.{numbers_in}
 use Rattle.layout.specs.InodeForm.{is_data_block_or_none}
 use Rattle.layout.specs.Parts.{content_in}
 use Rattle.layout.proofs.NumbersIn.{doubled_pass}
-use Rattle.inode.proofs.FarThere.{doubled_passes}
-use Rattle.inode.proofs.InodeThere.{is_of_kind, is_sound}
+use Rattle.inode.proofs.Stops.{at_err}
 use Rattle.file_cuts.specs.Cut.{is_some}
 use Rattle.file_cuts.specs.Doubles.{AreInnersCut}
 use Rattle.file_cuts.proofs.FirstOnes.{kept_is, lost_is}
 use Rattle.file_cuts.proofs.ReadBack.{kept_passes}
+use Rattle.file_cuts.proofs.Told.{doubled_named}
 use Rattle.file_cuts.proofs.doubles.cut_double.Goals as goal
 
 pub returns-in_err-inners-clause-pause : goal.returns-in_err-inners-clause-pause
-returns-in_err-inners-clause-pause c = λ blocks tree file has.
+returns-in_err-inners-clause-pause c =
+    at_err c.from_residual-in_err-inners.result c.in_err-inners.field-0.0 _ (search rules)
+    (λ blocks tree file has.
     let g = c.args.snap.now.geometry in
     let inode = c.args.inode.now in
     let content = content_in g blocks in
     let test = is_data_block_or_none g in
-    let good = is_sound g blocks tree file inode has.over.holds has.less has.there in
-    let kind = is_of_kind g blocks tree file inode has.over.holds has.less has.there in
     let pointers = c.deref.ensures.value ∙ c.in_ok-pointers.ensures.ok blocks tree file has in
     c.in_err-inners.ensures.pause blocks tree has.over
     (ap (list_all (λ pointer. list_all test (numbers_in content pointer))) pointers
-    ∙ sym (doubled_pass content inode.double test) ∙ doubled_passes g content inode inode.kind good kind)
+    ∙ sym (doubled_pass content inode.double test) ∙ doubled_named g blocks tree file inode has.over.holds has.less has.there))
 
 pub returns-clause-fits : goal.returns-clause-fits
 returns-clause-fits c =

@@ -1,4 +1,4 @@
-use Rattle.std.proofs.Common.{◌≡◌, ℕ, sym, ap, ◌∙◌, refl, subst, List, length, take, arith}
+use Rattle.std.proofs.Common.{rules, ◌≡◌, ℕ, sym, ap, ◌∙◌, refl, subst, List, length, take, arith}
 use Rattle.std.specs.List.{list_all}
 use Rattle.std.proofs.lemmas.List.{take_all, take_more}
 use Rattle.limits.specs.declared.TheConstants.{INDIRECT_INDEXES}
@@ -7,8 +7,9 @@ use Rattle.layout.specs.InodeForm.{is_data_block_or_none}
 use Rattle.layout.specs.Parts.{content_in}
 use Rattle.layout.proofs.NumbersIn.{none_pass, some_in}
 use Rattle.inode.proofs.Placed.{passes_at}
+use Rattle.inode.proofs.Stops.{at_err}
 use Rattle.file_cuts.specs.Doubles.{AreInnersCut}
-use Rattle.file_cuts.proofs.Inners.{none_yet}
+use Rattle.file_cuts.proofs.InnersCut.{none_yet}
 use Rattle.file_cuts.proofs.doubles.cut_inners.Goals as goal
 
 pub loop-pointer-init : goal.loop-pointer-init
@@ -69,7 +70,9 @@ returns-clause-ok c = λ blocks tree over.
     (c.loop-pointer.invariant.2 blocks tree over)
 
 pub returns-in_err-cut_inner-clause-pause : goal.returns-in_err-cut_inner-clause-pause
-returns-in_err-cut_inner-clause-pause c = λ blocks tree over named.
+returns-in_err-cut_inner-clause-pause c =
+    at_err c.from_residual-in_err-cut_inner.result c.in_err-cut_inner.field-0.0 _ (search rules)
+    (λ blocks tree over named.
     let test = is_data_block_or_none c.args.snap.now.geometry in
     let content = content_in c.args.snap.now.geometry blocks in
     let i = c.loop-pointer.pointer-index in
@@ -77,4 +80,4 @@ returns-in_err-cut_inner-clause-pause c = λ blocks tree over named.
     c.in_err-cut_inner.ensures.pause blocks tree over (passes_at test pointers i refl c.requires.placed)
     (λ some. ap (list_all test) (sym (some_in content _ some))
     ∙ passes_at (λ pointer. list_all test (numbers_in content pointer)) pointers i (none_pass content 0 refl test refl)
-    named)
+    named))

@@ -25,6 +25,7 @@ returns-in-Ok-new_pointers-clause-ok c = λ blocks tree file has held.
       | inr past ↦
           let some : ◌≡◌ {A = ℕ} (cond (nat_lt last FIRST_DOUBLE_INDEX) 0 inner) inner =
           ap (λ t. cond t 0 inner) (le-ltb last FIRST_DOUBLE_INDEX past) in
-          let added = double_added g blocks tree file inode has first last missing c.requires.order c.requires.within past
+          let added = double_added g blocks tree file inode has first last missing c.requires.order c.requires.within
+          past
           sum in omega (arith, pointers, some, added)
     ]

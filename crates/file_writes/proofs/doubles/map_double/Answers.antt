@@ -63,9 +63,11 @@ returns-in-Ok-clause-ok c =
     let place : 4 * c.place_of.result ≡ 4 * place_of index = ap (λ k. 4 * k) (c.place_of.ensures.is ∙ ap place_of at) in
     let row : 4 * c.inner_of.result ≡ 4 * inner_of index = ap (λ k. 4 * k) (c.inner_of.ensures.is ∙ ap inner_of at) in
     let named : numbers ≡ spliced (replicate BLOCK_BYTES 0) (4 * place_of index) (four_bytes b) =
-    c.in_ok-numbers-in-Ok-Some-take_block-2.ensures.made ∙ (λ i. spliced (replicate BLOCK_BYTES 0) (place i) (four_bytes b)) in
+    c.in_ok-numbers-in-Ok-Some-take_block-2.ensures.made ∙ (λ i. spliced (replicate BLOCK_BYTES 0) (place i)
+    (four_bytes b)) in
     let led : inners ≡ spliced (replicate BLOCK_BYTES 0) (4 * inner_of index) (four_bytes inner) =
-    c.in_ok-inners-in-Ok-Some-take_block-2.ensures.made ∙ (λ i. spliced (replicate BLOCK_BYTES 0) (row i) (four_bytes inner)) in
+    c.in_ok-inners-in-Ok-Some-take_block-2.ensures.made ∙ (λ i. spliced (replicate BLOCK_BYTES 0) (row i) (four_bytes
+    inner)) in
     let low : inner_of index < INDIRECT_INDEXES =
     (let past = c.requires.past in let within = c.requires.within in omega (arith, at, past, within)) in
     let image = with_bytes (with_bytes (with_bytes middle double 0 inners) inner 0 numbers) b 0 bytes in
@@ -94,7 +96,8 @@ returns-in-Ok-clause-ok c =
     (subst (λ l. Fills g base inode offset piece b inode.direct inode.indirect double
     (put (put (put (content_in g base) double l) inner numbers) b bytes) (double ∷ inner ∷ b ∷ [])) (sym led)
     (subst (λ l. Fills g base inode offset piece b inode.direct inode.indirect double
-    (put (put (put (content_in g base) double (spliced (replicate BLOCK_BYTES 0) (4 * inner_of index) (four_bytes inner)))
+    (put (put (put (content_in g base) double (spliced (replicate BLOCK_BYTES 0) (4 * inner_of index) (four_bytes
+    inner)))
     inner l) b bytes) (double ∷ inner ∷ b ∷ [])) (sym named)
     (block_named_double g base tree n inode (as_mapped g base tree n inode write.has) offset piece write.fits b bytes
     taken.were_free.1.1.0 none write.bytes_are (subst (λ k. FIRST_DOUBLE_INDEX ≤ k) at c.requires.past)

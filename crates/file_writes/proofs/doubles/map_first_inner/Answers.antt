@@ -60,11 +60,13 @@ returns-in-Ok-store_double-clause-ok c =
     (c.in-Ok.ensures.ok base tree
     (subst (λ (s : Snap). IsOver s base tree) (sym c.there.ensures.there)
     (over_of c.args.draft.now blocks tree draft))) in
-    let old : c.deref.result.now ≡ content_in g base double = c.deref.ensures.value ∙ c.in_ok-old-in-Ok.ensures.items ∙ was in
+    let old : c.deref.result.now ≡ content_in g base double = c.deref.ensures.value ∙ c.in_ok-old-in-Ok.ensures.items
+    ∙ was in
     let place : 4 * c.place_of.result ≡ 4 * place_of index = ap (λ k. 4 * k) (c.place_of.ensures.is ∙ ap place_of at) in
     let row : 4 * c.inner_of.result ≡ 4 * inner_of index = ap (λ k. 4 * k) (c.inner_of.ensures.is ∙ ap inner_of at) in
     let named : numbers ≡ spliced (replicate BLOCK_BYTES 0) (4 * place_of index) (four_bytes b) =
-    c.in_ok-numbers-in-Ok-Some-take_block.ensures.made ∙ (λ i. spliced (replicate BLOCK_BYTES 0) (place i) (four_bytes b)) in
+    c.in_ok-numbers-in-Ok-Some-take_block.ensures.made ∙ (λ i. spliced (replicate BLOCK_BYTES 0) (place i) (four_bytes
+    b)) in
     let led : inners ≡ spliced (content_in g base double) (4 * inner_of index) (four_bytes inner) =
     c.in_ok-inners-in-Ok-Some-take_block.ensures.made ∙ (λ i. spliced (old i) (row i) (four_bytes inner)) in
     let low : inner_of index < INDIRECT_INDEXES =
@@ -86,7 +88,8 @@ returns-in-Ok-store_double-clause-ok c =
     (named_are (content_in g base double) (4 * inner_of index) inner
     (content_are g base tree draft.holds double c.requires.double)))
     (ap (λ (l : List ℕ). length l) led
-    ∙ named_count (content_in g base double) (inner_of index) inner (long_content g base tree n inode write.has double) low)
+    ∙ named_count (content_in g base double) (inner_of index) inner (long_content g base tree n inode write.has double)
+    low)
     c.requires.double
     inner numbers
     (subst (λ (l : List ℕ). AreBytes l) (sym named)
@@ -96,9 +99,11 @@ returns-in-Ok-store_double-clause-ok c =
     (subst (λ l. Fills g base inode offset piece b inode.direct inode.indirect double
     (put (put (put (content_in g base) double l) inner numbers) b bytes) (inner ∷ b ∷ [])) (sym led)
     (subst (λ l. Fills g base inode offset piece b inode.direct inode.indirect double
-    (put (put (put (content_in g base) double (spliced (content_in g base double) (4 * inner_of index) (four_bytes inner)))
+    (put (put (put (content_in g base) double (spliced (content_in g base double) (4 * inner_of index) (four_bytes
+    inner)))
     inner l) b bytes) (inner ∷ b ∷ [])) (sym named)
-    (block_named_first_inner g base tree n inode (as_mapped g base tree n inode write.has) offset piece write.fits b bytes
+    (block_named_first_inner g base tree n inode (as_mapped g base tree n inode write.has) offset piece write.fits b
+    bytes
     taken.were_free.1.0 none write.bytes_are (subst (λ k. FIRST_DOUBLE_INDEX ≤ k) at c.requires.past)
     (subst (λ k. nat_eq (far_at (content_in g base) double (inner_of k)) 0 ≡ true) at no_inner) inner
     taken.were_free.0 (not_zero g double c.requires.double) taken.once))))

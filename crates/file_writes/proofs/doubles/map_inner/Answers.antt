@@ -49,7 +49,8 @@ returns-in-Ok-store_far-clause-ok c =
     (over_of c.args.draft.now blocks tree draft))) in
     let place : 4 * c.place_of.result ≡ 4 * place_of (offset / BLOCK_BYTES) =
     ap (λ k. 4 * k) (c.place_of.ensures.is ∙ ap place_of at) in
-    let old : c.deref.result.now ≡ content_in g base inner = c.deref.ensures.value ∙ c.in_ok-old-in-Ok.ensures.items ∙ was in
+    let old : c.deref.result.now ≡ content_in g base inner = c.deref.ensures.value ∙ c.in_ok-old-in-Ok.ensures.items
+    ∙ was in
     let named : numbers ≡ spliced (content_in g base inner) (4 * place_of (offset / BLOCK_BYTES)) (four_bytes b) =
     c.in_ok-numbers-in-Ok-Some.ensures.made ∙ (λ i. spliced (old i) (place i) (four_bytes b)) in
     let image = with_bytes (with_bytes middle inner 0 numbers) b 0 bytes in
@@ -73,9 +74,11 @@ returns-in-Ok-store_far-clause-ok c =
     c.requires.inner
     (subst (λ l. Fills g base inode offset piece b inode.direct inode.indirect inode.double
     (put (put (content_in g base) inner l) b bytes) (b ∷ [])) (sym named)
-    (block_named_inner g base tree n inode (as_mapped g base tree n inode write.has) offset piece write.fits b bytes taken.were_free.0 none
+    (block_named_inner g base tree n inode (as_mapped g base tree n inode write.has) offset piece write.fits b bytes
+    taken.were_free.0 none
     write.bytes_are (subst (λ k. FIRST_DOUBLE_INDEX ≤ k) at c.requires.past) inner
-    (is_inner ∙ ap (λ k. far_at (content_in g base) inode.double (inner_of k)) at) (not_zero g inner c.requires.inner))))
+    (is_inner ∙ ap (λ k. far_at (content_in g base) inode.double (inner_of k)) at) (not_zero g inner
+    c.requires.inner))))
 
 pub returns-in-Ok-None-clause-room : goal.returns-in-Ok-None-clause-room
 returns-in-Ok-None-clause-room c = λ blocks tree draft room.
@@ -96,7 +99,8 @@ returns-in-Ok-store_far-clause-twice c =
     let taken = nothing_spent c.args.draft.now c.take_block.new.draft c.args.number c.args.inode.now.indirect
     c.args.inode.now.double c.take_block.ensures.geometry c.take_block.ensures.stays c.take_block.ensures.spent in
     let twice = c.store_far.ensures.twice c.args.inode.now.indirect c.args.inode.now.double in
-    let same : ◌≡◌ {A = ℕ} (unspent c.store_far.new.draft c.args.number c.sized-same.result.indirect c.sized-same.result.double)
+    let same : ◌≡◌ {A = ℕ} (unspent c.store_far.new.draft c.args.number c.sized-same.result.indirect
+    c.sized-same.result.double)
     (unspent c.store_far.new.draft c.args.number c.args.inode.now.indirect c.args.inode.now.double) =
     ap (λ (one : Inode). unspent c.store_far.new.draft c.args.number one.indirect one.double) c.sized-same.ensures in
     omega (arith, taken, twice, same)
@@ -106,7 +110,8 @@ returns-in-Ok-Some-clause-twice c =
     let taken = nothing_spent c.args.draft.now c.take_block.new.draft c.args.number c.args.inode.now.indirect
     c.args.inode.now.double c.take_block.ensures.geometry c.take_block.ensures.stays c.take_block.ensures.spent in
     let twice = c.store_far.ensures.twice c.args.inode.now.indirect c.args.inode.now.double in
-    let same : ◌≡◌ {A = ℕ} (unspent c.store_far.new.draft c.args.number c.sized-same.result.indirect c.sized-same.result.double)
+    let same : ◌≡◌ {A = ℕ} (unspent c.store_far.new.draft c.args.number c.sized-same.result.indirect
+    c.sized-same.result.double)
     (unspent c.store_far.new.draft c.args.number c.args.inode.now.indirect c.args.inode.now.double) =
     ap (λ (one : Inode). unspent c.store_far.new.draft c.args.number one.indirect one.double) c.sized-same.ensures in
     omega (arith, taken, twice, same)

@@ -48,7 +48,8 @@ returns-in-Ok-store_far-clause-ok c =
     (over_of c.args.draft.now blocks tree draft))) in
     let place : 4 * (c.args.index - DIRECT_INDEXES) ≡ 4 * (offset / BLOCK_BYTES - DIRECT_INDEXES) =
     ap (λ k. 4 * (k - DIRECT_INDEXES)) at in
-    let old : c.deref.result.now ≡ content_in g base far = c.deref.ensures.value ∙ c.in_ok-old-in-Ok.ensures.items ∙ was in
+    let old : c.deref.result.now ≡ content_in g base far = c.deref.ensures.value ∙ c.in_ok-old-in-Ok.ensures.items
+    ∙ was in
     let named : numbers ≡ spliced (content_in g base far) (4 * (offset / BLOCK_BYTES - DIRECT_INDEXES)) (four_bytes b) =
     c.in_ok-numbers-in-Ok-Some.ensures.made ∙ (λ i. spliced (old i) (place i) (four_bytes b)) in
     let image = with_bytes (with_bytes middle far 0 numbers) b 0 bytes in
@@ -73,7 +74,8 @@ returns-in-Ok-store_far-clause-ok c =
     c.requires.far
     (subst (λ l. Fills g base inode offset piece b inode.direct far inode.double
     (put (put (content_in g base) far l) b bytes) (b ∷ [])) (sym named)
-    (block_named_far g base tree n inode (as_mapped g base tree n inode write.has) offset piece write.fits b bytes taken.were_free.0 none
+    (block_named_far g base tree n inode (as_mapped g base tree n inode write.has) offset piece write.fits b bytes
+    taken.were_free.0 none
     write.bytes_are (subst (λ k. DIRECT_INDEXES ≤ k) at c.requires.past)
     (subst (λ k. k < FIRST_DOUBLE_INDEX) at c.requires.within) (not_zero g far c.requires.far))))
 
@@ -96,7 +98,8 @@ returns-in-Ok-store_far-clause-once c =
     let taken = nothing_spent c.args.draft.now c.take_block.new.draft c.args.number c.args.inode.now.indirect
     c.args.inode.now.double c.take_block.ensures.geometry c.take_block.ensures.stays c.take_block.ensures.spent in
     let once = c.store_far.ensures.once c.args.inode.now.double in
-    let same : ◌≡◌ {A = ℕ} (unspent c.store_far.new.draft c.args.number c.sized-same.result.indirect c.sized-same.result.double)
+    let same : ◌≡◌ {A = ℕ} (unspent c.store_far.new.draft c.args.number c.sized-same.result.indirect
+    c.sized-same.result.double)
     (unspent c.store_far.new.draft c.args.number c.args.inode.now.indirect c.args.inode.now.double) =
     ap (λ (one : Inode). unspent c.store_far.new.draft c.args.number one.indirect one.double) c.sized-same.ensures in
     omega (arith, taken, once, same)
@@ -106,7 +109,8 @@ returns-in-Ok-Some-clause-once c =
     let taken = nothing_spent c.args.draft.now c.take_block.new.draft c.args.number c.args.inode.now.indirect
     c.args.inode.now.double c.take_block.ensures.geometry c.take_block.ensures.stays c.take_block.ensures.spent in
     let once = c.store_far.ensures.once c.args.inode.now.double in
-    let same : ◌≡◌ {A = ℕ} (unspent c.store_far.new.draft c.args.number c.sized-same.result.indirect c.sized-same.result.double)
+    let same : ◌≡◌ {A = ℕ} (unspent c.store_far.new.draft c.args.number c.sized-same.result.indirect
+    c.sized-same.result.double)
     (unspent c.store_far.new.draft c.args.number c.args.inode.now.indirect c.args.inode.now.double) =
     ap (λ (one : Inode). unspent c.store_far.new.draft c.args.number one.indirect one.double) c.sized-same.ensures in
     omega (arith, taken, once, same)

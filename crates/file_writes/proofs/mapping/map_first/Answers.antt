@@ -1,4 +1,5 @@
-use Rattle.std.proofs.Common.{refl, ℕ, ◌≡◌, ◌≤◌, ◌<◌, ◌*◌, ◌-◌, ◌/◌, [], ◌∷◌, List, length, replicate, sym, ap, ◌∙◌, subst}
+use Rattle.std.proofs.Common.{refl, ℕ, ◌≡◌, ◌≤◌, ◌<◌, ◌*◌, ◌-◌, ◌/◌, [], ◌∷◌, List}
+use Rattle.std.proofs.Common.{length, replicate, sym, ap, ◌∙◌, subst}
 use Rattle.std.proofs.Common.{arith}
 use Rattle.limits.specs.declared.TheConstants.{BLOCK_BYTES, DIRECT_INDEXES, FIRST_DOUBLE_INDEX}
 use Rattle.nfs_types.specs.Fits.{AreBytes}
@@ -63,8 +64,10 @@ returns-in-Ok-clause-ok c =
     let seen = c.in-Ok-Some-take_block.ensures.shows blocks shown in
     let place : 4 * (c.args.index - DIRECT_INDEXES) ≡ 4 * (offset / BLOCK_BYTES - DIRECT_INDEXES) =
     ap (λ k. 4 * (k - DIRECT_INDEXES)) at in
-    let named : numbers ≡ spliced (replicate BLOCK_BYTES 0) (4 * (offset / BLOCK_BYTES - DIRECT_INDEXES)) (four_bytes b) =
-    c.in_ok-numbers-in-Ok-Some-take_block.ensures.made ∙ (λ i. spliced (replicate BLOCK_BYTES 0) (place i) (four_bytes b)) in
+    let named : numbers ≡ spliced (replicate BLOCK_BYTES 0) (4 * (offset / BLOCK_BYTES - DIRECT_INDEXES)) (four_bytes
+    b) =
+    c.in_ok-numbers-in-Ok-Some-take_block.ensures.made ∙ (λ i. spliced (replicate BLOCK_BYTES 0) (place i) (four_bytes
+    b)) in
     let image = with_bytes (with_bytes middle far 0 numbers) b 0 bytes in
     let written : with_inode c.take_block-2.new.draft.there.geometry image n c.led_far-led.result
     ≡ with_inode g image n new =
@@ -85,7 +88,8 @@ returns-in-Ok-clause-ok c =
     taken.were_free.0.lies
     (subst (λ l. Fills g base inode offset piece b inode.direct far inode.double
     (put (put (content_in g base) far l) b bytes) (far ∷ b ∷ [])) (sym named)
-    (block_named_first g base tree n inode (as_mapped g base tree n inode write.has) offset piece write.fits b bytes taken.were_free.1.0 none
+    (block_named_first g base tree n inode (as_mapped g base tree n inode write.has) offset piece write.fits b bytes
+    taken.were_free.1.0 none
     write.bytes_are (subst (λ k. DIRECT_INDEXES ≤ k) at c.requires.past)
     (subst (λ k. k < FIRST_DOUBLE_INDEX) at c.requires.within) c.requires.none far
     taken.were_free.0 taken.once)))
@@ -126,7 +130,8 @@ returns-in-Ok-clause-once c =
     let new = unspent_first c.take_block-2.new.draft c.args.number far c.args.inode.now.indirect
     c.args.inode.now.double c.requires.none in
     let once = c.store_far.ensures.once c.args.inode.now.double in
-    let same : ◌≡◌ {A = ℕ} (unspent c.store_far.new.draft c.args.number c.led_far-led.result.indirect c.led_far-led.result.double)
+    let same : ◌≡◌ {A = ℕ} (unspent c.store_far.new.draft c.args.number c.led_far-led.result.indirect
+    c.led_far-led.result.double)
     (unspent c.store_far.new.draft c.args.number far c.args.inode.now.double) =
     ap (λ (one : Inode). unspent c.store_far.new.draft c.args.number one.indirect one.double) c.led_far-led.ensures in
     omega (arith, first, second, new, once, same)
@@ -141,7 +146,8 @@ returns-in-Err-store_far-clause-once c =
     let new = unspent_first c.take_block-2.new.draft c.args.number far c.args.inode.now.indirect
     c.args.inode.now.double c.requires.none in
     let once = c.store_far.ensures.once c.args.inode.now.double in
-    let same : ◌≡◌ {A = ℕ} (unspent c.store_far.new.draft c.args.number c.led_far-led.result.indirect c.led_far-led.result.double)
+    let same : ◌≡◌ {A = ℕ} (unspent c.store_far.new.draft c.args.number c.led_far-led.result.indirect
+    c.led_far-led.result.double)
     (unspent c.store_far.new.draft c.args.number far c.args.inode.now.double) =
     ap (λ (one : Inode). unspent c.store_far.new.draft c.args.number one.indirect one.double) c.led_far-led.ensures in
     omega (arith, first, second, new, once, same)
@@ -174,7 +180,8 @@ returns-in-Err-take_block-clause-once c =
     c.args.inode.now.double c.take_block-2.ensures.geometry c.take_block-2.ensures.stays c.take_block-2.ensures.spent in
     omega (arith, first, second)
 
-pub returns-in_err-numbers-in-Ok-Some-take_block-clause-once : goal.returns-in_err-numbers-in-Ok-Some-take_block-clause-once
+pub returns-in_err-numbers-in-Ok-Some-take_block-clause-once :
+    goal.returns-in_err-numbers-in-Ok-Some-take_block-clause-once
 returns-in_err-numbers-in-Ok-Some-take_block-clause-once c =
     let first = nothing_spent c.args.draft.now c.take_block.new.draft c.args.number c.args.inode.now.indirect
     c.args.inode.now.double c.take_block.ensures.geometry c.take_block.ensures.stays c.take_block.ensures.spent in

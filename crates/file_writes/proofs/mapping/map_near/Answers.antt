@@ -45,7 +45,8 @@ returns-in-Ok-clause-ok c =
     (stored g base tree n inode offset piece bytes size write (b ∷ []) middle taken
     (λ q low. seen.long q (subst (λ (s : Geometry). q < s.blocks) (sym c.take_block.ensures.geometry) low))
     c.requires.len b direct inode.indirect inode.double
-    (block_named g base tree n inode (as_mapped g base tree n inode write.has) offset piece write.fits b bytes taken.were_free.0 none
+    (block_named g base tree n inode (as_mapped g base tree n inode write.has) offset piece write.fits b bytes
+    taken.were_free.0 none
     write.bytes_are (subst (λ k. k < DIRECT_INDEXES) at c.requires.near)))
 
 pub returns-in-Ok-None-clause-room : goal.returns-in-Ok-None-clause-room
@@ -67,7 +68,8 @@ returns-in-Ok-clause-once c =
     let taken = nothing_spent c.args.draft.now c.take_block.new.draft c.args.number c.args.inode.now.indirect
     c.args.inode.now.double c.take_block.ensures.geometry c.take_block.ensures.stays c.take_block.ensures.spent in
     let once = c.store.ensures.once c.args.inode.now.indirect c.args.inode.now.double in
-    let same : ◌≡◌ {A = ℕ} (unspent c.store.new.draft c.args.number c.naming-named.result.indirect c.naming-named.result.double)
+    let same : ◌≡◌ {A = ℕ} (unspent c.store.new.draft c.args.number c.naming-named.result.indirect
+    c.naming-named.result.double)
     (unspent c.store.new.draft c.args.number c.args.inode.now.indirect c.args.inode.now.double) =
     ap (λ (one : Inode). unspent c.store.new.draft c.args.number one.indirect one.double) c.naming-named.ensures in
     omega (arith, taken, once, same)
@@ -77,7 +79,8 @@ returns-in-Err-store-clause-once c =
     let taken = nothing_spent c.args.draft.now c.take_block.new.draft c.args.number c.args.inode.now.indirect
     c.args.inode.now.double c.take_block.ensures.geometry c.take_block.ensures.stays c.take_block.ensures.spent in
     let once = c.store.ensures.once c.args.inode.now.indirect c.args.inode.now.double in
-    let same : ◌≡◌ {A = ℕ} (unspent c.store.new.draft c.args.number c.naming-named.result.indirect c.naming-named.result.double)
+    let same : ◌≡◌ {A = ℕ} (unspent c.store.new.draft c.args.number c.naming-named.result.indirect
+    c.naming-named.result.double)
     (unspent c.store.new.draft c.args.number c.args.inode.now.indirect c.args.inode.now.double) =
     ap (λ (one : Inode). unspent c.store.new.draft c.args.number one.indirect one.double) c.naming-named.ensures in
     omega (arith, taken, once, same)

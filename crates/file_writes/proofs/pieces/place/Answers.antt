@@ -1,5 +1,7 @@
 use Rattle.std.proofs.Common.{rules, ◌≡◌, true, nat_eq, sym, ap, ◌∙◌, arith}
 use Rattle.drafts.specs.Drafted.{image_of}
+use Rattle.inode.proofs.HeldThere.{no_data}
+use Rattle.inode.proofs.Placed.{indirect_placed}
 use Rattle.bitmap.proofs.OfResults.{mapped}
 use Rattle.file_writes.proofs.Costs.{first_adds, one_adds}
 use Rattle.file_writes.proofs.pieces.place.Goals as goal
@@ -75,3 +77,10 @@ returns-then-index-ge-FIRST_DOUBLE_INDEX-clause-ok c =
     mapped _ _ (λ done leads yes blocks tree offset piece draft write at is.
     leads yes blocks tree offset piece draft write at (ap (λ k. nat_eq k 0) (sym is) ∙ zero))
     c.place_double.result c.place_double.ensures.ok
+
+-- the indirect block is a data block
+pub returns-then-not-is_data-clause-pause : goal.returns-then-not-is_data-clause-pause
+returns-then-not-is_data-clause-pause c = λ blocks tree draft has.
+    no_data c.args.draft.now.there.geometry c.args.inode.now.indirect (let h = c.if-inode-eq0.false in search rules)
+    (search rules)
+    (indirect_placed c.args.draft.now.there (image_of blocks c.args.draft.now) tree c.args.number c.args.inode.now has)

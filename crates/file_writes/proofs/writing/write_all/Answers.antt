@@ -67,7 +67,8 @@ pieces-preserved c =
             one_more offset done len text some more (omega (arith, most, low)) border tree n c.pieces.draft
                 c.write_piece-in-pieces.new.draft blocks had
                 (subst (λ k. WritesText c.write_piece-in-pieces.new.draft blocks
-                (with_node tree n (rewritten offset (take done text) had.node)) n (offset + done) (take k (drop done text)))
+                (with_node tree n (rewritten offset (take done text) had.node)) n (offset + done) (take k (drop done
+                text)))
                 (part_len done len) has.0),
             has.1,
           ),

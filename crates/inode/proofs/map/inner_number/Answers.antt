@@ -4,7 +4,8 @@ use Rattle.inode.proofs.map.inner_number.Goals as goal
 
 pub returns-clause-ok : goal.returns-clause-ok
 returns-clause-ok c =
-    IfOk-weaker c.far_number.result _ _ (λ number is blocks tree file has. is blocks tree has.over) c.far_number.ensures.ok
+    IfOk-weaker c.far_number.result _ _ (λ number is blocks tree file has. is blocks tree has.over)
+    c.far_number.ensures.ok
 
 pub returns-clause-pause : goal.returns-clause-pause
 returns-clause-pause c =

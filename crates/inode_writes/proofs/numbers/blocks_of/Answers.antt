@@ -1,18 +1,40 @@
-use Rattle.std.proofs.Common.{rules, ap, sym, ◌∙◌, ℕ, List, ◌++◌, filter}
-use Rattle.std.proofs.lemmas.Fn.{filter_same}
-use Rattle.layout.specs.Decode.{numbers_in, pointer_blocks}
+use Rattle.std.proofs.Common.{ap, sym, ◌∙◌, ◌++◌, ◌∷◌, filter, rules}
+use Rattle.std.specs.List.{flat_map, list_all}
+use Rattle.layout.specs.Decode.{numbers_in}
+use Rattle.layout.specs.InodeForm.{is_data_block_or_none}
 use Rattle.layout.specs.Parts.{content_in}
-use Rattle.layout.proofs.FileNumbers.{in_parts}
-use Rattle.inode_writes.specs.Frees.{is_some}
+use Rattle.layout.proofs.NumbersIn.{doubled_pass}
+use Rattle.inode.proofs.Placed.{inner_placed}
+use Rattle.inode.proofs.Stops.{at_err}
+use Rattle.inode_writes.specs.Frees.{is_some, named_by}
+use Rattle.inode_writes.proofs.OwnedBlocks.{all_owned}
 use Rattle.inode_writes.proofs.numbers.blocks_of.Goals as goal
+
+pub add_below-requires : goal.add_below-requires
+add_below-requires c =
+    ap (list_all (is_data_block_or_none c.args.snap.now.geometry)) c.deref-3.ensures.value ∙ c.in_ok-inner.ensures.placed
 
 pub returns-clause-ok : goal.returns-clause-ok
 returns-clause-ok c = λ blocks tree file has.
     let inode = c.args.inode.now in
     let content = content_in c.args.snap.now.geometry blocks in
-    let far = c.deref.ensures.value ∙ c.in_ok-far.ensures.ok blocks tree file has in
-    filter_same _ is_some _ (λ x b f r. search rules) _ _ c.retain.ensures.filtered
-    ∙ ap (filter is_some) (c.in_ok-extend_from_slice-2.ensures.items
-    ∙ (λ i. c.in_ok-extend_from_slice.ensures.items i ++ far i)
-    ∙ ap (λ (l : List ℕ). (l ++ inode.direct) ++ numbers_in content inode.indirect) c.in_ok-numbers.ensures.items)
-    ∙ sym (ap (λ l. filter is_some (pointer_blocks content inode ++ l)) (in_parts content inode))
+    let inner = c.in_ok-inner.ensures.ok blocks tree file has in
+    let first = c.deref.ensures.value ∙ inner in
+    let far = c.deref-2.ensures.value ∙ c.in_ok-far.ensures.ok blocks tree file has in
+    c.in_ok-add_below.ensures.ok blocks tree has.over
+    ∙ (λ i. (c.in_ok-numbers.ensures
+    ∙ (λ j. filter is_some (inode.indirect ∷ inode.double ∷ first j ++ inode.direct ++ far j))) i
+    ++ flat_map (named_by content) ((c.deref-3.ensures.value ∙ inner) i))
+    ∙ all_owned content inode
+
+pub returns-in_err-add_below-clause-pause : goal.returns-in_err-add_below-clause-pause
+returns-in_err-add_below-clause-pause c =
+    at_err c.from_residual-in_err-add_below.result c.in_err-add_below.field-0.0 _ (search rules) (λ blocks tree file has.
+    let inode = c.args.inode.now in
+    let content = content_in c.args.snap.now.geometry blocks in
+    let test = is_data_block_or_none c.args.snap.now.geometry in
+    let inner = c.deref-3.ensures.value ∙ c.in_ok-inner.ensures.ok blocks tree file has in
+    c.in_err-add_below.ensures.pause blocks tree has.over
+    (ap (list_all (λ pointer. list_all test (numbers_in content pointer))) inner
+    ∙ sym (doubled_pass content inode.double test)
+    ∙ (inner_placed c.args.snap.now blocks tree file inode has).named))

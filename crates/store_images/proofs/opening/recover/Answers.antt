@@ -74,9 +74,13 @@ returns-in-Err-raise-clause-left g c = λ rest kept.
     brings.coming.logged in
     let home = g.D.CrashDisk.device c.install.new.disk in
     let same = raised_is found c.newest-geometry.result c.newest-geometry.ensures.is in
-    inr (found, is.is_super, subst (KeepsBlocks before (g.D.CrashDisk.device c.raise.new.disk)) same
-    (c.in-Err-raise.ensures.raised before log c.lawful-3.ensures.log empty
-    (subst (λ bytes. BringsHome before bytes home log) (sym same) brings)))
+    inr (
+      found,
+      is.is_super,
+      subst (KeepsBlocks before (g.D.CrashDisk.device c.raise.new.disk)) same
+          (c.in-Err-raise.ensures.raised before log c.lawful-3.ensures.log empty
+          (subst (λ bytes. BringsHome before bytes home log) (sym same) brings)),
+    )
 
 pub returns-clause-left : goal.returns-clause-left
 returns-clause-left g c = λ rest kept.
@@ -96,11 +100,15 @@ returns-clause-left g c = λ rest kept.
     brings.coming.logged in
     let home = g.D.CrashDisk.device c.install.new.disk in
     let same = raised_is found c.newest-geometry.result c.newest-geometry.ensures.is in
-    inr (found, is.is_super, raised_keeps before home
-    (g.D.CrashDisk.device c.raise.new.disk) log (super_bytes (next_super found)) c.lawful-3.ensures.log empty
-    (subst (λ bytes. HasRaised before bytes home (g.D.CrashDisk.device c.raise.new.disk) log) same
-    (c.in_default-raise.ensures.raised before log c.lawful-3.ensures.log empty
-    (subst (λ bytes. BringsHome before bytes home log) (sym same) brings))))
+    inr (
+      found,
+      is.is_super,
+      raised_keeps before home
+          (g.D.CrashDisk.device c.raise.new.disk) log (super_bytes (next_super found)) c.lawful-3.ensures.log empty
+          (subst (λ bytes. HasRaised before bytes home (g.D.CrashDisk.device c.raise.new.disk) log) same
+          (c.in_default-raise.ensures.raised before log c.lawful-3.ensures.log empty
+          (subst (λ bytes. BringsHome before bytes home log) (sym same) brings))),
+    )
 
 pub returns-in-Err-clause-keeps : goal.returns-in-Err-clause-keeps
 returns-in-Err-clause-keeps g c = λ tree first holds kept.
