@@ -6,9 +6,11 @@ ghost use Rattle.inode.specs.Over.{MayStop};
 ghost use Rattle.procedures.specs.Listing.{entry_room};
 
 use crate::entering::Entering;
+use crate::freeing::Freeing;
 use crate::next::Plan;
 use crate::pieces::Pieces;
 use crate::pointers::{Pointers, pointers_of};
+use crate::shrinking::{cut_at, cut_for, named, unnamed};
 use crate::writing::Writing;
 use block_files::BlockFiles;
 use files::{Files, Head};
@@ -18,18 +20,21 @@ use limits::{
     BLOCK_BYTES, ENTRY_BYTES, ENTRY_PLUS_BYTES, LARGEST_FILE, LISTING_BYTES, LISTING_FRAME,
     TRANSFER_BYTES,
 };
+use name_search::Names;
 use nfs_types::{Call, DirectoryName, Handle};
 use procedures::{ITSELF_COOKIE, PARENT_COOKIE};
 use std::alloc::{AllocError, Global};
 
 /// Nothing; the blocks of a file that a READ asks for; what a WRITE asks for; what a name asks for
-/// that a directory gets; what a listing asks for; the bitmaps; or the pointer blocks of a file.
+/// that a directory gets; what the blocks ask for that a file frees; what a listing asks for; the bitmaps; or the pointer
+/// blocks of a file.
 #[derive(Drop)]
 pub(crate) enum Ahead {
     Nothing,
     Blocks(Blocks),
     Writing(Writing),
     Entering(Entering),
+    Freeing(Freeing),
     Listing(Listing),
     Pieces(Pieces),
     Pointers(Pointers),
@@ -163,6 +168,7 @@ impl Ahead {
             Ahead::Blocks(blocks) => blocks.go_on(snap),
             Ahead::Writing(writing) => writing.go_on(snap),
             Ahead::Entering(entering) => entering.go_on(snap),
+            Ahead::Freeing(freeing) => freeing.go_on(alloc, snap),
             Ahead::Listing(listing) => listing.go_on(alloc, snap),
             Ahead::Pieces(pieces) => pieces.go_on(snap),
             Ahead::Pointers(pointers) => pointers.go_on(snap),
@@ -259,8 +265,16 @@ fn entering(
     }
 }
 
+// What the blocks ask for that a file frees, if it does.
+fn freed(freeing: Option<Freeing>) -> Ahead {
+    match freeing {
+        Some(freeing) => Ahead::Freeing(freeing),
+        None => Ahead::Nothing,
+    }
+}
+
 // What a call asks for in a row, from its first object on.
-fn in_a_row(alloc: Global, call: &Call, snap: &Snap) -> Result<Ahead, Stop> {
+fn in_a_row(alloc: Global, call: &Call, snap: &Snap, names: &Names) -> Result<Ahead, Stop> {
     match call {
         Call::Read {
             file,
@@ -314,11 +328,24 @@ fn in_a_row(alloc: Global, call: &Call, snap: &Snap) -> Result<Ahead, Stop> {
             Some(writing) => Ok(Ahead::Writing(writing)),
             None => Ok(Ahead::Nothing),
         },
-        Call::Create { name, .. } | Call::MkDir { name, .. } => {
-            entering(alloc, snap, name, true, false)
-        }
+        Call::SetAttr {
+            object,
+            attributes,
+            ..
+        } => Ok(freed(cut_at(snap, object, attributes.size)?)),
+        Call::Create { name, how } => match named(snap, names, name)? {
+            Some(number) => Ok(freed(cut_for(snap, number, how)?)),
+            None => entering(alloc, snap, name, true, false),
+        },
+        Call::MkDir { name, .. } => entering(alloc, snap, name, true, false),
         Call::SymLink { name, .. } => entering(alloc, snap, name, true, true),
         Call::Link { name, .. } => entering(alloc, snap, name, false, false),
+        Call::Remove { name } => Ok(freed(unnamed(snap, names, name, false)?)),
+        Call::RmDir { name } => Ok(freed(unnamed(snap, names, name, true)?)),
+        Call::Rename { target, .. } => match named(snap, names, target)? {
+            Some(number) => Ok(freed(Freeing::replaced(snap, number)?)),
+            None => entering(alloc, snap, target, false, false),
+        },
         Call::FsStat { .. } => Ok(Ahead::Pieces(Pieces::begin())),
         _ => Ok(Ahead::Nothing),
     }
@@ -337,7 +364,7 @@ fn is_asked(plan: &Plan, next: &Option<Stop>) -> bool {
 
 /// What a call asks for behind a plan: nothing, unless the plan asks for the next of what the call asks for in a row, so
 /// that the run has come there.
-pub(crate) fn behind(alloc: Global, call: &Call, snap: &Snap, plan: &Plan) -> Ahead {
+pub(crate) fn behind(alloc: Global, call: &Call, snap: &Snap, names: &Names, plan: &Plan) -> Ahead {
     if !matches!(plan, Plan::Need(..) | Plan::Claim(_)) {
         return Ahead::Nothing;
     }
@@ -348,7 +375,7 @@ pub(crate) fn behind(alloc: Global, call: &Call, snap: &Snap, plan: &Plan) -> Ah
             return ahead;
         }
     }
-    let Ok(mut ahead) = in_a_row(alloc, call, snap) else {
+    let Ok(mut ahead) = in_a_row(alloc, call, snap, names) else {
         return Ahead::Nothing;
     };
     let next = ahead.next(alloc, snap);

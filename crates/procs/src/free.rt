@@ -1,12 +1,10 @@
 //! What is free, as a call asks for it behind a run: whether there are enough blocks, each of them as a claim, and a
 //! number that no file has. These are positions, of which nothing is claimed.
-ghost use Rattle.std.specs.Prelude.{◌≡◌, ◌*◌, ◌+◌, ◌-◌, ◌<◌, ◌≤◌, length, true, IfErr, IfSome};
-ghost use Rattle.limits.specs.declared.TheConstants.{FIRST_HOME_BLOCK};
-ghost use Rattle.layout.specs.Geometry.{inode_bitmap_at};
-ghost use Rattle.layout.specs.declared.grid.TheConstants.{PIECE_BITS, PIECE_BYTES, PIECES_PER_BLOCK};
+ghost use Rattle.std.specs.Prelude.{◌≡◌, ◌<◌, ◌≤◌, length, true, IfErr, IfSome};
+ghost use Rattle.layout.specs.declared.grid.TheConstants.{PIECE_BITS, PIECE_BYTES};
 ghost use Rattle.inode.specs.Over.{MayStop};
 
-use crate::pieces::piece_bytes;
+use crate::pieces::{piece_bytes, pieces_of_blocks};
 use disk::BlockNo;
 use inode::{Snap, Stop};
 use layout::{PIECE_BITS, PIECES_PER_BLOCK};
@@ -33,13 +31,6 @@ pub(crate) struct FreeBlocks {
 #[derive(Drop)]
 pub(crate) struct FreeNumber {
     passed: u32,
-}
-
-// How many pieces the bitmap of blocks has.
-fn pieces_of_blocks(snap: &Snap) -> u32
-    ensures { result ≡ PIECES_PER_BLOCK * (inode_bitmap_at snap.now.geometry.blocks - FIRST_HOME_BLOCK) }
-{
-    PIECES_PER_BLOCK * (snap.geometry.inode_bitmap().0 - FIRST_HOME_BLOCK)
 }
 
 // The piece behind so many others, from where free blocks are looked for; behind the last comes the first.

@@ -166,7 +166,7 @@ impl Planner {
             self.ahead = Ahead::Nothing;
         } else {
             self.searches = None;
-            self.ahead = behind(alloc, call, &self.snap, &next);
+            self.ahead = behind(alloc, call, &self.snap, names, &next);
         }
         next
     }

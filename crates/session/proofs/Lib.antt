@@ -7,5 +7,4 @@ pub mod ShortListings
 pub mod ShortMade
 pub mod ShortReplies
 pub mod Taken
-pub mod TwoRefusals
 pub mod ServedFiles

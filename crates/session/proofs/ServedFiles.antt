@@ -42,7 +42,6 @@ use Rattle.session.specs.Replying.{IsMessageAnswered, IsMountReply, IsSystemErro
 use Rattle.session.specs.Serving.{reply_for}
 use Rattle.session.specs.Standing.{serving_of, standing_of}
 use Rattle.session.specs.Streaming.{Answered}
-use Rattle.session.proofs.TwoRefusals.{two_verdicts}
 
 -- ---- failures
 
@@ -246,42 +245,25 @@ module _ (boot : ℕ) (moment : Moment) (end : Device) where
         }
 
     spent : store.IsSpent new.core → (later : Files) → wire.IsSpent (standing_of new later.last)
-    spent none later = elim (cases_lt (new.core.begun + 1) (2 ^ 64)) [
-      | inl number ↦ elim (cases_lt (new.core.log.places + 1) (2 ^ 64)) [
-        | inl place ↦ elim (cases_lt (end_of new.core.log + CHANGED_BLOCKS) (2 ^ 64)) [
-          | inl room ↦ absurd (none (record {
-            number = number;
-            places = record { place = place; positions = room };
-          }))
-          | inr full ↦ inr (inr (omega (arith, full)))
-        ]
-        | inr full ↦ inr (inl full)
+    spent (inl number) later = inl number
+    spent (inr none) later = elim (cases_lt (new.core.log.places + 1) (2 ^ 64)) [
+      | inl place ↦ elim (cases_lt (end_of new.core.log + CHANGED_BLOCKS) (2 ^ 64)) [
+        | inl room ↦ absurd (none (place, room))
+        | inr full ↦ inr (inr (omega (arith, full)))
       ]
-      | inr full ↦ inl full
+      | inr full ↦ inr (inl full)
     ]
 
-    spent_before : wire.IsSpent (standing_of old files.last) → store.IsSpent old.core
-    spent_before (inl number) = λ left. let has = left.number in omega (arith, number, has)
-    spent_before (inr (inl place)) = λ left. let has = left.places.place in omega (arith, place, has)
-    spent_before (inr (inr positions)) = λ left. let has = left.places.positions in omega (arith, positions, has)
-
-    -- a procedure that was committed found no counter spent
-    not_spent : (entry : Entry) → begins_transaction asked ≡ true → store.TellsSpent o (Some entry) verdict
-        → wire.IsSpent (standing_of old files.last) → ⊥
-    not_spent entry begins told was = let none = (told begins (spent_before was)).0 in cc
-
     refused_so : (why : Cause) (later : Files) → IsLater old.device new.device → AgreesWith new
-        → begins_transaction asked ≡ true → store.TellsSpent o None verdict
         → verdict ≡ refusal asked why → store.HasCause o new why
         → wire.Stays s (standing_of old files.last) (standing_of new later.last)
         → wire.IsTransactionReply s (standing_of old files.last) xid credential asked bytes
         (standing_of new later.last)
-    refused_so cause.Io later past same begins told is because at =
-        wire.Failed (λ was. two_verdicts asked begins (sym is ∙ (told begins (spent_before was)).1)) at
-        (has_failed old new files later past same because) (told_as (refusal asked cause.Io) is)
-    refused_so cause.Spent later past same begins told is because at =
+    refused_so cause.Io later past same is because at =
+        wire.Failed at (has_failed old new files later past same because) (told_as (refusal asked cause.Io) is)
+    refused_so cause.Spent later past same is because at =
         wire.Spent at (spent because later) (told_as (refusal asked cause.Spent) is)
-    refused_so cause.NoMemory later past same begins told is because at =
+    refused_so cause.NoMemory later past same is because at =
         wire.NoMemory at (told_as (refusal asked cause.NoMemory) is)
 
     by_rules : (rules : Bool) (later : Files) → begins_transaction asked ≡ rules
@@ -295,21 +277,20 @@ module _ (boot : ℕ) (moment : Moment) (end : Device) where
     by_entry : (entry : Option Entry) (last : Tree) → store.ComesTo o new entry last
         → IsOpenFor new (left entry last) → store.GoesTo old new → IsLater old.device new.device
         → AgreesWith new
-        → store.Tells o entry verdict new → store.TellsSpent o entry verdict
+        → store.Tells o entry verdict new
         → wire.IsNfsReply s (standing_of old files.last) (begins_transaction asked) xid credential asked bytes
         (standing_of new last)
-    by_entry (Some entry) last made after goes past same (inl reply) told =
-        by_rules true (left (Some entry) last) made.begun_for.begins
-        (wire.Done (not_spent entry made.begun_for.begins told) entry.reply
+    by_entry (Some entry) last made after goes past same (inl reply) =
+        by_rules true (left (Some entry) last) made.begun_for.begins (wire.Done entry.reply
         (steps entry last made after (goes_on old new files (left (Some entry) last) goes past same))
         (told_as (verdicts.Reply entry.reply) reply.told_is))
-    by_entry (Some entry) last made after goes past same (inr un) told =
+    by_entry (Some entry) last made after goes past same (inr un) =
         by_rules true (left (Some entry) last) made.begun_for.begins
-        (wire.Unsettled (not_spent entry made.begun_for.begins told) entry.reply
+        (wire.Unsettled entry.reply
         (steps entry last made after (goes_on old new files (left (Some entry) last) goes past same))
         (has_broken old new files (left (Some entry) last) same un.failed) un.stable
         (told_as (verdicts.Reply (refused status.Io asked)) un.told_is))
-    by_entry None last comes after goes past same (inl un) told =
+    by_entry None last comes after goes past same (inl un) =
         by_rules false (left None last) un.begins (
           record {
             stays = stays last comes after (goes_on old new files (left None last) goes past same);
@@ -317,9 +298,9 @@ module _ (boot : ℕ) (moment : Moment) (end : Device) where
           },
           inl (told_as (verdicts.Reply Null) un.told_is),
         )
-    by_entry None last comes after goes past same (inr why) told =
+    by_entry None last comes after goes past same (inr why) =
         by_rules true (left None last) why.begins
-        (refused_so why.why (left None last) past same why.begins told why.told_is why.because
+        (refused_so why.why (left None last) past same why.told_is why.because
         (stays last comes after (goes_on old new files (left None last) goes past same)))
 
   -- a call for which memory was refused leaves all as it was
@@ -371,7 +352,7 @@ module _ (boot : ℕ) (moment : Moment) (end : Device) where
       credential asked bytes
       (standing_of new f.last)) (sym fs)
       (by_entry old new files credential asked xid bytes verdict is is_open spelled has.entry has.last has.comes
-      has.opened has.goes has.files.past same has.tells has.spent)
+      has.opened has.goes has.files.past same has.tells)
 
   -- ---- the stream
 

@@ -2,7 +2,6 @@
 use Rattle.std.proofs.Common.{◌≡◌, ◌≢◌, ℕ, ◌+◌, ◌^◌, ◌<◌, ◌≤◌, ◌⊎◌, inl, inr, Bool, true, false, List, []}
 use Rattle.std.proofs.Common.{◌∷◌, ◌++◌, length}
 use Rattle.std.proofs.Common.{refl, sym, ap, subst, ◌∙◌, arith}
-use Rattle.limits.specs.declared.TheConstants.{CHANGED_BLOCKS}
 use Rattle.nfs_types.specs.declared.call.Call as types
 use Rattle.nfs_types.specs.declared.call.Call.TheVariants.{Null as null}
 use Rattle.nfs_types.specs.declared.ctx.Credential.{Credential}
@@ -128,12 +127,11 @@ on s a b c first second = record {
 module _ (s : Serving) (old new : Standing) (bytes : List ℕ) where
   served-on : (xid : ℕ) (credential : Credential) (call : types.Call)
       → IsTransactionReply s old xid credential call bytes new → IsLater s old new
-  served-on xid credential call (IsTransactionReply.Done unspent reply taken told) = taken.later
+  served-on xid credential call (IsTransactionReply.Done reply taken told) = taken.later
   served-on xid credential call (IsTransactionReply.NoMemory stays told) = stays.later
   served-on xid credential call (IsTransactionReply.Spent stays spent told) = stays.later
-  served-on xid credential call (IsTransactionReply.Failed unspent stays failed told) = stays.later
-  served-on xid credential call (IsTransactionReply.Unsettled unspent reply taken failed waits told) =
-      taken.later
+  served-on xid credential call (IsTransactionReply.Failed stays failed told) = stays.later
+  served-on xid credential call (IsTransactionReply.Unsettled reply taken failed waits told) = taken.later
 
   nfs-on : (rules : Bool) (xid : ℕ) (credential : Credential) (call : types.Call)
       → IsNfsReply s old rules xid credential call bytes new → IsLater s old new
@@ -164,8 +162,7 @@ module _ (s : Serving) (old new : Standing) (bytes : List ℕ) where
   nfs_served : (rules : Bool) (xid : ℕ) (credential : Credential) (call : types.Call)
       → IsNfsDone s old rules xid credential call bytes new
       → IsNfsReply s old rules xid credential call bytes new
-  nfs_served true xid credential call (unspent, reply, taken, told) =
-      IsTransactionReply.Done unspent reply taken told
+  nfs_served true xid credential call (reply, taken, told) = IsTransactionReply.Done reply taken told
   nfs_served false xid credential call (rests, told) = (rests, inl told)
 
   reply_served : (j : Judged) → IsDone s old j bytes new → IsReplyTo s old j bytes new
@@ -238,13 +235,12 @@ module _ (s : Serving) (old new : Standing) (bytes : List ℕ) (none : HasNoCaus
       → IsTransactionReply s old xid credential call bytes new
       → IsNfsDone s old true xid credential call bytes new
       ⊎ (Stays s old new × (bytes ≡ refused xid SystemError))
-  with_rules xid credential call (IsTransactionReply.Done unspent reply taken told) =
-      inl (unspent, reply, taken, told)
+  with_rules xid credential call (IsTransactionReply.Done reply taken told) = inl (reply, taken, told)
   with_rules xid credential call (IsTransactionReply.NoMemory stays told) = inr (stays, told)
   with_rules xid credential call (IsTransactionReply.Spent stays spent told) = absurd (none.unspent spent)
-  with_rules xid credential call (IsTransactionReply.Failed unspent stays failed told) =
+  with_rules xid credential call (IsTransactionReply.Failed stays failed told) =
       absurd (not_failed s old new none failed)
-  with_rules xid credential call (IsTransactionReply.Unsettled unspent reply taken broken waits told) =
+  with_rules xid credential call (IsTransactionReply.Unsettled reply taken broken waits told) =
       absurd (not_broken s old new none broken)
 
   of_nfs : (rules : Bool) (xid : ℕ) (credential : Credential) (call : types.Call)
@@ -306,8 +302,6 @@ record Answered (s : Serving) (old : Standing) (j : Judged) : Type 0 where
   well : IsDone s old j bytes new
   sound : Sound new.tree
   number : new.number ≤ old.number + 1
-  place : new.places ≤ old.places + 1
-  position : new.positions ≡ old.positions
 
 -- the same of a call of NFS
 record Stepped (s : Serving) (old : Standing) (rules : Bool) (xid : ℕ) (credential : Credential)
@@ -318,18 +312,8 @@ record Stepped (s : Serving) (old : Standing) (rules : Bool) (xid : ℕ) (creden
   well : IsNfsDone s old rules xid credential call bytes new
   sound : Sound new.tree
   number : new.number ≤ old.number + 1
-  place : new.places ≤ old.places + 1
-  position : new.positions ≡ old.positions
 
--- no counter is spent while each has something left
-not_spent : (old : Standing) → old.number < 2 ^ 64 → old.places + 1 < 2 ^ 64
-    → old.positions + CHANGED_BLOCKS < 2 ^ 64 → IsSpent old → ⊥
-not_spent old number place positions (inl spent) = omega (arith, number, spent)
-not_spent old number place positions (inr (inl spent)) = omega (arith, place, spent)
-not_spent old number place positions (inr (inr spent)) = omega (arith, positions, spent)
-
-module _ (s : Serving) (old : Standing) (xid : ℕ) (credential : Credential) (good : Sound old.tree)
-    (unspent : IsSpent old → ⊥) where
+module _ (s : Serving) (old : Standing) (xid : ℕ) (credential : Credential) (good : Sound old.tree) where
   abbrev ctx : Ctx
   ctx = record { credential = credential; moment = s.moment; boot = s.boot; transaction = old.number }
 
@@ -363,12 +347,10 @@ module _ (s : Serving) (old : Standing) (xid : ℕ) (credential : Credential) (g
       record {
         bytes = nfs_done xid a.0;
         new = new;
-        is = IsTransactionReply.Done unspent a.0 made refl;
-        well = (unspent, a.0, made, refl);
+        is = IsTransactionReply.Done a.0 made refl;
+        well = (a.0, made, refl);
         sound = step_sound old.tree a.1 ctx call a.0 good now fits a.2;
         number = omega arith;
-        place = omega arith;
-        position = refl;
       }
   stepped call false is now fits = record {
     bytes = done xid (plain_reply (program_calls.Nfs call));
@@ -377,24 +359,13 @@ module _ (s : Serving) (old : Standing) (xid : ℕ) (credential : Credential) (g
     well = (at_rest, refl);
     sound = good;
     number = omega arith;
-    place = omega arith;
-    position = refl;
   }
 
   called : (call : ProgramCall) → SoundCtx ctx → ProgramCallFits call
       → Answered s old (Call xid credential call)
   called (program_calls.Nfs call) now fits =
       let a = stepped call (begins_transaction call) refl now fits in
-      record {
-        bytes = a.bytes;
-        new = a.new;
-        is = a.is;
-        well = a.well;
-        sound = a.sound;
-        number = a.number;
-        place = a.place;
-        position = a.position;
-      }
+      record { bytes = a.bytes; new = a.new; is = a.is; well = a.well; sound = a.sound; number = a.number }
   called (program_calls.Mount call) now fits = record {
     bytes = done xid (plain_reply (program_calls.Mount call));
     new = old;
@@ -402,8 +373,6 @@ module _ (s : Serving) (old : Standing) (xid : ℕ) (credential : Credential) (g
     well = (refl, refl);
     sound = good;
     number = omega arith;
-    place = omega arith;
-    position = refl;
   }
 
 -- a caller that was read is one that can be
@@ -426,8 +395,6 @@ replied s old message messages can (Refused xid why) is = inr (record {
   well = (refl, refl);
   sound = can.sound;
   number = omega arith;
-  place = omega arith;
-  position = refl;
 })
 replied s old message messages can (Call xid credential call) is =
     let t = judged_takes message xid credential call can.bytes.0 is in
@@ -435,9 +402,7 @@ replied s old message messages can (Call xid credential call) is =
     subst IsCaller t.1.caller_is (caller_is t.0.credential t.1.spelled.credential_fits) in
     let fits : ProgramCallFits call = subst ProgramCallFits t.1.call_is t.1.spelled.call_fits in
     let left = can.numbers in
-    let places = can.places in
-    inr (called s old xid credential can.sound (not_spent old (omega (arith, left)) (omega (arith, places)) can.positions)
-    call
+    inr (called s old xid credential can.sound call
     (record {
       uid = caller.uid;
       gid = caller.gid;
@@ -458,8 +423,6 @@ can_be_served s old (message ∷ messages) can =
             moment = can.moment;
             boot = can.boot;
             numbers = let left = can.numbers in let one = told.number in omega (arith, left, one);
-            places = let left = can.places in let one = told.place in omega (arith, left, one);
-            positions = subst (λ (n : ℕ). n + CHANGED_BLOCKS < 2 ^ 64) (sym told.position) can.positions;
             bytes = can.bytes.1;
           }) in
           (told.bytes ∷ rest.0, rest.1, (told.new, told.is, rest.2), (told.new, told.well, rest.3))

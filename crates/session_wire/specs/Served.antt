@@ -120,20 +120,18 @@ nfs_done xid reply = done xid (program_replies.Nfs reply)
 
 -- What a call that begins a transaction is answered: the reply of its step. Or it made no step and is told why:
 -- memory was refused, a counter is spent, or a device call failed. A write or a barrier may also fail after its
--- step, where the answer had to wait until what it changed is stable. Where a counter was spent before it, it is
--- told that, or that memory was refused.
+-- step, where the answer had to wait until what it changed is stable.
 pub data IsTransactionReply (s : Serving) (old : Standing) (xid : ℕ) (credential : Credential)
     (call : types.Call) (bytes : List ℕ) (new : Standing) : Type 0 where
-  Done : (IsSpent old → ⊥) → (reply : Reply) → Steps s old credential call reply new → bytes ≡ nfs_done xid reply
+  Done : (reply : Reply) → Steps s old credential call reply new → bytes ≡ nfs_done xid reply
       → IsTransactionReply s old xid credential call bytes new
   NoMemory : Stays s old new → bytes ≡ refused xid SystemError
       → IsTransactionReply s old xid credential call bytes new
   Spent : Stays s old new → IsSpent new → bytes ≡ nfs_done xid (model.refused status.ServerFault call)
       → IsTransactionReply s old xid credential call bytes new
-  Failed : (IsSpent old → ⊥) → Stays s old new → HasFailed s old new
-      → bytes ≡ nfs_done xid (model.refused status.Io call)
+  Failed : Stays s old new → HasFailed s old new → bytes ≡ nfs_done xid (model.refused status.Io call)
       → IsTransactionReply s old xid credential call bytes new
-  Unsettled : (IsSpent old → ⊥) → (reply : Reply) → Steps s old credential call reply new → HasBroken s old new
+  Unsettled : (reply : Reply) → Steps s old credential call reply new → HasBroken s old new
       → is_answered_stable call ≡ true
       → bytes ≡ nfs_done xid (model.refused status.Io call)
       → IsTransactionReply s old xid credential call bytes new
@@ -162,15 +160,12 @@ IsReplyTo s old (Refused xid refusal) bytes new = (bytes ≡ refused xid refusal
 IsReplyTo s old (Call xid credential call) bytes new =
     IsCallReply s old xid credential call bytes new
 
--- A stream of bytes that comes to a sound tree, with a number and a place left for the transaction of each message,
--- and log positions for the most that one changes.
+-- A stream of bytes that comes to a sound tree, with a number left for the transaction of each message.
 pub record IsServable (s : Serving) (old : Standing) (messages : List (List ℕ)) : Type 0 where
   pub sound : Sound old.tree
   pub moment : SoundTime s.moment
   pub boot : s.boot < 2 ^ 64
   pub numbers : old.number + length messages ≤ 2 ^ 64
-  pub places : old.places + length messages < 2 ^ 64
-  pub positions : old.positions + CHANGED_BLOCKS < 2 ^ 64
   pub bytes : AllByRecursion AreBytes messages
 
 -- no message is left, or the connection closes on the next one
@@ -191,11 +186,11 @@ streamed answers old (message ∷ messages) (reply ∷ replies) new =
 abbrev pub served : Serving → Standing → List (List ℕ) → List (List ℕ) → Standing → Type 0
 served s old messages replies new = streamed (IsReplyTo s) old messages replies new
 
--- A message is answered and nothing fails: a call that begins a transaction finds no counter spent, makes its step
--- and gets the reply of it, any other call gets its plain reply, and what is refused its refusal.
+-- A message is answered and nothing fails: a call that begins a transaction makes its step and gets the reply of
+-- it, any other call gets its plain reply, and what is refused its refusal.
 abbrev pub IsNfsDone : Serving → Standing → Bool → ℕ → Credential → types.Call → List ℕ → Standing → Type 0
 IsNfsDone s old true xid credential call bytes new =
-    (IsSpent old → ⊥) × (reply : Reply) × Steps s old credential call reply new × (bytes ≡ nfs_done xid reply)
+    (reply : Reply) × Steps s old credential call reply new × (bytes ≡ nfs_done xid reply)
 IsNfsDone s old false xid credential call bytes new =
     Rests s old new × (bytes ≡ done xid (plain_reply (program_calls.Nfs call)))
 

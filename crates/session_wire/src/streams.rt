@@ -59,7 +59,7 @@ pub fn without_a_cause_nothing_fails()
         → done_but_for_memory s old messages replies new }
 {}
 
-/// Each stream of bytes can be served that comes to a sound tree, while no counter is spent; and
+/// Each stream of bytes can be served that comes to a sound tree, while numbers of transactions are left; and
 /// that so that nothing fails: each call but NULL gets the reply of its step, and each other its plain
 /// reply.
 pub fn each_stream_can_be_served()

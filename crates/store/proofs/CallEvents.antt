@@ -18,7 +18,6 @@ use Rattle.model.specs.Calls.{begins_transaction}
 use Rattle.model.specs.Tree.{Tree}
 use Rattle.txn_law.specs.Core.{CoreState, IsOut}
 use Rattle.txn_law.specs.Fetch.{Fetch}
-use Rattle.txn.specs.Unspent.{IsUnspent}
 use Rattle.wal_law.specs.Calls.{Pending, idle as nothing_out}
 use Rattle.wal_law.specs.Log.{settled_place}
 use Rattle.procs.specs.SoundCalls.{SoundCall}
@@ -73,9 +72,9 @@ handed_to o = with_call (ctx_of o.asked.credential o.asked.moment) o.asked.call 
 
 pub begins : (o : Outset) (worker : State) → SoundCall o.asked.credential o.asked.moment o.asked.call
     → IsIdle o.store.core
-    → worker ≡ handed_to o → (begins_transaction o.asked.call ≡ true → IsUnspent o.store.core)
+    → worker ≡ handed_to o
     → GoesWith worker o.store.core → IsOpenWith o.store o.first o.entries o.last → IsCalling o o.store worker
-begins o worker sound idle is unspent with opened = record {
+begins o worker sound idle is with opened = record {
   entry = None;
   last = o.last;
   base = opened.base;
@@ -101,7 +100,6 @@ begins o worker sound idle is unspent with opened = record {
   so_far = subst (λ (w : State). IsSoFar o None o.store (progress_of w)) (sym is)
       (refl, (refl, λ unserved. refl));
   counted = omega arith;
-  unspent = unspent;
   further = same_further o.store.core;
   broken = λ broken. inl broken;
 }
@@ -199,7 +197,6 @@ module _ (o : Outset) (now : Opened) (device : Device) (worker : State)
     so_far = subst (IsSoFar o calling.entry later) (sym (tells.progress now.core.log.broken))
         (so_far_by now.core.log.broken (progress_of worker) tells.may calling.so_far);
     counted = let was = calling.counted in let more = after.failures in omega (arith, was, more);
-    unspent = calling.unspent;
     further = calling.further;
     broken = λ is. broken_after o now later after (calling.broken is);
   }
@@ -266,7 +263,6 @@ module _ (o : Outset) (now : Opened) (device : Device) (core : CoreState) (worke
         so_far = so_far_still o now settled still_after same_unserved calling.entry (progress_of worker)
             calling.so_far;
         counted = let was = calling.counted in let more = opens.failures in omega (arith, was, more);
-        unspent = calling.unspent;
         further = further_then o.store.core now.core core calling.further opens.further;
         broken = λ is. broken_along o.store.core.log now.core.log o.store.device now.device device
             calling.past opens.past calling.broken (opens.failed is);
@@ -369,7 +365,6 @@ settled_answer o verdict now device core opens keeps blocks many has = record {
   tells = tells_still o now (store_of device core now.boot)
       (record { past = opens.past; failures = opens.failures; further = opens.further }) opens.core.begun
       (λ unserved few. absurd (omega (arith, many, few))) has.entry verdict has.tells;
-  spent = has.spent;
 }
 
 -- ---- it begins again
@@ -430,7 +425,6 @@ again_goes o now worker stepped planning with =
             (begun_of worker.begun.tx (seen_in worker.work.planner) worker.known) worker.asked worker.known)) planning
             was.so_far);
         counted = was.counted;
-        unspent = was.unspent;
         further = was.further;
         broken = was.broken;
       };
@@ -579,7 +573,6 @@ answered keeps stops o now worker ready blocks stepped is =
         };
         tells = subst (λ (o2 : Option CallAnswer). IfSome o2
             (λ ready. Tells o was.entry ready.verdict now)) (sym is) stepped.answer;
-        spent = λ begins spent. absurd (spent (was.unspent begins));
       },
       idle_by o.store.boot (o.entries ++ option_to_list was.entry) (told worker) worker.phase was.stands.stands
           (stepped.ends some),

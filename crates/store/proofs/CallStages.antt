@@ -109,20 +109,13 @@ module _ (o : Outset) (now new : Opened) (after : IsAfter now new) where
   broken_after = broken_then o.store.core.log o.store.device now.device new.device after.past
 
   spent_then : IsSpent now.core → IsSpent new.core
-  spent_then none = λ left.
-      let number = left.number in
-      let place = left.places.place in
-      let positions = left.places.positions in
-      let begun = after.further.begun in
+  spent_then (inl begun) = inl (let more = after.further.begun in omega (arith, begun, more))
+  spent_then (inr none) = inr (λ left.
+      let place = left.0 in
+      let positions = left.1 in
       let more = after.further.places in
       let longer = after.further.positions in
-      none (record {
-        number = omega (arith, number, begun);
-        places = record {
-          place = omega (arith, place, more);
-          positions = omega (arith, positions, longer);
-        };
-      })
+      none (omega (arith, place, more), omega (arith, positions, longer)))
 
   pub cause_then : (why : Cause) → HasCause o now why → HasCause o new why
   cause_then cause.Io has = failed_then has
@@ -246,10 +239,7 @@ module _ (o : Outset) (now new : Opened) (s : Setting) (t : Told) (from : IsStep
       → HasCause o new (cause_of why)
   begin_cause true begin_fault.Broken may = broke (sym from.broken_is ∙ may)
   begin_cause true begin_fault.Spent may =
-      cause_then o now new after cause.Spent (λ left.
-      let number = left.number in
-      let most = subst (λ (n : ℕ). 2 ^ 64 ≤ n + 1) from.begun_is may.1 in
-      omega (arith, number, most))
+      cause_then o now new after cause.Spent (inl (subst (λ (n : ℕ). 2 ^ 64 ≤ n + 1) from.begun_is may.1))
   begin_cause true begin_fault.NoMemory may = tt
   begin_cause false why may = absurd (none may)
     where

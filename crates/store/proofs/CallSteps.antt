@@ -304,11 +304,11 @@ module _ (o : Outset) (now : Opened) (worker : State) (new : Side) (made : Optio
     begun_is = refl;
     more_begun = calling.further.begun;
     settled_is = settled_is 0 now.core.log idle idle calling.opened.since.over.lawful;
-    numbers = λ blocks few none left. none (record {
-      place = left.places.place;
-      positions = let within = left.places.positions in let lacked = few_new (tail_blocks now.core.log) blocks in
+    numbers = λ blocks few none. inr (λ left. none (record {
+      place = left.0;
+      positions = let within = left.1 in let lacked = few_new (tail_blocks now.core.log) blocks in
           omega (arith, few, lacked, within);
-    });
+    }));
     past = calling.past;
     broke = calling.broken;
   }
@@ -401,7 +401,6 @@ module _ (o : Outset) (now : Opened) (worker : State) (new : Side) (made : Optio
         so_far = subst (IsSoFar o calling.entry later) (sym progress_is)
             (so_far_by made refl (progress_of worker) uncommitted calling.so_far may);
         counted = calling.counted;
-        unspent = calling.unspent;
         further = further_then o.store.core now.core new.core calling.further after.further;
         broken = λ is. calling.broken (sym (ap (λ (l : Log). l.broken) log_is) ∙ is);
       }
@@ -581,7 +580,6 @@ module _ (o : Outset) (now : Opened) (worker : State) (new : Side) (made : Optio
           so_far = subst (IsSoFar o (Some e) later) (sym progress_then)
               (made_so_far o later e is_of.begun commit.place place_is);
           counted = calling.counted;
-          unspent = calling.unspent;
           further = further_then o.store.core now.core new.core calling.further further_made;
           broken = λ is. calling.broken (sym broken_is ∙ is);
         }

@@ -6,4 +6,3 @@ pub mod CallWaits
 pub mod Driven
 pub mod DrivenAlone
 pub mod LogRoom
-pub mod RefusedAtOnce

@@ -1,7 +1,7 @@
 -- One call of one thread: what it begins from, what holds while it is under way, and what it answers.
-use Rattle.std.specs.Prelude.{◌≡◌, ℕ, ◌+◌, ◌<◌, ◌≤◌, ◌⊎◌, true, false, Option, Some, None, IfSome, is_some}
+use Rattle.std.specs.Prelude.{◌≡◌, ℕ, ◌+◌, ◌^◌, ◌<◌, ◌≤◌, ◌⊎◌, true, false, Option, Some, None, IfSome, is_some}
 use Rattle.std.specs.Prelude.{Bool, List, [], ◌++◌, All, length, option_to_list}
-use Rattle.limits.specs.declared.TheConstants.{MOST_KEPT_COMMITS}
+use Rattle.limits.specs.declared.TheConstants.{CHANGED_BLOCKS, MOST_KEPT_COMMITS}
 use Rattle.disk.specs.Crash.{Image, IsCrashImage}
 use Rattle.disk.specs.Device.{Device}
 use Rattle.model.specs.Entry.{Entry}
@@ -16,7 +16,6 @@ use Rattle.nfs_types.specs.declared.status.Status.TheVariants as status
 use Rattle.nfs_types.specs.declared.reply.Reply.TheVariants.{Null}
 use Rattle.txn_law.specs.Core.{CoreState}
 use Rattle.txn_law.specs.Fetch.{Fetch}
-use Rattle.txn.specs.Unspent.{IsUnspent}
 use Rattle.wal_law.specs.Calls.{idle}
 use Rattle.wal_law.specs.Log.{settled_place}
 use Rattle.store_promise.specs.History.{ctx_of}
@@ -33,7 +32,7 @@ use Rattle.store_promise.specs.declared.answers.Verdict.TheVariants as verdict
 use Rattle.store_promise.specs.declared.events.Cause.{Cause}
 use Rattle.store_promise.specs.declared.events.Cause.TheVariants as cause
 use Rattle.store_runs.specs.AtWork.{IsCoreAtWork, fetches_of}
-use Rattle.store_images.specs.Further.{IsFurther, LeavesOpen}
+use Rattle.store_images.specs.Further.{IsFurther, LeavesOpen, end_of}
 use Rattle.store_images.specs.Opening.{Opened}
 use Rattle.store_images.specs.Settling.{HasBroken, HasFailed}
 use Rattle.store_images.specs.SettlingStops.{StayOpen}
@@ -104,7 +103,8 @@ ComesTo o now (Some entry) last = IsMadeFor o now entry last
 
 -- no transaction is left, or no place or too few log positions for what a transaction may change
 abbrev pub IsSpent : CoreState → Type 0
-IsSpent core = IsUnspent core → ⊥
+IsSpent core = (2 ^ 64 ≤ core.begun + 1)
+    ⊎ ((core.log.places + 1 < 2 ^ 64) × (end_of core.log + CHANGED_BLOCKS < 2 ^ 64) → ⊥)
 
 -- the store was broken when the call began, or a device call failed since; the numbers are spent; or memory was
 -- refused
@@ -147,11 +147,6 @@ abbrev pub Tells : Outset → Option Entry → Verdict → Opened → Type 0
 Tells o (Some entry) told now = IsReplyOf o entry told now ⊎ IsUnsettled o told now
 Tells o None told now = IsOfNull o told now ⊎ IsRefusal o told now
 
--- a call that begins transactions, and comes where a counter is spent, is told so, and no procedure was committed
-abbrev pub TellsSpent : Outset → Option Entry → Verdict → Type 0
-TellsSpent o entry told = begins_transaction o.asked.call ≡ true → IsSpent o.store.core
-    → (entry ≡ None) × (told ≡ refusal o.asked.call cause.Spent)
-
 -- What each stop leaves since the call began, those within a device call included: some image, and each that
 -- is left is good, with the boot number and with the files after a beginning of these entries, in which is
 -- each place that was settled when the call began. At the end each that is settled then is in it.
@@ -164,7 +159,7 @@ pub record LeavesFiles (o : Outset) (entries : List Entry) (now : Opened) : Type
 
 -- What comes of a call: the store is open with the entries that there were, and with the call's, where its
 -- procedure was committed; so each stop on the way leaves its files; it led on from the store that there was;
--- and the answer is that procedure's, or says why there is none: where a counter is spent, that it is.
+-- and the answer is that procedure's, or says why there is none.
 pub record HasAnswered (o : Outset) (told : Verdict) (now : Opened) : Type 0 where
   pub entry : Option Entry
   pub last : Tree
@@ -174,7 +169,6 @@ pub record HasAnswered (o : Outset) (told : Verdict) (now : Opened) : Type 0 whe
   pub opened : IsOpenWith now o.first (o.entries ++ option_to_list entry) last
   pub goes : GoesTo o.store now
   pub tells : Tells o entry told now
-  pub spent : TellsSpent o entry told
 
 -- so it does of any call that can be spelled, handed to a store that is open with any entries
 abbrev pub Answers : Type 0 → Opened → Job → Verdict → Opened → Type 0
@@ -210,9 +204,9 @@ abbrev pub IsSoFar : Outset → Option Entry → Opened → Progress → Type 0
 IsSoFar o entry now Idle = Unit {0}
 IsSoFar o entry now (At job stage) = (job ≡ o.asked) × StandsWith o entry now stage
 
--- A call is under way, and nothing was spent as it came: the store is open with the entries that there were and
--- with the call's, where its procedure was committed; each stop before now left its files; its worker has it
--- alone, and is so far; and whatever broke the store was a write or a barrier that failed.
+-- A call is under way: the store is open with the entries that there were and with the call's, where its
+-- procedure was committed; each stop before now left its files; its worker has it alone, and is so far; and
+-- whatever broke the store was a write or a barrier that failed.
 pub record IsCalling (o : Outset) (now : Opened) (worker : State) : Type 0 where
   pub entry : Option Entry
   pub last : Tree
@@ -227,7 +221,6 @@ pub record IsCalling (o : Outset) (now : Opened) (worker : State) : Type 0 where
   pub at_work : IsCoreAtWork worker now.core
   pub so_far : IsSoFar o entry now (progress_of worker)
   pub counted : o.store.device.failures ≤ now.device.failures
-  pub unspent : begins_transaction o.asked.call ≡ true → IsUnspent o.store.core
   pub further : IsFurther o.store.core now.core
   pub broken : now.core.log.broken ≡ true → HasBroken o.store.core.log o.store.device now.device
 

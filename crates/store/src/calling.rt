@@ -9,7 +9,6 @@ ghost use Rattle.txn_law.specs.Core.{CoreState};
 ghost use Rattle.txn_law.specs.HomeRead.{HasContents};
 ghost use Rattle.txn_law.specs.Tidy.{AreTidy};
 ghost use Rattle.wal_law.specs.Log.{IsLawful};
-ghost use Rattle.txn.specs.Unspent.{IsUnspent};
 ghost use Rattle.procs.specs.SoundCalls.{SoundCall};
 ghost use Rattle.store_promise.specs.declared.events.Step.{Step};
 ghost use Rattle.store.specs.Calling.{HasStepped, HasWaited, IsCalling, IsOpenWith, Outset};
@@ -40,12 +39,11 @@ pub fn a_settled_store_stays_open()
         → IsOpenWith (store_of device core old.boot) first entries last }
 {}
 
-/// A call that was handed to a worker at rest is under way, where nothing is spent that it may need.
+/// A call that was handed to a worker at rest is under way.
 pub(crate) fn a_call_begins()
     ensures { (o : Outset) (worker : State) → SoundCall o.asked.credential o.asked.moment o.asked.call
         → IsIdle o.store.core
         → worker ≡ with_call (ctx_of o.asked.credential o.asked.moment) o.asked.call at_rest
-        → (begins_transaction o.asked.call ≡ true → IsUnspent o.store.core)
         → GoesWith worker o.store.core → IsOpenWith o.store o.first o.entries o.last
         → IsCalling o o.store worker }
 {}

@@ -1,15 +1,10 @@
 //! One call to its answer, by one thread.
-ghost use Rattle.std.specs.Prelude.{◌≡◌, ◌≤◌, ◌⊎◌, IfSome, IsNone, length, true};
+ghost use Rattle.std.specs.Prelude.{◌≡◌, ◌≤◌, ◌⊎◌, length, true};
 ghost use Rattle.limits.specs.declared.TheConstants.{MOST_KEPT_COMMITS};
-ghost use Rattle.model.specs.Calls.{begins_transaction};
 ghost use Rattle.model.specs.Sound.{SoundTime};
 ghost use Rattle.nfs_types.specs.Fits.{CallFits};
-ghost use Rattle.txn.specs.Unspent.{IsUnspent};
-ghost use Rattle.store_promise.specs.Verdicts.{refusal};
-ghost use Rattle.store_promise.specs.declared.events.Cause.{Cause};
 ghost use Rattle.store_workers.specs.Alone.{IsAlone, IsOutAlone, is_full};
-ghost use Rattle.store.specs.Calling.{Answers, HasAnswered, HasStepped, IsCalling, IsSpent, Outset};
-ghost use Rattle.store.specs.Calling.{asked_of};
+ghost use Rattle.store.specs.Calling.{Answers, HasAnswered, HasStepped, IsCalling, Outset, asked_of};
 ghost use Rattle.store.specs.Driving.{HasGoneOn, IsUnderWay, steps_left, waits_for_log};
 ghost use Rattle.store_images.specs.Fetches.{FetchesOnly};
 ghost use Rattle.store_images.specs.Opening.{store_of};
@@ -22,8 +17,7 @@ use crate::calling::{
     a_step_keeps_a_call_going,
 };
 use disk::CrashDisk;
-use nfs_types::{Call, Credential, Moment, Status};
-use procs::{begins_transaction, refused_reply};
+use nfs_types::{Call, Credential, Moment};
 use std::alloc::Global;
 use store_images::{Store, keeps_too_many, settle};
 use store_promise::{
@@ -33,12 +27,12 @@ use store_workers::Worker;
 
 /// Runs a call to its answer. Where the answer waits for its place everything is settled before; where the
 /// log is full, too, and so it is where more than MOST_KEPT_COMMITS commits are kept then, since that brings
-/// home what is logged. NULL is answered without a transaction, and each other call begins one, but where no number
-/// of one is left, no place, or too few log positions for the most that one changes: it is told so at once. The call
-/// can be spelled, and comes at a moment of less than a second of nanoseconds. Where the device keeps its model, a store
+/// home what is logged. NULL is answered without a transaction, and each other call begins one. The call can be
+/// spelled, and comes at a moment of less than a second of nanoseconds. Where the device keeps its model, a store
 /// that is open with some entries is open with the same then, or with the call's besides, whose reply is
 /// answered; else the answer says why there is none. Each stop on the way leaves the files after a beginning of
 /// these entries, in which is each place that was settled before.
+#[tactic(auto, using(crate::proofs::Driven::starts, crate::proofs::DrivenAlone::starts_alone))]
 pub fn procedure<D: CrashDisk>(
     alloc: Global,
     store: &mut Store<D>,
@@ -58,58 +52,15 @@ pub fn procedure<D: CrashDisk>(
     ensures kept { (length store.new.core.records ≤ MOST_KEPT_COMMITS) ⊎ (store.new.core.log.broken ≡ true) }
     ensures model { D.keeps_model store.new.disk → D.keeps_model store.old.disk }
 {
-    an_open_store_keeps_its_files();
-    a_stop_leaves_a_beginning();
-    let verdict = match told_at_once(store, &call) {
-        Some(told) => told,
-        None => run_call(alloc, store, credential, moment, call),
-    };
-    if keeps_too_many(store) {
-        let _ = settle(store);
-    }
-    verdict
-}
-
-// What a call is told at once: that a counter is spent, where one is.
-fn told_at_once<D: CrashDisk>(store: &Store<D>, call: &Call) -> Option<Verdict>
-    ensures some { IfSome result (λ told. (begins_transaction call.now ≡ true) × IsSpent store.now.core
-        × (told ≡ refusal call.now Cause.Spent)) }
-    ensures none { IsNone result → begins_transaction call.now ≡ true → IsUnspent store.now.core }
-{
-    if begins_transaction(call) && store.core.is_spent() {
-        let reply = refused_reply(call, Status::ServerFault);
-        return Some(Verdict::Reply(reply));
-    }
-    None
-}
-
-// Has a worker run a call to its answer, where nothing is spent that it may need.
-#[tactic(auto, using(crate::proofs::Driven::starts, crate::proofs::DrivenAlone::starts_alone))]
-fn run_call<D: CrashDisk>(
-    alloc: Global,
-    store: &mut Store<D>,
-    credential: Credential,
-    moment: Moment,
-    call: Call,
-) -> Verdict
-    requires idle { IsIdle store.old.core }
-    requires timely { SoundTime moment }
-    requires spelled { CallFits call }
-    requires unspent { begins_transaction call ≡ true → IsUnspent store.old.core }
-    ensures idle { IsIdle store.new.core }
-    ensures boot { store.new.boot ≡ store.old.boot }
-    ensures answered { Answers (D.keeps_model store.new.disk)
-        (store_of (D.device store.old.disk) store.old.core store.old.boot)
-        (asked_of credential moment call) result
-        (store_of (D.device store.new.disk) store.new.core store.new.boot) }
-    ensures model { D.keeps_model store.new.disk → D.keeps_model store.old.disk }
-{
     a_call_begins();
     let mut worker = Worker::with_room(alloc, store.room);
     worker.hand(credential, moment, call);
     let verdict = answer(alloc, store, &mut worker);
     store.room = worker.room();
     worker.end(&mut store.core);
+    if keeps_too_many(store) {
+        let _ = settle(store);
+    }
     verdict
 }
 

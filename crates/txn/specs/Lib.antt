@@ -3,7 +3,6 @@ pub mod Receipts
 pub mod Outcomes
 pub mod Exactly
 pub mod Source
-pub mod Unspent
 pub mod Claimed
 pub mod Pinned
 pub mod Neat

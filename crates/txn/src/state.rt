@@ -12,7 +12,6 @@ ghost use Rattle.wal.specs.Sides.{IsNextCall, call_comes_back, call_goes_out, is
 ghost use Rattle.wal_law.specs.Io.{IsCallWithin};
 ghost use Rattle.txn_law.specs.Core.{IsOut, with_begun, without, ended};
 ghost use Rattle.txn.specs.Sides.{LetsGo, counted, with_call};
-ghost use Rattle.txn.specs.Unspent.{IsUnspent};
 ghost use Rattle.txn_law.specs.Wishes.{IsInside};
 ghost use Rattle.objects.specs.declared.present.Present.{Present};
 
@@ -139,14 +138,6 @@ impl<C: Change> State<C> {
         ensures { IsTrue result ↔ IsOut self.now number }
     {
         is_among(number, &self.out)
-    }
-
-    /// Whether no number, no place, or too little of the log is left for a transaction.
-    pub(crate) fn is_spent(&self) -> bool
-        ensures spent { result ≡ true → IsUnspent self.now → ⊥ }
-        ensures left { result ≡ false → IsUnspent self.now }
-    {
-        self.begun == u64::MAX || self.log.is_spent()
     }
 
     /// Begins a transaction; `Core::begin` tells the answers.

@@ -24,7 +24,6 @@ ghost use Rattle.txn_law.specs.Wishes.{IsWhole};
 ghost use Rattle.txn.specs.Answering.{OfSome};
 ghost use Rattle.txn.specs.Outcomes.{IsWanted, IsWithin, IsClaimed, IsCommit, IsGiven, IsSetBy};
 ghost use Rattle.txn.specs.Sides.{CoreBack, LeavesBack, base_back, with_call};
-ghost use Rattle.txn.specs.Unspent.{IsUnspent};
 
 mod ending;
 mod places;
@@ -117,14 +116,6 @@ impl<C: Change> Core<C> {
         ensures { IsTrue result ↔ IsOut self.now number }
     {
         self.state.is_out(number)
-    }
-
-    /// Whether no number of a transaction is left, no place, or too few log positions for the most that one changes.
-    pub fn is_spent(&self) -> bool
-        ensures spent { result ≡ true → IsUnspent self.now → ⊥ }
-        ensures left { result ≡ false → IsUnspent self.now }
-    {
-        self.state.is_spent()
     }
 
     /// Begins a transaction beside those that are out. Transactions are numbered from 1. Broken: a write or a

@@ -3,7 +3,6 @@ pub mod OnPorts
 pub mod Sides
 pub mod Batch
 pub mod BySide
-pub mod Left
 pub mod Lent
 -- What the contracts here cite, for the crates above.
 pub use Rattle.wal_law.specs.Io

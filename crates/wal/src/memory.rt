@@ -1,5 +1,5 @@
 //! The memory log.
-ghost use Rattle.std.specs.Prelude.{◌≡◌, ◌≤◌, ◌<◌, ◌^◌, ◌+◌, true, false, length, IfOk, MatchOption, Some, None, All, map};
+ghost use Rattle.std.specs.Prelude.{◌≡◌, ◌≤◌, ◌<◌, ◌^◌, ◌+◌, length, IfOk, MatchOption, Some, None, All, map};
 ghost use Rattle.limits.specs.declared.TheConstants.{LOG_SLOTS, FIRST_HOME_BLOCK};
 ghost use Rattle.wal_law.specs.Log.{newest, settled_place, installed_place, tail_count, opened, IsHomeOn};
 ghost use Rattle.wal_law.specs.Log.{added_blocks, blocks_of, IsLawful};
@@ -17,7 +17,7 @@ use crate::{Room, Seq};
 use batch::{Batch, Batches};
 use circ::Recovered;
 use disk::{Block, BlockNo};
-use limits::{CHANGED_BLOCKS, LOG_SLOTS};
+use limits::LOG_SLOTS;
 use log_changes::Changes;
 use std::alloc::{AllocError, Global};
 use std::marker::Model;
@@ -45,8 +45,6 @@ impl Model for Wal {
 }
 
 impl Wal {
-    ghost use Rattle.wal.specs.Left.{HasMostPlaces};
-
     /// The log that an opening found on a disk of so many blocks. Its changes are logged and not yet home.
     pub fn new(alloc: Global, blocks: u32, found: Recovered) -> Result<Wal, AllocError>
         requires disk { FIRST_HOME_BLOCK ≤ blocks }
@@ -160,14 +158,5 @@ impl Wal {
         } else {
             Room::Fits
         }
-    }
-
-    /// Whether no place is left, or too few log positions for the most that a transaction changes.
-    pub fn is_spent(&self) -> bool
-        ensures spent { result ≡ true → HasMostPlaces self.now → ⊥ }
-        ensures left { result ≡ false → HasMostPlaces self.now }
-    {
-        let left = u64::MAX - (self.changes.start() + self.changes.len() as u64);
-        self.places == u64::MAX || left < CHANGED_BLOCKS as u64
     }
 }

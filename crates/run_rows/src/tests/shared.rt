@@ -16,7 +16,7 @@ enum Came {
     Else,
 }
 
-fn came(step: Option<&Option<Step>>) -> Came {
+fn come_of(step: Option<&Option<Step>>) -> Came {
     match step {
         Some(Some(Step::Wanted(_, _, Wish::Held))) => Came::Held,
         Some(Some(Step::Wanted(_, _, Wish::Busy))) => Came::Busy,
@@ -65,7 +65,7 @@ fn two_reads_of_a_file_hold_it_before_either_commits(rt: HostRuntime) -> Result<
     let mut held = 0;
     let mut committed = 0;
     for index in begin..count {
-        match came(run.steps.get(index)) {
+        match come_of(run.steps.get(index)) {
             Came::Busy => return Err("kept off")?,
             Came::Held if committed == 0 => held += 1,
             Came::Held => return Err("held behind a commit")?,
@@ -115,7 +115,7 @@ fn a_change_waits_for_all_that_share(rt: HostRuntime) -> Result<(), Fail> {
     let first = count.saturating_sub(wanted.len());
     for (index, one) in wanted.iter().enumerate() {
         assert_eq!(rt;
-            came(run.steps.get(first.saturating_add(index))),
+            come_of(run.steps.get(first.saturating_add(index))),
             *one,
             "{index}"
         );

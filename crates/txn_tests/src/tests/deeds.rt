@@ -97,8 +97,14 @@ fn sees_beside<D: CrashDisk>(bench: &mut Bench<D>, wanted: &[Seen]) -> bool {
 // What the two that raise the same bytes end in, if their wishes come to this.
 fn raise<D: CrashDisk>(bench: &mut Bench<D>, wishes: &[Seen]) -> Result<Option<[Ended; 2]>, Fail> {
     let at = At::Eight(0, 0);
-    let (Some(one), Some(other)) = (bench.begin(), bench.begin()) else {
+    let first = change_of(bench.alloc, &[(at, 0)], &[(at, 7)])?;
+    let second = change_of(bench.alloc, &[(at, 7)], &[(at, 8)])?;
+    let Some(one) = bench.begin() else {
         return Err("none begins")?;
+    };
+    let Some(other) = bench.begin() else {
+        bench.core.abort(one);
+        return Err("no other begins")?;
     };
     let (one, shares) = bench.take_all(one, &[Step::Share(at)], wishes.get(..1).unwrap_or(&[]));
     let (other, shares_too) = bench.take_all(
@@ -118,9 +124,7 @@ fn raise<D: CrashDisk>(bench: &mut Bench<D>, wishes: &[Seen]) -> Result<Option<[
     );
     bench.core.abort(one);
     let (other, raises) = bench.take_all(other, &[Step::Want(at)], wishes.get(4..5).unwrap_or(&[]));
-    let first = change_of(bench.alloc, &[(at, 0)], &[(at, 7)])?;
     let ended = bench.end(other, first);
-    let second = change_of(bench.alloc, &[(at, 7)], &[(at, 8)])?;
     let again = bench.commit(&[Step::Want(at)], second);
     if shares && shares_too && is_kept_off && is_kept_off_too && raises {
         Ok(Some([ended, again]))

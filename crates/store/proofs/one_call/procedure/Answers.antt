@@ -1,0 +1,80 @@
+-- The call that was handed over is answered, and so the store is left, once everything is settled, too.
+use Rattle.std.proofs.Common.{◌≡◌, ◌∙◌, ◌<◌, ◌≤◌, ◌⊎◌, inl, inr, ap, length, refl, subst, sym, true, Result, Ok}
+use Rattle.std.proofs.Common.{Err, OnOk, OnErr}
+use Rattle.limits.specs.declared.TheConstants.{MOST_KEPT_COMMITS}
+use Rattle.store.specs.Calling.{HasAnswered, Outset, asked_of}
+use Rattle.disk.specs.declared.device.Failed.{Failed}
+use Rattle.txn_law.specs.Core.{CoreState}
+use Rattle.store_images.specs.Opening.{IsSettled, store_of}
+use Rattle.store_workers.specs.Worker.{ctx_of, with_call}
+use Rattle.store_workers.specs.declared.workers.parts.State.{State}
+use Rattle.store.proofs.CallEvents.{settled_answer}
+use Rattle.store_runs.proofs.RunTaken.{goes_with}
+use Rattle.store.proofs.one_call.procedure.Goals as goal
+
+-- a settling leaves few commits, or a broken log
+few_kept : (result : Result (Unit {0}) Failed) (core : CoreState) → OnOk result (IsSettled core)
+    → OnErr result (core.log.broken ≡ true)
+    → (length core.records ≤ MOST_KEPT_COMMITS) ⊎ (core.log.broken ≡ true)
+few_kept (Ok x) core settled broken = inl settled.kept
+few_kept (Err e) core settled broken = inr broken
+
+pub returns-then-keeps_too_many-clause-kept : goal.returns-then-keeps_too_many-clause-kept
+returns-then-keeps_too_many-clause-kept g c =
+    few_kept c.settle.result c.settle.new.store.core c.settle.ensures.settled c.settle.ensures.broken
+
+pub returns-then-keeps_too_many-clause-answered : goal.returns-then-keeps_too_many-clause-answered
+returns-then-keeps_too_many-clause-answered g c = λ first last entries keeps sound opened.
+    let device = g.D.CrashDisk.device in
+    let was = c.args.store.now in
+    let o : Outset = record {
+      store = store_of (device was.disk) was.core was.boot;
+      first = first;
+      entries = entries;
+      last = last;
+      asked = asked_of c.args.credential c.args.moment c.args.call;
+    } in
+    let at_rest_is = c.with_room-worker.ensures.state in
+    let took = c.hand.ensures.took (c.hand.ensures.taken.1 (ap (λ (s : State). s.phase) at_rest_is)) in
+    let state_is = took
+    ∙ ap (λ (s : State). with_call (ctx_of c.args.credential c.args.moment) c.args.call s) at_rest_is in
+    let fits = c.hand.ensures.fits was.core (c.with_room-worker.ensures.fits was.core was.lawful) in
+    let begun = c.a_call_begins.ensures o c.hand.new.self.state sound c.requires.idle state_is
+    (goes_with c.hand.new.self was.core fits) opened in
+    let verdict = c.answer-verdict.result in
+    let mid = c.answer-verdict.new.store in
+    let has = c.answer-verdict.ensures.answered o (c.settle.ensures.model keeps) begun in
+    let now = store_of (device mid.disk) c.end.new.core mid.boot in
+    let ended = subst (λ core. HasAnswered o verdict (store_of (device mid.disk) core mid.boot))
+    (sym (c.end.ensures.idle has.1)) has.0 in
+    let later = c.settle.new.store in
+    let many : MOST_KEPT_COMMITS < length c.end.new.core.records = c.if-keeps_too_many.ensures.0 refl in
+    subst (λ boot. HasAnswered o verdict (store_of (device later.disk) later.core boot))
+    (sym c.settle.ensures.boot)
+    (settled_answer o verdict now (device later.disk) later.core c.settle.ensures.open
+    (c.settle.ensures.keeps keeps)
+    (g.met.D.CrashDisk.whole later.disk keeps) many ended)
+
+pub returns-else-keeps_too_many-clause-answered : goal.returns-else-keeps_too_many-clause-answered
+returns-else-keeps_too_many-clause-answered g c = λ first last entries keeps sound opened.
+    let device = g.D.CrashDisk.device in
+    let was = c.args.store.now in
+    let o : Outset = record {
+      store = store_of (device was.disk) was.core was.boot;
+      first = first;
+      entries = entries;
+      last = last;
+      asked = asked_of c.args.credential c.args.moment c.args.call;
+    } in
+    let at_rest_is = c.with_room-worker.ensures.state in
+    let took = c.hand.ensures.took (c.hand.ensures.taken.1 (ap (λ (s : State). s.phase) at_rest_is)) in
+    let state_is = took
+    ∙ ap (λ (s : State). with_call (ctx_of c.args.credential c.args.moment) c.args.call s) at_rest_is in
+    let fits = c.hand.ensures.fits was.core (c.with_room-worker.ensures.fits was.core was.lawful) in
+    let begun = c.a_call_begins.ensures o c.hand.new.self.state sound c.requires.idle state_is
+    (goes_with c.hand.new.self was.core fits) opened in
+    let verdict = c.answer-verdict.result in
+    let mid = c.answer-verdict.new.store in
+    let has = c.answer-verdict.ensures.answered o keeps begun in
+    subst (λ core. HasAnswered o verdict (store_of (device mid.disk) core mid.boot))
+    (sym (c.end.ensures.idle has.1)) has.0
