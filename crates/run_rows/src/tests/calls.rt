@@ -75,14 +75,14 @@ pub fn create(alloc: Global, letter: u8) -> Result<Call, AllocError> {
     })
 }
 
-/// A WRITE of some bytes at the beginning of a file, which is answered once it is committed.
-pub fn write(alloc: Global, file: Handle, bytes: &[u8]) -> Result<Call, AllocError> {
+/// A WRITE of five bytes at the beginning of a file, which is answered once it is committed.
+pub fn write_five(alloc: Global, file: Handle) -> Result<Call, AllocError> {
     Ok(Call::Write {
         file,
         offset: 0,
-        count: bytes.len() as u32,
+        count: 5,
         stability: Stability::Unstable,
-        bytes: Octets::copied(alloc, bytes)?,
+        bytes: Octets::copied(alloc, &[1, 2, 3, 4, 5])?,
     })
 }
 

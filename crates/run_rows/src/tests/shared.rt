@@ -1,6 +1,6 @@
 //! What calls that only tell something read, they read beside each other; and what a call changes it has alone.
 
-use crate::tests::calls::{create, hand, made, root, set_mode, work, write};
+use crate::tests::calls::{create, hand, made, root, set_mode, work, write_five};
 use crate::tests::left::formatted;
 use nfs_types::Call;
 use std::alloc::Global;
@@ -17,12 +17,19 @@ enum Came {
 }
 
 fn come_of(step: Option<&Option<Step>>) -> Came {
-    match step {
-        Some(Some(Step::Wanted(_, _, Wish::Held))) => Came::Held,
-        Some(Some(Step::Wanted(_, _, Wish::Busy))) => Came::Busy,
-        Some(Some(Step::Commit(_, Committing::Committed(_)))) => Came::Committed,
-        _ => Came::Else,
+    let Some(step) = step else {
+        return Came::Else;
+    };
+    if matches!(step, Some(Step::Wanted(_, _, Wish::Held))) {
+        return Came::Held;
     }
+    if matches!(step, Some(Step::Wanted(_, _, Wish::Busy))) {
+        return Came::Busy;
+    }
+    if matches!(step, Some(Step::Commit(_, Committing::Committed(_)))) {
+        return Came::Committed;
+    }
+    Came::Else
 }
 
 // A file of five bytes is made by two workers; then two others read it, step by step beside each other.
@@ -30,13 +37,8 @@ fn two_readers(alloc: Global) -> Result<(Vec<Event>, usize), Fail> {
     let mut events = Vec::new(alloc);
     hand(alloc, &mut events, 2, create(alloc, b'a')?)?;
     work(&mut events, 2, 60)?;
-    let bytes = [1, 2, 3, 4, 5];
-    hand(
-        alloc,
-        &mut events,
-        3,
-        write(alloc, made(alloc, 2, 1)?, &bytes)?,
-    )?;
+    let file = made(alloc, 2, 1)?;
+    hand(alloc, &mut events, 3, write_five(alloc, file)?)?;
     work(&mut events, 3, 60)?;
     for worker in 0..2 {
         let read = Call::Read {
