@@ -64,14 +64,14 @@ fn two_reads_of_a_file_hold_it_before_either_commits(rt: HostRuntime) -> Result<
     let count = events.len();
     let (_, ran) = run(alloc, formatted(alloc)?, 4, events);
     let run = ran?;
-    let mut held = 0;
-    let mut committed = 0;
+    let mut held: u32 = 0;
+    let mut committed: u32 = 0;
     for index in begin..count {
         match come_of(run.steps.get(index)) {
             Came::Busy => return Err("kept off")?,
-            Came::Held if committed == 0 => held += 1,
+            Came::Held if committed == 0 => held = held.saturating_add(1),
             Came::Held => return Err("held behind a commit")?,
-            Came::Committed => committed += 1,
+            Came::Committed => committed = committed.saturating_add(1),
             Came::Else => {}
         }
     }
