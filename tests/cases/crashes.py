@@ -138,7 +138,10 @@ def left_by_a_crash(before, events, drawn, most=MOST_CHOICES):
     settled, open_blocks = dict(enumerate_blocks(before)), {}
     for kind, number, data in events:
         if kind == "w":
-            open_blocks.setdefault(number, [settled[number]]).append(data)
+            # A write of several blocks may leave each of them as it was.
+            for at in range(0, len(data), BLOCK):
+                block = number + at // BLOCK
+                open_blocks.setdefault(block, [settled[block]]).append(data[at : at + BLOCK])
         elif kind == "s":
             settled.update({it: found[-1] for it, found in open_blocks.items()})
             open_blocks = {}

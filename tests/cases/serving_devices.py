@@ -13,7 +13,8 @@ from cases.serving_kills import CLIENTS, Worker, assert_kept, moments_of, tree_o
 from cases.tcp import Server, next_reply
 
 # It stands before the C library. While the file of a sign stands, a settling of the image waits, or a write behind the log,
-# or each write and each settling fails; the first that waits leaves the sign `waits`.
+# or each write and each settling fails, or a write of several blocks: it takes two bytes of three, is refused, or is refused
+# behind so many. The first that waits leaves the sign `waits`. Each call that is made is noted.
 LIBRARY = r"""
 #define _GNU_SOURCE
 #include <dlfcn.h>
@@ -42,6 +43,13 @@ static void wait_while(const char *name) {
     while (stands(name))
         usleep(1000);
 }
+static void note(const char *kind, int file, off_t at, size_t count) {
+    char path[4096];
+    int notes = open(path_of(path, "notes"), O_WRONLY | O_CREAT | O_APPEND, 0600);
+    if (dprintf(notes, "%s %d %ld %ld\n", kind, file, (long)at / 4096, (long)count / 4096) < 0)
+        _exit(99);
+    close(notes);
+}
 static int fails(void) {
     if (stands("fail"))
         errno = EIO;
@@ -54,11 +62,25 @@ static int fails(void) {
 ssize_t pwrite(int file, const void *bytes, size_t count, off_t at) {
     if (at >= 4096L * 514)
         wait_while("hold home");
-    return fails() ? -1 : ((positioned *)dlsym(RTLD_NEXT, "pwrite"))(file, bytes, count, at);
+    if (fails())
+        return -1;
+    if (count > 4096 && stands("refuse extent"))
+        return errno = EIO, -1;
+    if (count > 4096 && (stands("short extent") || stands("cut extent"))) {
+        int is_cut = stands("cut extent");
+        count = count / 3 * 2;
+        if (is_cut)
+            close(open(path_of((char[4096]){0}, "full"), O_WRONLY | O_CREAT, 0600));
+    }
+    note("w", file, at, count);
+    return ((positioned *)dlsym(RTLD_NEXT, "pwrite"))(file, bytes, count, at);
 }
 int fdatasync(int file) {
     wait_while("hold barrier");
-    return stands("fail") ? (errno = EIO, -1) : ((settles *)dlsym(RTLD_NEXT, "fdatasync"))(file);
+    if (stands("fail"))
+        return errno = EIO, -1;
+    note("s", file, 0, 0);
+    return ((settles *)dlsym(RTLD_NEXT, "fdatasync"))(file);
 }
 """
 
@@ -77,6 +99,15 @@ class Signs:
 
     def clear(self, name):
         os.remove(os.path.join(self.folder, name))
+
+    def of_log(self):
+        """The calls on the log's opening of the image: of each its kind, and of a write the first block and how many."""
+        with open(os.path.join(self.folder, "notes"), encoding="ascii") as file:
+            calls = [(kind, *map(int, numbers)) for kind, *numbers in map(str.split, file)]
+        # (the header of the log is block 1, and its slots are those up to 512)
+        openings = {file for kind, file, first, _ in calls if kind == "w" and 0 < first <= 512}
+        same("openings by which the log is written", len(openings), 1)
+        return [(kind, first, count) for kind, file, first, count in calls if file in openings]
 
     def wait(self):
         """Waits until a call of the server waits."""
@@ -270,6 +301,89 @@ def test_a_broken_store_is_told_at_once(place):
     is_so("a second line was told", not select.select([server.ran.stderr], [], [], 0)[0])
     client.close()
     server.end(1, b"nfsd: 6 Device\n")
+
+
+MOST = bytes(range(256)) * 128
+
+
+def with_a_file(place, signs):
+    """A server, a client of it, and a file of 32 KB that is settled."""
+    server = Server(place, place.image(), connections=1, **signs.given)
+    client = server.client()
+    return server, client, client.create(ROOT, b"a", MOST)
+
+
+def groups_of(calls):
+    """The groups that the log wrote: of each its calls up to the second settling."""
+    groups = [[]]
+    for call in calls:
+        groups[-1].append(call)
+        if [kind for kind, *_ in groups[-1]].count("s") == 2:
+            groups.append([])
+    same("calls behind the last group", groups.pop(), [])
+    return groups
+
+
+def test_a_group_is_written_by_two_calls_and_settled_by_two(place):
+    signs = Signs(place)
+    server, client, file = with_a_file(place, signs)
+    server.wait_until_idle()
+    before, count = len(signs.of_log()), 120
+    for it in range(count):
+        client.write(file, 0, MOST[it:] + MOST[:it])
+    groups, wraps = groups_of(signs.of_log()[before:]), 0
+    same("groups, one a WRITE", len(groups), count)
+    for group in groups:
+        *body, settles, header, last = group
+        kinds = settles[0], header[:2], last[0]
+        same(f"the calls behind the body of {group}", kinds, ("s", ("w", 1), "s"))
+        is_so(f"the body of {group} isn't of nine blocks", sum(blocks for _, _, blocks in body) == 9)
+        # Block 2 is the first slot, and the last is block 512.
+        ends = [first + blocks for _, first, blocks in body]
+        is_so(f"the body of {group} isn't one extent", len(body) == 1 or (len(body) == 2 and ends[0] == 513 and body[1][1] == 2))
+        wraps += len(body) - 1
+    is_so("no group went over the end of the log", wraps > 0)
+    client.close()
+    server.end()
+
+
+def test_an_extent_that_is_written_in_pieces_is_written_whole(place):
+    signs = Signs(place)
+    server, client, file = with_a_file(place, signs)
+    signs.set("short extent")
+    data = MOST[1:] + MOST[:1]
+    client.write(file, 0, data)
+    same("what is read", client.read(file), data)
+    server.kill()
+    signs.clear("short extent")
+    same("what the next server reads", tree_of(place, place.path("image")), {b"a": data})
+
+
+def assert_lost(place, sign, cause):
+    """A WRITE whose extent is lost fails, and each call behind it, also once the device is whole again."""
+    signs = Signs(place)
+    server, client, file = with_a_file(place, signs)
+    server.wait_until_idle()
+    signs.set(sign)
+    client.refuse(nfs.IO, nfs.WRITE, file, 0, len(MOST), nfs.FILE_SYNC, MOST[1:] + MOST[:1])
+    signs.clear(sign)
+    if os.path.exists(os.path.join(signs.folder, "full")):
+        signs.clear("full")
+    calls = len(signs.of_log())
+    for procedure, *given in (nfs.SETATTR, nfs.new_attributes(mode=0o700), None), (nfs.GETATTR,), (nfs.COMMIT, 0, 0):
+        client.refuse(nfs.IO, procedure, file, *given)
+    same("calls of the log's opening behind an extent that was lost", len(signs.of_log()), calls)
+    client.close()
+    server.end_broken(cause)
+    same("what the next server reads", tree_of(place, place.path("image")), {b"a": MOST})
+
+
+def test_an_extent_that_is_refused_breaks_the_store(place):
+    assert_lost(place, "refuse extent", rb"a write of the image failed: Input/output error \(os error 5\)")
+
+
+def test_an_extent_that_is_refused_behind_a_part_of_it_breaks_the_store(place):
+    assert_lost(place, "cut extent", rb"a write of the image failed: No space left on device \(os error 28\)")
 
 
 class LoopDevice:

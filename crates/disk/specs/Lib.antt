@@ -9,5 +9,6 @@ pub mod MemoryBlocks
 pub mod File
 pub mod FileBlocks
 pub mod Overlap
+pub mod Extent
 pub mod Ports
 pub mod Sides

@@ -5,6 +5,7 @@ ghost use Rattle.disk.specs.Blocks.{IsBlock};
 ghost use Rattle.disk.specs.Device.{Content};
 ghost use Rattle.disk.specs.File.{AreOfBlocks, bytes_of};
 
+mod extent;
 pub(crate) mod ports;
 
 use crate::{Block, BlockNo, Failed, Side};

@@ -1,6 +1,7 @@
 //! What no contract says: that calls succeed, what is asked of a file, and that a file of the system answers
 //! as a device does.
 mod asked;
+mod extents;
 mod fake;
 mod files;
 mod order;

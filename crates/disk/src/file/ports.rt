@@ -1,25 +1,33 @@
 //! A file that several threads share: a port for each side, and sources for those that read.
-ghost use Rattle.std.specs.Prelude.{◌≡◌, [], ◌∷◌, ◌++◌, IfOk, OnOk};
+ghost use Rattle.std.specs.Prelude.{◌≡◌, ◌*◌, [], ◌∷◌, ◌++◌, false, is_err, IfOk, OnOk};
 ghost use Rattle.std.specs.Arc.{arc_value};
+ghost use Rattle.limits.specs.declared.TheConstants.{BLOCK_BYTES};
+ghost use Rattle.disk.specs.Extent.{EndWith};
 ghost use Rattle.disk.specs.Ports.{LiesOn, answered};
 ghost use Rattle.disk.specs.declared.block.Side.TheVariants.{Home};
 
+use super::extent::Extent;
 use super::{BlockFile, NotedFile};
+use crate::file_disk::offset;
 use crate::ports::{Port, PortCall, Source};
 use crate::{Block, BlockNo, Failed, Side};
 use http_server::Log;
-use limits::BLOCK_BYTES;
 use std::alloc::{AllocError, Global};
 use std::snapshot::Snapshot;
 use std::sync::Arc;
 
-/// One side of a file. Each call of it that is within the device and of its side is one call of the file, and no other
-/// asks anything. Each is noted for proofs alone.
+/// One side of a file. Writes of blocks that follow each other are gathered: an extent of them is one call of the file,
+/// which is made before the next extent begins and before a barrier. Each barrier is one call more. Calls that aren't
+/// within the device or not of its side ask nothing. Each is noted for proofs alone.
 #[derive(Drop)]
 pub struct FilePort<F: BlockFile> {
     file: Arc<F, Global>,
     blocks: u32,
     side: Side,
+    // The writes that are still to be made.
+    extent: Extent,
+    // An extent was lost, whose writes were answered Ok: then nothing is written or settled any more.
+    is_lost: bool,
     noted: Log<PortCall, Result<(), Failed>>,
 }
 
@@ -44,39 +52,75 @@ impl<F: BlockFile> NotedFile<F> {
 
 impl<F: BlockFile> FilePort<F> {
     // A side of a file of so many blocks.
-    pub(crate) fn new(file: Arc<F, Global>, blocks: u32, side: Side) -> FilePort<F>
-        ensures file { result.file ≡ file }
-        ensures blocks { result.blocks ≡ blocks }
-        ensures side { result.side ≡ side }
-        ensures noted { result.noted.items ≡ [] }
+    pub(crate) fn new(
+        alloc: Global,
+        file: Arc<F, Global>,
+        blocks: u32,
+        side: Side,
+    ) -> Result<FilePort<F>, AllocError>
+        ensures file { IfOk result (λ port. port.file ≡ file) }
+        ensures blocks { IfOk result (λ port. port.blocks ≡ blocks) }
+        ensures side { IfOk result (λ port. port.side ≡ side) }
+        ensures noted { IfOk result (λ port. port.noted.items ≡ []) }
     {
-        FilePort {
+        Ok(FilePort {
             file,
             blocks,
             side,
+            extent: Extent::new(alloc)?,
+            is_lost: false,
             noted: Log::new(),
-        }
+        })
     }
 
-    // Writes a block that is there.
-    fn put(&self, block: BlockNo, content: &Block) -> Result<(), Failed>
-        ensures { OnOk result (LiesOn self.now.blocks self.now.side block.0) }
+    // Has a block that is there written: behind those that are still to be written, or once they are.
+    fn put(&mut self, block: BlockNo, content: &Block) -> Result<(), Failed>
+        ensures within { OnOk result (LiesOn self.old.blocks self.old.side block.0) }
+        ensures extent { OnOk result (EndWith self.new.extent.first self.new.extent.bytes.items (block.0 * BLOCK_BYTES)
+            content.now) }
+        ensures lost { OnOk result ((self.old.is_lost ≡ false) × (self.new.is_lost ≡ false)) }
+        ensures blocks { self.new.blocks ≡ self.old.blocks }
+        ensures side { self.new.side ≡ self.old.side }
+        ensures noted { self.new.noted ≡ self.old.noted }
     {
-        if block.0 >= self.blocks || block.side() != self.side {
+        if self.is_lost || block.0 >= self.blocks || block.side() != self.side {
             return Err(Failed);
         }
-        self.file
-            .write_all_at(content.as_slice(), offset(block))
-            .or(Err(Failed))
+        let at = offset(block);
+        if !self.extent.goes_on_at(at) {
+            self.flush()?;
+            self.extent.begin_at(at);
+        }
+        self.extent.push(content);
+        Ok(())
+    }
+
+    // Makes the writes that are still to be made.
+    fn flush(&mut self) -> Result<(), Failed>
+        ensures extent { self.new.extent.bytes.items ≡ [] }
+        ensures lost { self.new.is_lost ≡ is_err result }
+        ensures blocks { self.new.blocks ≡ self.old.blocks }
+        ensures side { self.new.side ≡ self.old.side }
+        ensures noted { self.new.noted ≡ self.old.noted }
+    {
+        let made = self.extent.write_to(&*self.file);
+        self.is_lost = made.is_err();
+        made
     }
 
     // Settles this side.
-    fn sync(&self, side: Side) -> Result<(), Failed>
-        ensures { OnOk result (side ≡ self.now.side) }
+    fn sync(&mut self, side: Side) -> Result<(), Failed>
+        ensures within { OnOk result (side ≡ self.old.side) }
+        ensures extent { OnOk result (self.new.extent.bytes.items ≡ []) }
+        ensures lost { OnOk result ((self.old.is_lost ≡ false) × (self.new.is_lost ≡ false)) }
+        ensures blocks { self.new.blocks ≡ self.old.blocks }
+        ensures side { self.new.side ≡ self.old.side }
+        ensures noted { self.new.noted ≡ self.old.noted }
     {
-        if side != self.side {
+        if self.is_lost || side != self.side {
             return Err(Failed);
         }
+        self.flush()?;
         self.file.sync_data().or(Err(Failed))
     }
 }
@@ -141,8 +185,4 @@ impl<F: BlockFile> Source for FileSource<F> {
         self.noted = self.noted.and(&call, &result);
         result
     }
-}
-
-fn offset(block: BlockNo) -> u64 {
-    u64::from(block.0) * BLOCK_BYTES as u64
 }

@@ -46,8 +46,8 @@ fn cut<F: BlockFile>(
         first: _,
     } = disk;
     let file = file.shared(alloc)?;
-    let log = FilePort::new(Arc::try_clone(&file)?, blocks, Side::Log);
-    let home = FilePort::new(Arc::new(alloc, home)?, blocks, Side::Home);
+    let log = FilePort::new(alloc, Arc::try_clone(&file)?, blocks, Side::Log)?;
+    let home = FilePort::new(alloc, Arc::new(alloc, home)?, blocks, Side::Home)?;
     let sources = sources_of(alloc, &file, blocks, workers)?;
     Ok((log, home, sources))
 }

@@ -1,5 +1,5 @@
-//! What the parts of a split device ask of their file: one call each of what is on their side of the device, and
-//! nothing else. The home side asks its own opening of the file.
+//! What the parts of a split device ask of their file: nothing but for what is on their side of the device, and a write
+//! no sooner than it must be. The home side asks its own opening of the file.
 
 use crate::tests::block;
 use crate::tests::fake::{Fake, Step, Steps};
@@ -17,7 +17,7 @@ const BLOCKS: u32 = 5;
 
 // A call of a part.
 #[derive(Clone, Copy)]
-enum Call {
+pub enum Call {
     LogWrite(u32),
     LogBarrier(Side),
     HomeWrite(u32),
@@ -38,10 +38,10 @@ const NOTHING: &[Step] = &[Step::AskLength];
 
 const ROWS: [Row; 12] = [
     Row {
-        says: "a block of the log is written",
+        says: "a block of the log waits for the barrier",
         call: Call::LogWrite(3),
         answer: Ok(()),
-        of_log: &[Step::AskLength, Step::WriteAt(12288, 4096)],
+        of_log: NOTHING,
         of_home: NOTHING,
     },
     Row {
@@ -73,11 +73,11 @@ const ROWS: [Row; 12] = [
         of_home: NOTHING,
     },
     Row {
-        says: "a home block is written",
+        says: "a home block waits for the barrier",
         call: Call::HomeWrite(0),
         answer: Ok(()),
         of_log: NOTHING,
-        of_home: &[Step::AskLength, Step::WriteAt(0, 4096)],
+        of_home: NOTHING,
     },
     Row {
         says: "the home port writes no block of the log",
@@ -123,7 +123,7 @@ const ROWS: [Row; 12] = [
     },
 ];
 
-fn opening(steps: &Steps) -> Fake<'_> {
+pub fn opening(steps: &Steps) -> Fake<'_> {
     Fake {
         steps,
         is_folder: false,
@@ -131,7 +131,7 @@ fn opening(steps: &Steps) -> Fake<'_> {
 }
 
 // Makes the call of its part.
-fn make<'a>(
+pub fn make<'a>(
     call: Call,
     log: &mut FilePort<Fake<'a>>,
     home: &mut FilePort<Fake<'a>>,
