@@ -13,7 +13,7 @@ ghost use Rattle.inspection.specs.Refused.{IsRefusedBelow, IsRefusedPointer, Nam
 use disk::BlockNo;
 use inode::Snap;
 use layout::{Geometry, Inode, InodeKind, Numbers, Slot};
-use limits::{BLOCK_BYTES, DIRECT_INDEXES, INDIRECT_INDEXES, MOST_SPAN, SLOTS_PER_BLOCK};
+use limits::{BLOCK_BYTES, DIRECT_INDEXES, MOST_SPAN, SLOTS_PER_BLOCK};
 use objects::Addr;
 
 // The bytes of a data block, if it was read.
@@ -42,13 +42,7 @@ fn names_others(geometry: &Geometry, block: &[u8]) -> bool
     ensures none { result ≡ false
         → list_all (is_data_block_or_none geometry.now) (numbers_at INDIRECT_INDEXES 0 block.now) ≡ true }
 {
-    'indexes: for index in 0..INDIRECT_INDEXES {
-        let number = Numbers::at(block, index);
-        if number != 0 && !geometry.is_data(number) {
-            return true;
-        }
-    }
-    false
+    Numbers::mapped_in(geometry, block).is_err()
 }
 
 // Whether the layout refuses a slot of a block.

@@ -1,12 +1,17 @@
 -- The numbers of an indirect block, counted where they lie.
-use Rattle.std.proofs.Common.{◌≡◌, ℕ, zero, suc, ◌+◌, ◌*◌, ◌<◌, ap, ◌∙◌, sym, refl, Bool, true, false, ◌&&◌, cond, not}
-use Rattle.std.proofs.Common.{List, [], ◌∷◌, length, nat_eq, get_or, arith}
+use Rattle.std.proofs.Common.{◌≡◌, ℕ, zero, suc, ◌+◌, ◌*◌, ◌<◌, ◌≤◌, ap, ◌∙◌, sym, refl, Bool, true, false, ◌&&◌, ◌||◌}
+use Rattle.std.proofs.Common.{List, [], ◌∷◌, length, nat_eq, nat_lt, get_or, arith, cond, not}
 use Rattle.std.specs.List.{list_all}
-use Rattle.std.proofs.lemmas.Bool.{eq-eqb, ne_eqb}
+use Rattle.std.proofs.lemmas.Bool.{eq-eqb, le-leb, lt-ltb, ne_eqb}
 use Rattle.std.proofs.lemmas.List.Folds.{list_all-append}
 use Rattle.std.proofs.lemmas.List.Sums.{sum_by-append, sum_by-cons}
 use Rattle.layout.specs.Fields.{count_of, four_at, numbers_at}
+use Rattle.layout.specs.Geometry.{data_at}
+use Rattle.layout.specs.InodeForm.{is_data_block_or_none}
+use Rattle.layout.specs.Places.{is_data}
+use Rattle.layout.specs.declared.geometry.Geometry.{Geometry}
 use Rattle.layout.proofs.NumbersAt.{no_numbers, number_at, numbers-length, one_more}
+use Rattle.layout.proofs.OnGrid.{data_within}
 
 abbrev weight : ℕ → ℕ
 weight n = cond (not (nat_eq n 0)) 1 0
@@ -70,3 +75,25 @@ refused_at p count index number bytes less is e =
     let place : 0 + 4 * index ≡ 4 * index = omega arith in
     let at = number_at count 0 bytes index less ∙ ap (λ k. four_at k bytes) place ∙ sym is in
     fails_at p (numbers_at count 0 bytes) index (omega (arith, long, less)) (ap p at ∙ e)
+
+-- the test of a number, by how it lies to the data blocks
+pub placed_one : (g : Geometry) (number : ℕ) → data_at g.blocks g.inodes ≤ number → number < g.blocks
+    → is_data_block_or_none g number ≡ true
+placed_one g number low high =
+    ap (λ b. nat_eq number 0 || (b && nat_lt number g.blocks)) (le-leb (data_at g.blocks g.inodes) number low)
+    ∙ ap (λ b. nat_eq number 0 || b) (lt-ltb number g.blocks high) ∙ any (nat_eq number 0)
+  where
+    any : (b : Bool) → (b || true) ≡ true
+    any true = refl
+    any false = refl
+
+pub none_placed : (g : Geometry) (number : ℕ) → number ≡ 0 → is_data_block_or_none g number ≡ true
+none_placed g number none = ap (λ b. b || is_data g number) (eq-eqb number 0 none)
+
+pub misplaced : (g : Geometry) (number : ℕ) → (number ≡ 0 → ⊥)
+    → ((data_at g.blocks g.inodes ≤ number) × (number < g.blocks) → ⊥) → is_data_block_or_none g number ≡ false
+misplaced g number some apart = split (is_data g number) refl
+  where
+    split : (b : Bool) → is_data g number ≡ b → is_data_block_or_none g number ≡ false
+    split true e = absurd (apart (data_within g number e))
+    split false e = ap (λ b. b || is_data g number) (ne_eqb number 0 some) ∙ e

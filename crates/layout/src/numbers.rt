@@ -62,7 +62,8 @@ impl Numbers {
     }
 
     /// How many blocks an indirect block of an image of this geometry maps, counted where it lies. It is refused
-    /// (Range) where a number is neither 0 nor that of a data block.
+    /// (Range) where a number is neither 0 nor that of a data block. It counts all of them, and those of data blocks, and
+    /// ends nowhere before, so that the compiler can look at several at once.
     pub fn mapped_in(geometry: &Geometry, bytes: &[u8]) -> Result<u32, LayoutFault>
         requires { length bytes.now ≡ BLOCK_BYTES }
         ensures few { IfOk result (λ mapped. mapped ≤ INDIRECT_INDEXES) }
@@ -73,17 +74,24 @@ impl Numbers {
             × (list_all (is_data_block_or_none geometry.now)
             (numbers_at INDIRECT_INDEXES 0 bytes.now) ≡ false)) }
     {
+        let data = geometry.data().0;
+        let end = geometry.blocks;
         let mut mapped = 0;
+        let mut placed = 0;
         'indexes: for index in 0..INDIRECT_INDEXES {
             let number = four_at(bytes, NUMBER_BYTES * index);
-            if !is_data_block_or_none(geometry, number) {
-                return Err(LayoutFault::Range);
-            }
             if number != 0 {
                 mapped += 1;
             }
+            if data <= number && number < end {
+                placed += 1;
+            }
         }
-        Ok(mapped)
+        if placed == mapped {
+            Ok(mapped)
+        } else {
+            Err(LayoutFault::Range)
+        }
     }
 
     /// The number at an index of an indirect block, as it stands there.
