@@ -39,6 +39,7 @@ use Rattle.session.specs.Filing.{filed, outset_of}
 use Rattle.session.specs.Replying.{IsMessageAnswered}
 use Rattle.session.specs.Writing.{Told}
 use Rattle.session.specs.Streaming.{Answered, IsStream}
+use Rattle.session.proofs.Counted.{added_along, counted}
 use Rattle.session.proofs.Courses.{longer_answers}
 use Rattle.session.proofs.ServedFiles.{each_message, served_along}
 use Rattle.store_promise.proofs.FileBlocks.{stands_now}
@@ -286,18 +287,23 @@ files_after stops whole longer K moment old files messages replies served device
     further behind settles =
     let done = all stops longer K moment old files messages replies served keeps timely opened a in
     let open_then = behind done.later done.opened in
-    let along = each_message old.boot moment served.device K (settled_place core.log) old files
+    let each = done.each (settled_place core.log) further in
+    let added = added_along (settled_place core.log) moment old files messages replies served done.later each in
+    let counts = counted added (settled_place core.log) moment old files messages replies served done.later opened each
+    (λ number above. refl) in
+    let along = each_message old.boot moment served.device added K (settled_place core.log) old files
     messages replies
-    served done.later old served refl opened (λ number below. (refl, refl)) a
-    (done.each (settled_place core.log) further) in
+    served done.later old served refl opened (λ number below. (refl, refl)) a each counts in
     let kept = settles done.opened.base served.boot done.later.first done.later.last done.later.entries
     done.opened.opened.since in
     record {
       later = done.later;
-      each = done.each (settled_place core.log) further;
+      each = each;
+      added = added;
+      counted = counts;
       along = along;
-      answers = served_along old.boot moment served.device (settled_place core.log) old files
-          messages replies served done.later (done.each (settled_place core.log) further) along;
+      answers = served_along old.boot moment served.device added (settled_place core.log) old files
+          messages replies served done.later each along;
       goes = done.goes;
       first = done.first;
       made = done.made;

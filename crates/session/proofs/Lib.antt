@@ -1,4 +1,5 @@
 pub mod Noted
+pub mod Counted
 pub mod Courses
 pub mod Written
 pub mod Filed

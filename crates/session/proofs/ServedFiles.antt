@@ -1,10 +1,9 @@
 -- What a stream made of the files is what the served stream admits, message by message.
 use Rattle.std.proofs.Common.{arith, ◌≡◌, ◌∙◌, refl, sym, ap, subst, ℕ, zero, suc, ◌+◌, ◌-◌, ◌^◌, ◌<◌, ◌≤◌}
-use Rattle.std.proofs.Common.{inl, inr}
+use Rattle.std.proofs.Common.{◌⊎◌, inl, inr}
 use Rattle.std.proofs.Common.{Bool, true, false, if◌then◌else◌, List, [], ◌∷◌, length, Option, Some, None}
 use Rattle.std.proofs.lemmas.Bool.{cases_Bool, cases_lt, true≢false}
 use Rattle.std.proofs.lemmas.List.{length-append}
-use Rattle.limits.specs.declared.TheConstants.{CHANGED_BLOCKS}
 use Rattle.disk.specs.Device.{Device}
 use Rattle.disk.specs.Failures.{failures_from}
 use Rattle.model.specs.Calls.{begins_transaction}
@@ -29,15 +28,18 @@ use Rattle.store_promise.specs.declared.answers.Verdict.{Verdict}
 use Rattle.store_promise.specs.declared.answers.Verdict.TheVariants as verdicts
 use Rattle.store_promise.specs.declared.events.Cause.{Cause}
 use Rattle.store_promise.specs.declared.events.Cause.TheVariants as cause
+use Rattle.txn_law.specs.Group.{blocks_of}
+use Rattle.wal_law.specs.Log.{tail_after, tail_blocks}
+use Rattle.wal_law.proofs.Tail.{few_new}
 use Rattle.store_promise.specs.History.{ctx_of}
 use Rattle.store_promise.specs.Openings.{IsLater}
 use Rattle.store_promise.specs.Verdicts.{refusal}
 use Rattle.store_promise.proofs.Later.{past_more, past_none}
-use Rattle.store_images.specs.Further.{end_of}
 use Rattle.store_images.specs.Opening.{Opened}
 use Rattle.store_images.specs.Settling.{HasBroken, HasFailed, HasLost}
 use Rattle.store.specs.Calling as store
-use Rattle.session.specs.Filing.{AreAnswered, AreFiled, Files, IsFiled, IsOpenFor, filed, outset_of}
+use Rattle.session.specs.Filing.{AreAnswered, AreCounted, AreFiled, Files, IsFiled, IsOpenFor, added_by, filed}
+use Rattle.session.specs.Filing.{outset_of}
 use Rattle.session.specs.Replying.{IsMessageAnswered, IsMountReply, IsSystemError}
 use Rattle.session.specs.Serving.{reply_for}
 use Rattle.session.specs.Standing.{serving_of, standing_of}
@@ -98,19 +100,20 @@ same_standing old new files later same as_files = ap (λ (at : Opened). standing
     ∙ ap (λ (fs : Files). standing_of old fs.last) as_files
 
 -- what a message left of the store and its files
-record Leaves (old : Opened) (new : Opened) (later : Files) : Type 0 where
-  is_open : IsOpenFor new later
-  boot : new.boot ≡ old.boot
-  past : IsLater old.device new.device
+pub record Leaves (old : Opened) (new : Opened) (later : Files) : Type 0 where
+  pub is_open : IsOpenFor new later
+  pub boot : new.boot ≡ old.boot
+  pub past : IsLater old.device new.device
+  pub begun : old.core.begun ≤ new.core.begun
 
 nothing_left : (old : Opened) (files : Files) → IsOpenFor old files → (new : Opened) (later : Files) → new ≡ old
     → later ≡ files → Leaves old new later
 nothing_left old files is_open new later same as_files =
     subst (λ (at : Opened). Leaves old at later) (sym same)
     (subst (λ (fs : Files). Leaves old old fs) (sym as_files)
-    (record { is_open = is_open; boot = refl; past = past_none old.device }))
+    (record { is_open = is_open; boot = refl; past = past_none old.device; begun = omega arith }))
 
-leaves : (settled : ℕ) (moment : Moment) (old : Opened) (files : Files) (j : Judged) (bytes : List ℕ)
+pub leaves : (settled : ℕ) (moment : Moment) (old : Opened) (files : Files) (j : Judged) (bytes : List ℕ)
     (new : Opened)
     (later : Files) → IsOpenFor old files → IsFiled settled moment old files j bytes new later
     → Leaves old new later
@@ -125,7 +128,12 @@ leaves settled moment old files (Call xid credential (calls.Nfs asked)) bytes ne
     nothing_left old files is_open new later same as_files
 leaves settled moment old files (Call xid credential (calls.Nfs asked)) bytes new later is_open
     (inl (verdict, has, is, spelled, by)) = subst (λ (fs : Files). Leaves old new fs) (sym is)
-    (record { is_open = has.opened; boot = has.boot; past = has.files.past })
+    (record {
+      is_open = has.opened;
+      boot = has.boot;
+      past = has.files.past;
+      begun = has.goes.further.begun;
+    })
 
 -- so do all of them
 past_all : (settled : ℕ) (moment : Moment) (old : Opened) (files : Files) (messages replies : List (List ℕ))
@@ -142,9 +150,9 @@ past_all settled moment old files (message ∷ messages) (reply ∷ replies) new
     past_more old.device middle.device new.device first.past
     (past_all settled moment middle between messages replies new later first.is_open rest)
 
-module _ (boot : ℕ) (moment : Moment) (end : Device) where
+module _ (boot : ℕ) (moment : Moment) (end : Device) (added : ℕ → ℕ) where
   abbrev s : wire.Serving
-  s = serving_of boot moment end
+  s = serving_of boot moment end added
 
   -- so the calls of the device failed up to now
   abbrev AgreesWith : Opened → Type 0
@@ -244,26 +252,91 @@ module _ (boot : ℕ) (moment : Moment) (end : Device) where
           places = omega (arith, before, now, long);
         }
 
-    spent : store.IsSpent new.core → (later : Files) → wire.IsSpent (standing_of new later.last)
-    spent (inl number) later = inl number
-    spent (inr none) later = elim (cases_lt (new.core.log.places + 1) (2 ^ 64)) [
-      | inl place ↦ elim (cases_lt (end_of new.core.log + CHANGED_BLOCKS) (2 ^ 64)) [
-        | inl room ↦ absurd (none (place, room))
-        | inr full ↦ inr (inr (omega (arith, full)))
-      ]
-      | inr full ↦ inr (inl full)
+    -- no place was left, or too few positions
+    lacks_positions : (count : ℕ) (finds : store.FindsNoRoom o new count) (later : Files)
+        → 2 ^ 64 ≤ finds.at.core.log.start + (finds.at.core.log.logged + finds.at.core.log.taken)
+        + tail_after finds.at.core.log (blocks_of finds.done.written)
+        → wire.LacksPositions (standing_of new later.last) count
+    lacks_positions count finds later full =
+        let log = finds.at.core.log in
+        let blocks = blocks_of finds.done.written in
+        let lawful = finds.planned.open_so.over.lawful in
+        let within = lawful.taken_within in
+        let before = lawful.positions in
+        let is = finds.lacked in
+        let fewer = few_new (tail_blocks log) blocks in
+        let most = finds.planned.few in
+        let longer = finds.until.further.positions in
+        record {
+          some = omega (arith, full, within, before, is);
+          few = omega (arith, is, fewer, most);
+          none = omega (arith, full, within, is, longer);
+        }
+
+    lacks_room : (count : ℕ) → store.FindsNoRoom o new count → (later : Files)
+        → wire.LacksRoom (standing_of new later.last) count
+    lacks_room count finds later = elim (cases_lt (finds.at.core.log.places + 1) (2 ^ 64)) [
+      | inl place ↦ elim (cases_lt (finds.at.core.log.start
+          + (finds.at.core.log.logged + finds.at.core.log.taken)
+          + tail_after finds.at.core.log (blocks_of finds.done.written)) (2 ^ 64)) [
+            | inl room ↦ absurd (finds.none (record { place = place; positions = room }))
+            | inr full ↦ inr (lacks_positions count finds later full)
+          ]
+      | inr full ↦ inl (let more = finds.until.further.places in omega (arith, full, more))
     ]
 
+    no_room : (count : ℕ) → store.FindsNoRoom o new count → (later : Files) → added (new.core.begun + 1) ≡ count
+        → wire.FindsNoRoom s (standing_of old files.last) credential asked (standing_of new later.last)
+    no_room count finds later same =
+        let planned = finds.planned in
+        let fresh = planned.begun_for.fresh in
+        let taken = planned.begun_for.taken in
+        let more = finds.until.further.begun in
+        record {
+          number = planned.begun.number;
+          fresh = omega (arith, fresh);
+          rising = omega (arith, taken, more);
+          reply = finds.done.reply;
+          tree = planned.next;
+          step = subst (λ (b : ℕ). procedures.step files.last (ctx_of b o.asked planned.begun) asked
+              finds.done.reply planned.next) boot_is planned.goes;
+          lacks = subst (λ (n : ℕ). wire.LacksRoom (standing_of new later.last) n) (sym same)
+              (lacks_room count finds later);
+        }
+
+    -- the store wasn't broken before the call
+    sound_before : (count : ℕ) → store.FindsNoRoom o new count → old.core.log.broken ≡ false
+    sound_before count finds = elim (cases_Bool old.core.log.broken) [
+      | inl broken ↦ absurd (true≢false (sym (finds.since.further.broken broken) ∙ finds.sound))
+      | inr sound ↦ sound
+    ]
+
+    -- as the changes that found no room are counted
+    abbrev Counts : ℕ → Type 0
+    Counts count = old.core.begun < new.core.begun → added (new.core.begun + 1) ≡ count
+
+    spent : (count : ℕ) → store.FindsNoNumber o new ⊎ store.FindsNoRoom o new count → (later : Files) → Counts count
+        → wire.IsSpent s (standing_of old files.last) credential asked (standing_of new later.last)
+    spent count (inl finds) later counts = record { sound = finds.sound; spent = inl finds.none }
+    spent count (inr finds) later counts =
+        let fresh = finds.planned.begun_for.fresh in
+        let taken = finds.planned.begun_for.taken in
+        let more = finds.until.further.begun in
+        record {
+          sound = sound_before count finds;
+          spent = inr (no_room count finds later (counts (omega (arith, fresh, taken, more))));
+        }
+
     refused_so : (why : Cause) (later : Files) → IsLater old.device new.device → AgreesWith new
-        → verdict ≡ refusal asked why → store.HasCause o new why
+        → verdict ≡ refusal asked why → (count : ℕ) → store.HasCause o new count why → Counts count
         → wire.Stays s (standing_of old files.last) (standing_of new later.last)
         → wire.IsTransactionReply s (standing_of old files.last) xid credential asked bytes
         (standing_of new later.last)
-    refused_so cause.Io later past same is because at =
+    refused_so cause.Io later past same is count because counts at =
         wire.Failed at (has_failed old new files later past same because) (told_as (refusal asked cause.Io) is)
-    refused_so cause.Spent later past same is because at =
-        wire.Spent at (spent because later) (told_as (refusal asked cause.Spent) is)
-    refused_so cause.NoMemory later past same is because at =
+    refused_so cause.Spent later past same is count because counts at =
+        wire.Spent at (spent count because later counts) (told_as (refusal asked cause.Spent) is)
+    refused_so cause.NoMemory later past same is count because counts at =
         wire.NoMemory at (told_as (refusal asked cause.NoMemory) is)
 
     by_rules : (rules : Bool) (later : Files) → begins_transaction asked ≡ rules
@@ -277,20 +350,20 @@ module _ (boot : ℕ) (moment : Moment) (end : Device) where
     by_entry : (entry : Option Entry) (last : Tree) → store.ComesTo o new entry last
         → IsOpenFor new (left entry last) → store.GoesTo old new → IsLater old.device new.device
         → AgreesWith new
-        → store.Tells o entry verdict new
+        → (tells : store.Tells o entry verdict new) → Counts (store.added_in o entry verdict new tells)
         → wire.IsNfsReply s (standing_of old files.last) (begins_transaction asked) xid credential asked bytes
         (standing_of new last)
-    by_entry (Some entry) last made after goes past same (inl reply) =
+    by_entry (Some entry) last made after goes past same (inl reply) counts =
         by_rules true (left (Some entry) last) made.begun_for.begins (wire.Done entry.reply
         (steps entry last made after (goes_on old new files (left (Some entry) last) goes past same))
         (told_as (verdicts.Reply entry.reply) reply.told_is))
-    by_entry (Some entry) last made after goes past same (inr un) =
+    by_entry (Some entry) last made after goes past same (inr un) counts =
         by_rules true (left (Some entry) last) made.begun_for.begins
         (wire.Unsettled entry.reply
         (steps entry last made after (goes_on old new files (left (Some entry) last) goes past same))
         (has_broken old new files (left (Some entry) last) same un.failed) un.stable
         (told_as (verdicts.Reply (refused status.Io asked)) un.told_is))
-    by_entry None last comes after goes past same (inl un) =
+    by_entry None last comes after goes past same (inl un) counts =
         by_rules false (left None last) un.begins (
           record {
             stays = stays last comes after (goes_on old new files (left None last) goes past same);
@@ -298,9 +371,9 @@ module _ (boot : ℕ) (moment : Moment) (end : Device) where
           },
           inl (told_as (verdicts.Reply Null) un.told_is),
         )
-    by_entry None last comes after goes past same (inr why) =
+    by_entry None last comes after goes past same (inr why) counts =
         by_rules true (left None last) why.begins
-        (refused_so why.why (left None last) past same why.told_is why.because
+        (refused_so why.why (left None last) past same why.told_is why.added why.because counts
         (stays last comes after (goes_on old new files (left None last) goes past same)))
 
   -- a call for which memory was refused leaves all as it was
@@ -323,36 +396,39 @@ module _ (boot : ℕ) (moment : Moment) (end : Device) where
       (bytes : List ℕ)
       (new : Opened) (later : Files) (one other : Opened) → old.boot ≡ boot → IsOpenFor old files
       → AgreesWith new
-      → IsMessageAnswered keeps_model moment one j bytes other → IsFiled settled moment old files j bytes new later
+      → IsMessageAnswered keeps_model moment one j bytes other
+      → (filed : IsFiled settled moment old files j bytes new later)
+      → (old.core.begun < new.core.begun → added (new.core.begun + 1)
+      ≡ added_by settled moment old files j bytes new later filed)
       → wire.IsReplyTo s (standing_of old files.last) j bytes (standing_of new later.last)
-  one_message K settled old files Closed bytes new later one other is is_open same answered filed =
+  one_message K settled old files Closed bytes new later one other is is_open same answered filed counts =
       absurd answered
   one_message K settled old files (Refused xid refusal) bytes new later one other is is_open same
-      answered (at, fs) =
+      answered (at, fs) counts =
       (answered.0, same_standing old new files later at fs)
   one_message K settled old files (Call xid credential (calls.Mount asked)) bytes new later one other
       is is_open same
-      (inl answered) (at, fs) = (
+      (inl answered) (at, fs) counts = (
         same_standing old new files later at fs,
         plain_mount xid asked bytes answered.1,
       )
   one_message K settled old files (Call xid credential (calls.Mount asked)) bytes new later one other
-      is is_open same (inr error) (at, fs) = (same_standing old new files later at fs, inr error.0)
+      is is_open same (inr error) (at, fs) counts = (same_standing old new files later at fs, inr error.0)
   one_message K settled old files (Call xid credential (calls.Nfs asked)) bytes new later one other
       is is_open same
-      answered (inr (error, at, fs)) =
+      answered (inr (error, at, fs)) counts =
       subst (λ (to : wire.Standing). wire.IsNfsReply s (standing_of old files.last) (begins_transaction asked) xid
       credential asked
       bytes to) (sym (same_standing old new files later at fs))
       (no_memory (begins_transaction asked) old files xid credential asked bytes error)
   one_message K settled old files (Call xid credential (calls.Nfs asked)) bytes new later one other
       is is_open same
-      answered (inl (verdict, has, fs, spelled, by)) =
+      answered (inl (verdict, has, fs, spelled, by)) counts =
       subst (λ (f : Files). wire.IsNfsReply s (standing_of old files.last) (begins_transaction asked) xid
       credential asked bytes
       (standing_of new f.last)) (sym fs)
       (by_entry old new files credential asked xid bytes verdict is is_open spelled has.entry has.last has.comes
-      has.opened has.goes has.files.past same has.tells)
+      has.opened has.goes has.files.past same has.tells counts)
 
   -- ---- the stream
 
@@ -361,23 +437,24 @@ module _ (boot : ℕ) (moment : Moment) (end : Device) where
       → old.boot ≡ boot → IsOpenFor old files → AgreesWith new
       → Answered keeps_model moment one messages replies other
       → (are : AreFiled settled moment old files messages replies new later)
+      → AreCounted added settled moment old files messages replies new later are
       → AreAnswered s settled moment old files messages replies new later are
-  each_message K settled old files [] [] new later one other is is_open same answered are = tt
+  each_message K settled old files [] [] new later one other is is_open same answered are counts = tt
   each_message K settled old files [] (reply ∷ replies) new later one other is is_open same answered
-      are = absurd are
+      are counts = absurd are
   each_message K settled old files (message ∷ messages) [] new later one other is is_open same answered
-      are = absurd are
+      are counts = absurd are
   each_message K settled old files (message ∷ messages) (reply ∷ replies) new later one other is is_open same
-      (mid, answered, more) (middle, between, filed, all) =
+      (mid, answered, more) (middle, between, filed, all) (count, counts) =
       let left = leaves settled moment old files (judged message) reply middle between is_open filed in
       let past = past_all settled moment middle between messages replies new later left.is_open all in
       let at_middle : AgreesWith middle = λ number below.
       let told = same number (let clock = past.clock in omega (arith, below, clock)) in
       (told.0 ∙ past.failed number below, told.1 ∙ past.lost number below) in (
         one_message K settled old files (judged message) reply middle between one mid is is_open at_middle
-            answered filed,
+            answered filed count,
         each_message K settled middle between messages replies new later mid other (left.boot ∙ is) left.is_open
-            same more all,
+            same more all counts,
       )
 
   -- what is answered along the stores is what the served stream admits

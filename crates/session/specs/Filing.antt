@@ -1,6 +1,7 @@
 -- What a stream makes of the files of an open store.
 use Rattle.std.specs.Prelude.{◌≡◌, ℕ, ◌+◌, ◌<◌, ◌≤◌, ◌⊎◌, true, Option, Some, List, [], ◌∷◌, ◌++◌, length}
 use Rattle.std.specs.Prelude.{option_to_list}
+use Rattle.std.proofs.Common.{inl, inr}
 use Rattle.std.specs.Prelude.{Result, Ok, Err}
 use Rattle.disk.specs.Crash.{Image, IsCrashImage}
 use Rattle.model.specs.Entry.{Entry}
@@ -22,7 +23,7 @@ use Rattle.store_promise.specs.GoodImage.{IsGoodImage}
 use Rattle.store_promise.specs.OpenSince.{KeepsFiles, LeavesBeginning}
 use Rattle.store_promise.specs.Openings.{IsLater, LeavesImages}
 use Rattle.store_promise.specs.declared.answers.Verdict.{Verdict}
-use Rattle.store.specs.Calling.{GoesTo, HasAnswered, IsOpenWith, IsReplyOf, Outset, asked_of}
+use Rattle.store.specs.Calling.{GoesTo, HasAnswered, IsOpenWith, IsReplyOf, Outset, added_in, asked_of}
 use Rattle.store_images.specs.Opening.{IsSettled, Opened}
 use Rattle.session.specs.declared.serving.SessionFault.{SessionFault}
 use Rattle.session.specs.declared.serving.SessionFault.TheVariants.{Record, Input, Output, NoMemory, Truncated}
@@ -89,6 +90,31 @@ AreFiled settled moment old files (message ∷ messages) (reply ∷ replies) new
     × (between : Files) × IsFiled settled moment old files (judged message) reply middle between
     × AreFiled settled moment middle between messages replies new later
 
+-- how many log positions the change of a message takes that found no room
+abbrev pub added_by : (settled : ℕ) (moment : Moment) (old : Opened) (files : Files) (j : Judged) (bytes : List ℕ)
+    (new : Opened) (later : Files) → IsFiled settled moment old files j bytes new later → ℕ
+added_by settled moment old files (Call xid credential (calls.Nfs call)) bytes new later
+    (inl (verdict, has, is, spelled, by)) =
+    added_in (outset_of moment old files credential call) has.entry verdict new has.tells
+added_by settled moment old files (Call xid credential (calls.Nfs call)) bytes new later (inr error) = 0
+added_by settled moment old files (Call xid credential (calls.Mount call)) bytes new later filed = 0
+added_by settled moment old files (Refused xid refusal) bytes new later filed = 0
+added_by settled moment old files Closed bytes new later filed = 0
+
+-- So it is counted of each message for which a transaction was begun, under the number that the next one may have
+-- behind it.
+abbrev pub AreCounted : (added : ℕ → ℕ) (settled : ℕ) (moment : Moment) (old : Opened) (files : Files)
+    (messages replies : List (List ℕ)) (new : Opened) (later : Files)
+    → AreFiled settled moment old files messages replies new later → Type 0
+AreCounted added settled moment old files [] [] new later are = Unit {0}
+AreCounted added settled moment old files [] (reply ∷ replies) new later are = ⊥
+AreCounted added settled moment old files (message ∷ messages) [] new later are = ⊥
+AreCounted added settled moment old files (message ∷ messages) (reply ∷ replies) new later
+    (middle, between, is, rest) =
+    (old.core.begun < middle.core.begun → added (middle.core.begun + 1)
+    ≡ added_by settled moment old files (judged message) reply middle between is)
+    × AreCounted added settled moment middle between messages replies new later rest
+
 -- Along the same stores and files each message was answered what the served stream admits, from how the store
 -- stood before it to how it stands behind it. So the device calls that a cause speaks of are those between
 -- the two stores that the message led from and to.
@@ -113,7 +139,8 @@ NumbersRise least (entry ∷ entries) most =
 -- the one behind the last message, and none took back a failure, a number or a settled place. What they
 -- were answered, each along the way that its procedure went and so all of them, is what the served stream
 -- admits: so each cause lies in the device calls of its own message, in a store that was broken before it,
--- or in what the core had left then. The numbers of the transactions of its procedures rise, from above
+-- or in what the core had left then; of a change that found no room it speaks by the log positions that this takes,
+-- which are counted. The numbers of the transactions of its procedures rise, from above
 -- those that there were. The store that is left is open for the files that there are then: those entries,
 -- and behind them the stream's. Whatever a stop leaves, from the call on, is good, and has the tree after a
 -- beginning of them, in which is each place that was settled at the call, and behind the last message each
@@ -124,9 +151,11 @@ pub record HasFiled (moment : Moment) (old : Opened) (files : Files) (messages r
     (served new : Opened) : Type 0 where
   pub later : Files
   pub each : AreFiled (settled_place new.core.log) moment old files messages replies served later
-  pub along : AreAnswered (serving_of old.boot moment served.device) (settled_place new.core.log)
+  pub added : ℕ → ℕ
+  pub counted : AreCounted added (settled_place new.core.log) moment old files messages replies served later each
+  pub along : AreAnswered (serving_of old.boot moment served.device added) (settled_place new.core.log)
       moment old files messages replies served later each
-  pub answers : stream.served (serving_of old.boot moment served.device)
+  pub answers : stream.served (serving_of old.boot moment served.device added)
       (standing_of old files.last) messages replies (standing_of served later.last)
   pub goes : GoesTo old served
   pub first : later.first ≡ files.first

@@ -18,11 +18,13 @@ standing_of store tree = record {
   is_broken = store.core.log.broken;
 }
 
--- the calls of the stream are of this boot and this moment, and so the calls of this device failed
-abbrev pub serving_of : ℕ → Moment → Device → Serving
-serving_of boot moment device = record {
+-- The calls of the stream are of this boot and this moment, so the calls of this device failed, and so many log
+-- positions the changes took that found no room.
+abbrev pub serving_of : ℕ → Moment → Device → (ℕ → ℕ) → Serving
+serving_of boot moment device added = record {
   boot = boot;
   moment = moment;
   failed = device.failed;
   lost = device.lost;
+  added = added;
 }

@@ -24,7 +24,8 @@ use Rattle.session_wire.specs.Judging.{judged}
 use Rattle.rpc.specs.Refused.{refused}
 use Rattle.session_wire.specs.Served.{FailsWithin, HasBroken, HasFailed, HasNoCause, IsCallReply, IsDone, IsLater}
 use Rattle.session_wire.specs.Served.{IsNfsDone, IsNfsReply, IsPlain, IsReplyTo, IsTransactionReply}
-use Rattle.session_wire.specs.Served.{IsServable, IsSpent, LacksMemory, LosesWithin, Rests, Serving, Standing, Stays}
+use Rattle.session_wire.specs.Served.{FindsNoRoom, IsServable, LacksMemory, LacksRoom, LosesWithin, Rests, Serving}
+use Rattle.session_wire.specs.Served.{Standing, Stays}
 use Rattle.session_wire.specs.Served.{Steps, all_done, done, done_but_for_memory, nfs_done, served}
 use Rattle.session_wire.proofs.CallLaws.{judged_takes}
 
@@ -182,19 +183,15 @@ done_served s old new (message ∷ messages) (reply ∷ replies) all =
 
 -- ---- without a cause nothing fails
 
--- what is spent stays spent
-spent_on : (s : Serving) (old new : Standing) → IsLater s old new → IsSpent old → IsSpent new
-spent_on s old new later spent =
-    let numbers = later.numbers in
-    let places = later.places in
-    let positions = later.positions in
-    elim spent [
-      | inl number ↦ inl (omega (arith, numbers, number))
-      | inr others ↦ inr (elim others [
-        | inl place ↦ inl (omega (arith, places, place))
-        | inr position ↦ inr (omega (arith, positions, position))
-      ])
-    ]
+-- what has no room has none later
+lacks_on : (s : Serving) (old new : Standing) (added : ℕ) → IsLater s old new → LacksRoom old added
+    → LacksRoom new added
+lacks_on s old new added later (inl place) = inl (let places = later.places in omega (arith, places, place))
+lacks_on s old new added later (inr lacks) = inr (record {
+  some = lacks.some;
+  few = lacks.few;
+  none = let positions = later.positions in let none = lacks.none in omega (arith, positions, none);
+})
 
 not_true : (v : Bool) → (v ≡ true → ⊥) → v ≡ false
 not_true true isnt = absurd (isnt refl)
@@ -207,7 +204,10 @@ first_part s old middle new later none = record {
   whole = none.whole;
   none_fails = λ fails. none.none_fails
       (fails_longer s old.clock old.clock middle.clock new.clock (omega arith) later.clock fails);
-  unspent = λ spent. none.unspent (spent_on s middle new later spent);
+  numbers = let more = later.numbers in let left = none.numbers in omega (arith, more, left);
+  room = λ number from to lacks. none.room number from
+      (let more = later.numbers in omega (arith, to, more))
+      (lacks_on s middle new (s.added number) later lacks);
 }
 
 last_part : (s : Serving) (old middle new : Standing) → IsLater s old middle → IsLater s middle new
@@ -218,7 +218,9 @@ last_part s old middle new first later none = record {
       (loses_fails s old.clock middle.clock (first.breaks none.whole broken))));
   none_fails = λ fails. none.none_fails
       (fails_longer s old.clock middle.clock new.clock new.clock first.clock (omega arith) fails);
-  unspent = none.unspent;
+  numbers = none.numbers;
+  room = λ number from to lacks. none.room number
+      (let more = first.numbers in omega (arith, from, more)) to lacks;
 }
 
 -- a failure would be a cause
@@ -230,6 +232,14 @@ not_broken : (s : Serving) (old new : Standing) → HasNoCause s old new → Has
 not_broken s old new none (inl loses) = none.none_fails (loses_fails s old.clock new.clock loses)
 not_broken s old new none (inr broken) = let whole = none.whole in cc
 
+-- a counter that is spent would be one
+not_spent : (s : Serving) (old new : Standing) (credential : Credential) (call : types.Call) → HasNoCause s old new
+    → (2 ^ 64 ≤ new.number) ⊎ FindsNoRoom s old credential call new → ⊥
+not_spent s old new credential call none (inl number) = let left = none.numbers in omega (arith, number, left)
+not_spent s old new credential call none (inr finds) =
+    none.room new.number (let fresh = finds.fresh in let rising = finds.rising in omega (arith, fresh, rising))
+    (omega arith) finds.lacks
+
 module _ (s : Serving) (old new : Standing) (bytes : List ℕ) (none : HasNoCause s old new) where
   with_rules : (xid : ℕ) (credential : Credential) (call : types.Call)
       → IsTransactionReply s old xid credential call bytes new
@@ -237,7 +247,8 @@ module _ (s : Serving) (old new : Standing) (bytes : List ℕ) (none : HasNoCaus
       ⊎ (Stays s old new × (bytes ≡ refused xid SystemError))
   with_rules xid credential call (IsTransactionReply.Done reply taken told) = inl (reply, taken, told)
   with_rules xid credential call (IsTransactionReply.NoMemory stays told) = inr (stays, told)
-  with_rules xid credential call (IsTransactionReply.Spent stays spent told) = absurd (none.unspent spent)
+  with_rules xid credential call (IsTransactionReply.Spent stays is told) =
+      absurd (not_spent s old new credential call none is.spent)
   with_rules xid credential call (IsTransactionReply.Failed stays failed told) =
       absurd (not_failed s old new none failed)
   with_rules xid credential call (IsTransactionReply.Unsettled reply taken broken waits told) =

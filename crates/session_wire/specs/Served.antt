@@ -26,12 +26,15 @@ use Rattle.rpc.specs.Refused.{accepted, refused}
 use Rattle.nfs_results.specs.Results.{result_bytes}
 
 -- The boot number and the moment of all calls of a stream, and of the device under it whether its call of a
--- number failed, and whether it was a write or a barrier that did, the first of them being call 0.
+-- number failed, and whether it was a write or a barrier that did, the first of them being call 0. And of each
+-- message that found no room for its change, how many log positions that takes, under the number that the next
+-- transaction may have behind the message: the contract of a server ties it to the change.
 pub record Serving : Type 0 where
   pub boot : ℕ
   pub moment : Moment
   pub failed : ℕ → Bool
   pub lost : ℕ → Bool
+  pub added : ℕ → ℕ
 
 -- How a stream stands between two messages: the tree so far, the least number that the next transaction may
 -- have, how many places and log positions were given out, the device's clock, which is the count of its calls
@@ -105,10 +108,39 @@ HasFailed s old new = FailsWithin s old.clock new.clock ⊎ (old.is_broken ≡ t
 abbrev pub HasBroken : Serving → Standing → Standing → Type 0
 HasBroken s old new = LosesWithin s old.clock new.clock ⊎ (old.is_broken ≡ true)
 
--- no number of a transaction is left, no place, or too few log positions for the most that a transaction
--- changes
-abbrev pub IsSpent : Standing → Type 0
-IsSpent at = (2 ^ 64 ≤ at.number) ⊎ (2 ^ 64 ≤ at.places + 1) ⊎ (2 ^ 64 ≤ at.positions + CHANGED_BLOCKS)
+-- too few log positions are left for so many blocks: for one at least, and for no more than a transaction may change
+pub record LacksPositions (at : Standing) (added : ℕ) : Type 0 where
+  pub some : 0 < added
+  pub few : added ≤ CHANGED_BLOCKS
+  pub none : 2 ^ 64 ≤ at.positions + added
+
+-- no place is left for a change of so many blocks, or too few log positions
+abbrev pub LacksRoom : Standing → ℕ → Type 0
+LacksRoom at added = (2 ^ 64 ≤ at.places + 1) ⊎ LacksPositions at added
+
+-- There was no room for the change of the call: for that of a step of the sequential server from the tree, in a
+-- transaction whose number no earlier one has. The step wasn't made.
+pub record FindsNoRoom (s : Serving) (old : Standing) (credential : Credential) (call : types.Call)
+    (new : Standing) : Type 0 where
+  pub number : ℕ
+  pub fresh : old.number ≤ number
+  pub rising : number < new.number
+  pub reply : Reply
+  pub tree : Tree
+  pub step : step old.tree (record {
+    credential = credential;
+    moment = s.moment;
+    boot = s.boot;
+    transaction = number;
+  }) call reply tree
+  pub lacks : LacksRoom new (s.added new.number)
+
+-- Of a store that wasn't broken before the message, no number of a transaction is left, or no room for the change of
+-- the call.
+pub record IsSpent (s : Serving) (old : Standing) (credential : Credential) (call : types.Call)
+    (new : Standing) : Type 0 where
+  pub sound : old.is_broken ≡ false
+  pub spent : (2 ^ 64 ≤ new.number) ⊎ FindsNoRoom s old credential call new
 
 -- a procedure's reply behind the accepted header
 abbrev pub done : ℕ → ProgramReply → List ℕ
@@ -119,15 +151,16 @@ abbrev pub nfs_done : ℕ → Reply → List ℕ
 nfs_done xid reply = done xid (program_replies.Nfs reply)
 
 -- What a call that begins a transaction is answered: the reply of its step. Or it made no step and is told why:
--- memory was refused, a counter is spent, or a device call failed. A write or a barrier may also fail after its
--- step, where the answer had to wait until what it changed is stable.
+-- memory was refused, a counter is spent for this very call, or a device call failed. A write or a barrier may also
+-- fail after its step, where the answer had to wait until what it changed is stable.
 pub data IsTransactionReply (s : Serving) (old : Standing) (xid : ℕ) (credential : Credential)
     (call : types.Call) (bytes : List ℕ) (new : Standing) : Type 0 where
   Done : (reply : Reply) → Steps s old credential call reply new → bytes ≡ nfs_done xid reply
       → IsTransactionReply s old xid credential call bytes new
   NoMemory : Stays s old new → bytes ≡ refused xid SystemError
       → IsTransactionReply s old xid credential call bytes new
-  Spent : Stays s old new → IsSpent new → bytes ≡ nfs_done xid (model.refused status.ServerFault call)
+  Spent : Stays s old new → IsSpent s old credential call new
+      → bytes ≡ nfs_done xid (model.refused status.ServerFault call)
       → IsTransactionReply s old xid credential call bytes new
   Failed : Stays s old new → HasFailed s old new → bytes ≡ nfs_done xid (model.refused status.Io call)
       → IsTransactionReply s old xid credential call bytes new
@@ -220,9 +253,10 @@ IsDoneOrLacking s old call bytes new = IsDone s old call bytes new ⊎ LacksMemo
 abbrev pub done_but_for_memory : Serving → Standing → List (List ℕ) → List (List ℕ) → Standing → Type 0
 done_but_for_memory s old messages replies new = streamed (IsDoneOrLacking s) old messages replies new
 
--- no device call failed in the time of these messages, the store isn't broken before them, and behind them no
--- counter is spent
+-- No device call failed in the time of these messages, the store isn't broken before them, and behind them a number
+-- is left, a place, and log positions for the change of each of them.
 pub record HasNoCause (s : Serving) (old new : Standing) : Type 0 where
   pub whole : old.is_broken ≡ false
   pub none_fails : FailsWithin s old.clock new.clock → ⊥
-  pub unspent : IsSpent new → ⊥
+  pub numbers : new.number < 2 ^ 64
+  pub room : (number : ℕ) → old.number < number → number ≤ new.number → LacksRoom new (s.added number) → ⊥

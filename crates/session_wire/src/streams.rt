@@ -50,9 +50,9 @@ pub fn what_is_done_is_served()
         → all_done s old messages replies new → served s old messages replies new }
 {}
 
-/// Where no device call failed in the time of the stream, the store isn't broken before it, and no counter is
-/// spent behind it, nothing fails but for want of memory: each call but NULL gets the reply of its step, each
-/// other its plain reply, or a system error where memory was refused.
+/// Where no device call failed in the time of the stream, the store isn't broken before it, and behind it a number is
+/// left, a place, and log positions for the change of each message, nothing fails but for want of memory: each call
+/// but NULL gets the reply of its step, each other its plain reply, or a system error where memory was refused.
 pub fn without_a_cause_nothing_fails()
     ensures { (s : Serving) (old new : Standing) (messages replies : List (List ℕ))
         → served s old messages replies new → HasNoCause s old new

@@ -33,7 +33,7 @@ use Rattle.store_promise.specs.declared.events.Step.{Step}
 use Rattle.store_promise.specs.declared.events.Step.TheVariants as step
 use Rattle.store_runs.specs.AtWork.{IsCoreAtWork, fetches_in, fetches_of}
 use Rattle.store.specs.Calling.{IsBegunFor, GoesTo, HasAnswered, HasStepped, HasWaited, IsCalling, IsOpenAt, IsOpenWith}
-use Rattle.store.specs.Calling.{IsSoFar}
+use Rattle.store.specs.Calling.{IsAfter, IsSoFar}
 use Rattle.store.specs.Calling.{LeavesFiles, Outset, StandsWith, Tells}
 use Rattle.store_images.specs.Further.{LeavesOpen, RunsOn}
 use Rattle.store_images.specs.Opening.{Opened, store_of}
@@ -54,7 +54,7 @@ use Rattle.store_workers.specs.declared.workers.parts.Phase as phases
 use Rattle.store_workers.specs.declared.workers.parts.Phase.TheVariants as Phase
 use Rattle.store_workers.specs.declared.workers.parts.State.{State}
 use Rattle.store_workers.specs.declared.workers.parts.Work.{Work}
-use Rattle.store.proofs.CallStages.{IsAfter, begun_then, broken_after, comes_then, so_far_still, tells_still}
+use Rattle.store.proofs.CallStages.{begun_then, broken_after, comes_then, so_far_still, tells_still}
 use Rattle.store.proofs.CallSteps.{open_of, runs_of, setting_of}
 use Rattle.store.proofs.DrivenAlone.{starts_alone}
 use Rattle.store_runs.proofs.GoingOn.{still_at_work}

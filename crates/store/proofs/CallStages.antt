@@ -5,7 +5,7 @@ use Rattle.std.proofs.Common.{Bool, true, false, ◌||◌, if◌then◌else◌, 
 use Rattle.std.proofs.Common.{Result, Ok, Err}
 use Rattle.std.proofs.Common.{List, [], ◌∷◌, ◌++◌, length, map, option_to_list, zero, suc, slice_get}
 use Rattle.std.proofs.lemmas.Bool.Decides.{nat_tests}
-use Rattle.limits.specs.declared.TheConstants.{CHANGED_BLOCKS, MOST_KEPT_COMMITS}
+use Rattle.limits.specs.declared.TheConstants.{MOST_KEPT_COMMITS}
 use Rattle.disk.specs.declared.block.BlockNo.{BlockNo}
 use Rattle.model.specs.Entry.{Entry}
 use Rattle.model.specs.Calls.{begins_transaction, is_answered_stable}
@@ -24,7 +24,7 @@ use Rattle.store_promise.specs.Aims.{is_barred}
 use Rattle.store_promise.specs.declared.aims.Aim.{Aim}
 use Rattle.store_promise.specs.declared.aims.Aim.TheVariants as aim
 use Rattle.store_promise.specs.Progress.{stage_after}
-use Rattle.store_promise.specs.Schedule.{begun_after, HasNumbers, IsClaimWish, IsCommitting, IsStepBeside}
+use Rattle.store_promise.specs.Schedule.{begun_after, IsClaimWish, IsCommitting, IsStepBeside}
 use Rattle.store_promise.specs.Schedule.{IsStepOfCalled}
 use Rattle.store_promise.specs.Schedule.{IsStepOfWork, IsWish, Setting, Told, wish_of}
 use Rattle.store_promise.specs.Transcript.{Transcript, committed_at, entry_of}
@@ -43,14 +43,14 @@ use Rattle.store_promise.specs.declared.events.Wish.TheVariants as wish
 use Rattle.store_promise.specs.declared.transcript.Answer.{Answer}
 use Rattle.store_promise.specs.declared.transcript.Committed.{Committed}
 use Rattle.store_runs.specs.AtWork.{has_committed}
-use Rattle.store.specs.Calling.{ComesTo, HasCause, IsBegunFor, IsMadeFor, IsRefusal, IsSoFar, IsSpent}
-use Rattle.store.specs.Calling.{IsOfNull}
+use Rattle.store.specs.Calling.{ComesTo, FindsNoNumber, FindsNoRoom, HasCause, IsAfter, IsBegunFor, IsMadeFor}
+use Rattle.store.specs.Calling.{IsOfNull, IsRefusal, IsSoFar}
 use Rattle.store.specs.Calling.{Outset, StandsWith, Tells}
 use Rattle.store.specs.Driving.{waits_for_log}
-use Rattle.store_images.specs.Further.{IsFurther}
 use Rattle.store_images.specs.Opening.{Opened}
 use Rattle.store_images.specs.Settling.{HasBroken, HasFailed}
 use Rattle.store_images.proofs.Lost.{broken_failed, broken_then}
+use Rattle.store_images.proofs.StillOpen.{further_then}
 use Rattle.store_promise.specs.Openings.{IsLater}
 use Rattle.store_promise.proofs.Later.{past_more}
 
@@ -92,11 +92,13 @@ reply_is entries e place a at is = is.told ∙ ap (λ (c : Committed). verdict.R
 
 -- ---- what a later store still has
 
--- a store later on: its device's past stays, no failure was taken back, and it has gone further
-pub record IsAfter (now new : Opened) : Type 0 where
-  pub past : IsLater now.device new.device
-  pub failures : now.device.failures ≤ new.device.failures
-  pub further : IsFurther now.core new.core
+-- a store that is later than a later one
+later_on : (a b c : Opened) → IsAfter a b → IsAfter b c → IsAfter a c
+later_on a b c one two = record {
+  past = past_more a.device b.device c.device one.past two.past;
+  failures = let x = one.failures in let y = two.failures in omega (arith, x, y);
+  further = further_then a.core b.core c.core one.further two.further;
+}
 
 module _ (o : Outset) (now new : Opened) (after : IsAfter now new) where
   pub failed_then : HasFailed o.store.core.log o.store.device now.device
@@ -108,19 +110,30 @@ module _ (o : Outset) (now new : Opened) (after : IsAfter now new) where
       → HasBroken o.store.core.log o.store.device new.device
   broken_after = broken_then o.store.core.log o.store.device now.device new.device after.past
 
-  spent_then : IsSpent now.core → IsSpent new.core
-  spent_then (inl begun) = inl (let more = after.further.begun in omega (arith, begun, more))
-  spent_then (inr none) = inr (λ left.
-      let place = left.0 in
-      let positions = left.1 in
-      let more = after.further.places in
-      let longer = after.further.positions in
-      none (omega (arith, place, more), omega (arith, positions, longer)))
+  no_room_then : (added : ℕ) → FindsNoRoom o now added → FindsNoRoom o new added
+  no_room_then added finds = record {
+    at = finds.at;
+    since = finds.since;
+    until = later_on finds.at now new finds.until after;
+    sound = finds.sound;
+    done = finds.done;
+    planned = finds.planned;
+    none = finds.none;
+    lacked = finds.lacked;
+  }
 
-  pub cause_then : (why : Cause) → HasCause o now why → HasCause o new why
-  cause_then cause.Io has = failed_then has
-  cause_then cause.Spent has = spent_then has
-  cause_then cause.NoMemory has = tt
+  spent_then : (added : ℕ) → FindsNoNumber o now ⊎ FindsNoRoom o now added
+      → FindsNoNumber o new ⊎ FindsNoRoom o new added
+  spent_then added (inl finds) = inl (record {
+    sound = finds.sound;
+    none = let begun = finds.none in let more = after.further.begun in omega (arith, begun, more);
+  })
+  spent_then added (inr finds) = inr (no_room_then added finds)
+
+  pub cause_then : (added : ℕ) (why : Cause) → HasCause o now added why → HasCause o new added why
+  cause_then added cause.Io has = failed_then has
+  cause_then added cause.Spent has = spent_then added has
+  cause_then added cause.NoMemory has = tt
 
   -- the transaction of the call is still its own
   pub begun_then : (number : ℕ) → IsBegunFor o now number → IsBegunFor o new number
@@ -157,7 +170,8 @@ module _ (o : Outset) (now new : Opened) (after : IsAfter now new) where
     let failed = has.2 in let more = after.failures in
         omega (arith, failed, more),
   )
-  stands_then same entry (Refused begun why) has = (has.0, begun_then begun.number has.1, cause_then why has.2)
+  stands_then same entry (Refused begun why) has =
+      (has.0, begun_then begun.number has.1, has.2, cause_then has.2 why has.3)
   stands_then same entry (Again begun wished) has = (has.0, begun_then begun.number has.1)
   stands_then same entry (Waiting place) has = has
 
@@ -183,7 +197,8 @@ module _ (o : Outset) (now new : Opened) (after : IsAfter now new) where
     begins = refused.begins;
     why = refused.why;
     told_is = refused.told_is;
-    because = cause_then refused.why refused.because;
+    added = refused.added;
+    because = cause_then refused.added refused.why refused.because;
   })
   tells_still none_begun same (Some entry) told (inl reply) = inl (record {
     told_is = reply.told_is;
@@ -205,6 +220,10 @@ or_true : (a b : Bool) → a ≡ false → (a || b) ≡ true → b ≡ true
 or_true false b is some = some
 or_true true b is some = cc
 
+not_true : (b : Bool) → (b ≡ true → ⊥) → b ≡ false
+not_true true isnt = absurd (isnt refl)
+not_true false isnt = refl
+
 le_of : (a b : ℕ) → nat_le a b ≡ true → a ≤ b
 le_of a b is = grind (arith, nat_tests)
 
@@ -214,8 +233,7 @@ pub record IsStepFrom (o : Outset) (now : Opened) (s : Setting) (t : Told) : Typ
   pub begun_is : t.begun ≡ now.core.begun
   pub more_begun : o.store.core.begun ≤ now.core.begun
   pub settled_is : settled_told t.log ≡ settled_place now.core.log
-  pub numbers : (blocks : List BlockNo) → length blocks ≤ CHANGED_BLOCKS → (HasNumbers s t.log blocks → ⊥)
-      → IsSpent now.core
+  pub still_broken : o.store.core.log.broken ≡ true → now.core.log.broken ≡ true
   pub past : IsLater o.store.device now.device
   pub broke : now.core.log.broken ≡ true → HasBroken o.store.core.log o.store.device now.device
 
@@ -236,10 +254,13 @@ module _ (o : Outset) (now new : Opened) (s : Setting) (t : Told) (from : IsStep
 
   -- why no transaction was begun
   begin_cause : (served : Bool) (why : BeginFault) → IsStepOfCalled t served (step.Begun (Err why))
-      → HasCause o new (cause_of why)
+      → HasCause o new 0 (cause_of why)
   begin_cause true begin_fault.Broken may = broke (sym from.broken_is ∙ may)
-  begin_cause true begin_fault.Spent may =
-      cause_then o now new after cause.Spent (inl (subst (λ (n : ℕ). 2 ^ 64 ≤ n + 1) from.begun_is may.1))
+  begin_cause true begin_fault.Spent may = cause_then o now new after 0 cause.Spent (inl (record {
+    sound = not_true o.store.core.log.broken (λ is.
+        true≢false (sym (from.still_broken is) ∙ sym from.broken_is ∙ may.0));
+    none = subst (λ (n : ℕ). 2 ^ 64 ≤ n + 1) from.begun_is may.1;
+  }))
   begin_cause true begin_fault.NoMemory may = tt
   begin_cause false why may = absurd (none may)
     where
@@ -317,7 +338,7 @@ module _ (o : Outset) (now new : Opened) (s : Setting) (t : Told) (from : IsStep
     wanted_ok begun taken wish.Busy none inside = off_ok begun (aim_of taken) none
     wanted_ok begun taken wish.Loading none inside = off_ok begun (aim_of taken) none
     wanted_ok begun taken wish.Outside none inside = absurd (inside refl)
-    wanted_ok begun taken wish.NoMemory none inside = (none.0, none.1, tt)
+    wanted_ok begun taken wish.NoMemory none inside = (none.0, none.1, 0, tt)
 
     claimed_ok : (begun : Begun) (block : BlockNo) (answer : Wish) → NoneIn begun
         → (answer ≡ wish.Outside → ⊥) → StandsWith o entry new (after_claimed begun block answer)
@@ -326,7 +347,7 @@ module _ (o : Outset) (now new : Opened) (s : Setting) (t : Told) (from : IsStep
     claimed_ok begun block wish.Busy none inside = off_ok begun (aim.Claim block) none
     claimed_ok begun block wish.Loading none inside = off_ok begun (aim.Claim block) none
     claimed_ok begun block wish.Outside none inside = absurd (inside refl)
-    claimed_ok begun block wish.NoMemory none inside = (none.0, none.1, tt)
+    claimed_ok begun block wish.NoMemory none inside = (none.0, none.1, 0, tt)
 
     never_outside : (begun : Begun) (wished : Wished) (answer : Wish) → IsWish t 0 begun wished answer
         → answer ≡ wish.Outside → ⊥
@@ -337,17 +358,22 @@ module _ (o : Outset) (now new : Opened) (s : Setting) (t : Told) (from : IsStep
         → answer ≡ wish.Outside → ⊥
     never_claimed_outside begun block answer is same = subst (IsClaimWish t 0 begun block) same is
 
+    -- where the numbers are spent, the call says for which change
+    abbrev pub SaysSpent : Type 0
+    SaysSpent = (added : ℕ) × HasCause o new added cause.Spent
+
     commit_ok : (begun : Begun) (blocks : List BlockNo) (answer : Committing) → NoneIn begun
-        → has_committed (Some (step.Commit blocks answer)) ≡ false → length blocks ≤ CHANGED_BLOCKS
-        → IsCommitting s t.log blocks answer → StageOk (after_commit stable begun answer)
-    commit_ok begun blocks (committing.Committed place) none not few may = absurd (true≢false not)
-    commit_ok begun blocks committing.Full none not few may = none
-    commit_ok begun blocks committing.Foreign none not few may = none
-    commit_ok begun blocks committing.NoMemory none not few may = (none.0, none.1, tt)
-    commit_ok begun blocks committing.Broken none not few may =
-        (none.0, none.1, broke (sym from.broken_is ∙ may))
-    commit_ok begun blocks committing.Spent none not few may =
-        (none.0, none.1, cause_then o now new after cause.Spent (from.numbers blocks few may.1))
+        → has_committed (Some (step.Commit blocks answer)) ≡ false
+        → IsCommitting s t.log blocks answer → (answer ≡ committing.Spent → SaysSpent)
+        → StageOk (after_commit stable begun answer)
+    commit_ok begun blocks (committing.Committed place) none not may spent = absurd (true≢false not)
+    commit_ok begun blocks committing.Full none not may spent = none
+    commit_ok begun blocks committing.Foreign none not may spent = none
+    commit_ok begun blocks committing.NoMemory none not may spent = (none.0, none.1, 0, tt)
+    commit_ok begun blocks committing.Broken none not may spent =
+        (none.0, none.1, 0, broke (sym from.broken_is ∙ may))
+    commit_ok begun blocks committing.Spent none not may spent =
+        let says = spent refl in (none.0, none.1, says.0, says.1)
 
     waits_ok : (settled : Bool) (place : ℕ) → StandsWith o entry now (Waiting place)
         → StageOk (if settled then None else Some (Waiting place))
@@ -362,22 +388,25 @@ module _ (o : Outset) (now new : Opened) (s : Setting) (t : Told) (from : IsStep
     called_ok known _ none may then_ = tt
 
     planning_ok : (left : List Aim) (begun : Begun) (made : Step) → has_committed (Some made) ≡ false
-        → NoneIn begun → IsStepBeside left s t 0 begun made → StageOk (after_planning stable begun made)
-    planning_ok [] begun (step.Wanted addr mode answer) not none may =
+        → NoneIn begun → IsStepBeside left s t 0 begun made
+        → ((blocks : List BlockNo) → made ≡ step.Commit blocks committing.Spent → SaysSpent)
+        → StageOk (after_planning stable begun made)
+    planning_ok [] begun (step.Wanted addr mode answer) not none may spent =
         wanted_ok begun (record { addr = addr; mode = mode }) answer none
         (never_outside begun (wish_of addr mode) answer may.1)
-    planning_ok [] begun (step.Claimed block answer) not none may =
+    planning_ok [] begun (step.Claimed block answer) not none may spent =
         claimed_ok begun block answer none (never_claimed_outside begun block answer may.1)
-    planning_ok [] begun (step.Commit blocks answer) not none may =
-        commit_ok begun blocks answer none not may.0.few may.1
-    planning_ok [] begun (step.Ended why) not none may = tt
-    planning_ok [] begun _ not none may = none
-    planning_ok (next ∷ later) begun (step.Wanted addr mode answer) not none may =
+    planning_ok [] begun (step.Commit blocks answer) not none may spent =
+        commit_ok begun blocks answer none not may.1
+        (λ is. spent blocks (ap (λ (a : Committing). step.Commit blocks a) is))
+    planning_ok [] begun (step.Ended why) not none may spent = tt
+    planning_ok [] begun _ not none may spent = none
+    planning_ok (next ∷ later) begun (step.Wanted addr mode answer) not none may spent =
         wanted_ok begun (record { addr = addr; mode = mode }) answer none
         (never_outside begun (wish_of addr mode) answer may.1)
-    planning_ok (next ∷ later) begun (step.Claimed block answer) not none may =
+    planning_ok (next ∷ later) begun (step.Claimed block answer) not none may spent =
         claimed_ok begun block answer none (never_claimed_outside begun block answer may.1)
-    planning_ok (next ∷ later) begun _ not none may = absurd may
+    planning_ok (next ∷ later) begun _ not none may spent = absurd may
 
     waiting_ok : (place : ℕ) (made : Step) → StandsWith o entry now (Waiting place)
         → StageOk (after_waiting broken place made)
@@ -387,25 +416,27 @@ module _ (o : Outset) (now new : Opened) (s : Setting) (t : Told) (from : IsStep
     pub next_ok : (stage : Stage) (made : Step) → has_committed (Some made) ≡ false
         → StandsWith o entry now stage
         → IsStepOfWork s t 0 (At o.asked stage) (Some made) → new.core.begun ≡ begun_after now.core.begun made
+        → ((blocks : List BlockNo) → made ≡ step.Commit blocks committing.Spent → SaysSpent)
         → StageOk (stage_after broken stable made stage)
-    next_ok (Called known) made not stands may then_ = called_ok known made stands.0 may then_
-    next_ok (Planning begun) made not stands may then_ =
-        planning_ok begun.left begun made not (stands.0, begun_then o now new after begun.number stands.1) may
-    next_ok (Reading begun taken) made not stands may then_ = absurd (some_none made may)
+    next_ok (Called known) made not stands may then_ spent = called_ok known made stands.0 may then_
+    next_ok (Planning begun) made not stands may then_ spent =
+        planning_ok begun.left begun made not (stands.0, begun_then o now new after begun.number stands.1) may spent
+    next_ok (Reading begun taken) made not stands may then_ spent = absurd (some_none made may)
       where
         some_none : (made : Step) → Some made ≡ None → ⊥
         some_none made same = cc
-    next_ok (Read begun taken true) made not stands may then_ =
+    next_ok (Read begun taken true) made not stands may then_ spent =
         (stands.0, begun_then o now new after begun.number stands.1)
-    next_ok (Read begun taken false) made not stands may then_ = (
+    next_ok (Read begun taken false) made not stands may then_ spent = (
       stands.0,
       begun_then o now new after begun.number stands.1,
-      cause_then o now new after cause.Io (inr stands.2),
+      0,
+      cause_then o now new after 0 cause.Io (inr stands.2),
     )
-    next_ok (Refused begun why) made not stands may then_ = tt
-    next_ok (Again begun wished) made not stands may then_ =
+    next_ok (Refused begun why) made not stands may then_ spent = tt
+    next_ok (Again begun wished) made not stands may then_ spent =
         (stands.0, λ unserved. absurd (true≢false (sym stands.1.begins ∙ unserved)))
-    next_ok (Waiting place) made not stands may then_ = waiting_ok place made stands
+    next_ok (Waiting place) made not stands may then_ spent = waiting_ok place made stands
 
     pub so_far_then : (next : Option Stage) → StageOk next → IsSoFar o entry new (going_on o.asked next)
     so_far_then None ok = tt
@@ -436,6 +467,7 @@ module _ (o : Outset) (now new : Opened) (s : Setting) (t : Told) (from : IsStep
           begins = is_served (begins_transaction o.asked.call) (Err why) refl may;
           why = cause_of why;
           told_is = told.1;
+          added = 0;
           because = begin_cause (begins_transaction o.asked.call) why may;
         }))
     called_tells known (step.Begun (Ok number)) t2 a stands same may then_ told = absurd told
@@ -448,7 +480,13 @@ module _ (o : Outset) (now new : Opened) (s : Setting) (t : Told) (from : IsStep
     planning_tells begun (step.Commit blocks (committing.Committed place)) t2 a not stands told =
         absurd (true≢false not)
     planning_tells begun (step.Ended ending.NoMemory) t2 a not stands told = none_tells a stands.0
-        (inr (record { begins = stands.1.begins; why = cause.NoMemory; told_is = told.1; because = tt }))
+        (inr (record {
+          begins = stands.1.begins;
+          why = cause.NoMemory;
+          told_is = told.1;
+          added = 0;
+          because = tt;
+        }))
     planning_tells begun (step.Ended ending.Refused) t2 a not stands told = absurd told
     planning_tells begun (step.Ended ending.Again) t2 a not stands told = absurd told
     planning_tells begun (step.Commit blocks committing.Full) t2 a not stands told = absurd told
@@ -466,7 +504,8 @@ module _ (o : Outset) (now new : Opened) (s : Setting) (t : Told) (from : IsStep
           begins = stands.1.begins;
           why = why;
           told_is = told.1;
-          because = cause_then o now new after why stands.2;
+          added = stands.2;
+          because = cause_then o now new after stands.2 why stands.3;
         }))
     refused_tells begun why (step.Ended ending.NoMemory) t2 a stands told = absurd told
     refused_tells begun why (step.Ended ending.Again) t2 a stands told = absurd told

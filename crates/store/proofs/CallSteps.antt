@@ -14,11 +14,12 @@ use Rattle.model.specs.Entry.{Entry}
 use Rattle.model.specs.Calls.{begins_transaction, is_answered_stable}
 use Rattle.procedures.specs.Step as procedures
 use Rattle.model.specs.Tree.{Tree}
+use Rattle.layout.specs.declared.geometry.Geometry.{Geometry}
 use Rattle.txn_law.specs.Fetch.{Fetch}
+use Rattle.txn_law.specs.Group.{blocks_of}
 use Rattle.wal_law.specs.Calls.{idle}
 use Rattle.wal_law.specs.Grows.{GrowsBy}
-use Rattle.wal_law.proofs.Tail.{few_new}
-use Rattle.wal_law.specs.Log.{Log, installed_place, place_before, settled_place, tail_blocks}
+use Rattle.wal_law.specs.Log.{Log, added_blocks, installed_place, place_before, settled_place}
 use Rattle.wal_law.specs.declared.change.LogChange.{LogChange}
 use Rattle.wal_law.specs.declared.outcomes.Seq.{Seq}
 use Rattle.store_promise.specs.LogTold.{added_told}
@@ -33,6 +34,7 @@ use Rattle.store_promise.specs.ToldOf.{log_told}
 use Rattle.store_promise.specs.Verdicts.{HasVerdict, IsReplyAt}
 use Rattle.store_promise.specs.declared.answers.CallAnswer.{CallAnswer}
 use Rattle.store_promise.specs.declared.answers.Entry as ready
+use Rattle.store_promise.specs.declared.events.Cause.TheVariants as cause
 use Rattle.store_promise.specs.declared.events.Committing.TheVariants as committing
 use Rattle.store_promise.specs.declared.events.Event.TheVariants as event
 use Rattle.store_promise.specs.declared.events.Step.{Step}
@@ -41,7 +43,8 @@ use Rattle.store_promise.specs.declared.transcript.Answer.{Answer}
 use Rattle.store_promise.proofs.Later.{past_none}
 use Rattle.store_promise.proofs.ToldLog.{settled_is}
 use Rattle.store_runs.specs.AtWork.{GoesOnWith, IsCoreAtWork, entry_by, fetches_of, has_committed, with_core}
-use Rattle.store.specs.Calling.{ComesTo, HasStepped, IsCalling, IsMadeFor, IsOpenAt, IsSoFar, Outset}
+use Rattle.store.specs.Calling.{ComesTo, HasCause, HasStepped, IsAfter, IsCalling, IsMadeFor, IsOpenAt, IsSoFar}
+use Rattle.store.specs.Calling.{Outset}
 use Rattle.store.specs.Calling.{StandsWith, Tells}
 use Rattle.store_images.specs.Further.{IsFurther, end_of}
 use Rattle.store_images.specs.Opening.{Opened}
@@ -61,7 +64,8 @@ use Rattle.store_workers.specs.declared.workers.parts.Phase as phases
 use Rattle.store_workers.specs.declared.workers.parts.Phase.TheVariants as Phase
 use Rattle.store_workers.specs.declared.workers.parts.State.{State}
 use Rattle.store_runs.proofs.AtWorkStays.{some_of}
-use Rattle.store.proofs.CallStages.{IsAfter, IsStepFrom, begun_then as number_then, comes_then, made_so_far}
+use Rattle.store.proofs.RefusedChanges.{finds, is_spent, no_room}
+use Rattle.store.proofs.CallStages.{IsStepFrom, begun_then as number_then, comes_then, made_so_far}
 use Rattle.store.proofs.CallStages.{made_tells}
 use Rattle.store.proofs.CallStages.{next_ok, noted, same_entries, stands_then}
 use Rattle.store.proofs.CallStages.{so_far_then, tells_of, told_by}
@@ -304,11 +308,7 @@ module _ (o : Outset) (now : Opened) (worker : State) (new : Side) (made : Optio
     begun_is = refl;
     more_begun = calling.further.begun;
     settled_is = settled_is 0 now.core.log idle idle calling.opened.since.over.lawful;
-    numbers = λ blocks few none. inr (λ left. none (record {
-      place = left.0;
-      positions = let within = left.1 in let lacked = few_new (tail_blocks now.core.log) blocks in
-          omega (arith, few, lacked, within);
-    }));
+    still_broken = calling.further.broken;
     past = calling.past;
     broke = calling.broken;
   }
@@ -317,7 +317,8 @@ module _ (o : Outset) (now : Opened) (worker : State) (new : Side) (made : Optio
       (tells : TellsStep now.boot 0 entries (side worker now.core) made new)
       (told_then : IsTold s (told_after t (event.Work 0) made) (with_core store new.core))
       (at_work : IsCoreAtWork (told new.worker) new.core)
-      (goes : GoesOn worker.phase (side worker now.core) made new) where
+      (goes : GoesOn worker.phase (side worker now.core) made new)
+      (one_geometry : (g h : Geometry) → g.blocks ≡ h.blocks → g.inodes ≡ h.inodes → g ≡ h) where
     progress_is : progress_of new.worker ≡ progress_after now.core.log.broken made (progress_of worker)
     progress_is = tells.progress
 
@@ -371,6 +372,15 @@ module _ (o : Outset) (now : Opened) (worker : State) (new : Side) (made : Optio
       so_far_none (At job (how.Again begun wished)) has may = absurd may
       so_far_none (At job (how.Waiting place)) has may = absurd may
 
+      -- the change that was refused since the numbers are spent
+      spent_by : (blocks : List BlockNo) → made ≡ Some (step.Commit blocks committing.Spent)
+          → (added : ℕ) × HasCause o later added cause.Spent
+      spent_by blocks is =
+          let none = finds (side worker now.core) new made goes (ap is_spent is) in (
+            added_blocks now.core.log (blocks_of none.done.written),
+            inr (no_room o now worker calling one_geometry none later after),
+          )
+
       -- how far it is then
       so_far_by : (m : Option Step) → made ≡ m → (p : Progress) → has_committed m ≡ false
           → IsSoFar o calling.entry now p → IsStepOfWork s t 0 p m
@@ -383,7 +393,8 @@ module _ (o : Outset) (now : Opened) (worker : State) (new : Side) (made : Optio
           (so_far_then o now later s t from after calling.entry
           (how.stage_after now.core.log.broken (is_answered_stable o.asked.call) one stage)
           (next_ok o now later s t from after calling.entry stage one not has.1
-          (subst (λ (j : Job). IsStepOfWork s t 0 (At j stage) (Some one)) has.0 may) (counted_by one is)))
+          (subst (λ (j : Job). IsStepOfWork s t 0 (At j stage) (Some one)) has.0 may) (counted_by one is)
+          (λ blocks at. spent_by blocks (is ∙ ap (λ (x : Step). Some x) at))))
 
       calling_then : IsCalling o later (told new.worker)
       calling_then = record {

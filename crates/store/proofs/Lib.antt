@@ -6,3 +6,4 @@ pub mod CallWaits
 pub mod Driven
 pub mod DrivenAlone
 pub mod LogRoom
+pub mod RefusedChanges

@@ -1,6 +1,7 @@
 -- One call of one thread: what it begins from, what holds while it is under way, and what it answers.
 use Rattle.std.specs.Prelude.{◌≡◌, ℕ, ◌+◌, ◌^◌, ◌<◌, ◌≤◌, ◌⊎◌, true, false, Option, Some, None, IfSome, is_some}
 use Rattle.std.specs.Prelude.{Bool, List, [], ◌++◌, All, length, option_to_list}
+use Rattle.std.proofs.Common.{inl, inr}
 use Rattle.limits.specs.declared.TheConstants.{CHANGED_BLOCKS, MOST_KEPT_COMMITS}
 use Rattle.disk.specs.Crash.{Image, IsCrashImage}
 use Rattle.disk.specs.Device.{Device}
@@ -14,14 +15,23 @@ use Rattle.nfs_types.specs.declared.ctx.Credential.{Credential}
 use Rattle.nfs_types.specs.declared.ctx.Moment.{Moment}
 use Rattle.nfs_types.specs.declared.status.Status.TheVariants as status
 use Rattle.nfs_types.specs.declared.reply.Reply.TheVariants.{Null}
+use Rattle.layout.specs.Stands.{Stands}
+use Rattle.inode.specs.Read.{AreAsRead}
+use Rattle.inode.specs.declared.snap.Snap.{Snap}
 use Rattle.txn_law.specs.Core.{CoreState}
 use Rattle.txn_law.specs.Fetch.{Fetch}
+use Rattle.txn_law.specs.Group.{blocks_of}
+use Rattle.txn_law.specs.Window.{with_objects}
 use Rattle.wal_law.specs.Calls.{idle}
-use Rattle.wal_law.specs.Log.{settled_place}
+use Rattle.wal_law.specs.Log.{added_blocks, settled_place}
+use Rattle.wal_law.specs.Room.{HasPlaces}
 use Rattle.store_promise.specs.History.{ctx_of}
-use Rattle.store_promise.specs.OpenSince.{HasKeptFiles, IsOpenSince, KeepsFiles, LeavesBeginning}
+use Rattle.store_promise.specs.OpenSince.{HasKeptFiles, IsOpenSince, KeepsFiles, LeavesBeginning, file_blocks}
 use Rattle.store_promise.specs.Openings.{IsLater, LeavesImages}
+use Rattle.procs.specs.Finished.{ChangesFew, EndsFrom}
+use Rattle.procs.specs.Outcome.{Outcome}
 use Rattle.procs.specs.SoundCalls.{SoundCall}
+use Rattle.procs.specs.Steps.{IsStepOf}
 use Rattle.store_promise.specs.Progress.{Begun, Job, Progress, Stage, At, Idle, Called, Planning, Reading, Read}
 use Rattle.store_promise.specs.Progress.{Refused, Again, Waiting, is_idle}
 use Rattle.store_promise.specs.Running.{IsFetchOver}
@@ -32,7 +42,7 @@ use Rattle.store_promise.specs.declared.answers.Verdict.TheVariants as verdict
 use Rattle.store_promise.specs.declared.events.Cause.{Cause}
 use Rattle.store_promise.specs.declared.events.Cause.TheVariants as cause
 use Rattle.store_runs.specs.AtWork.{IsCoreAtWork, fetches_of}
-use Rattle.store_images.specs.Further.{IsFurther, LeavesOpen, end_of}
+use Rattle.store_images.specs.Further.{IsFurther, LeavesOpen}
 use Rattle.store_images.specs.Opening.{Opened}
 use Rattle.store_images.specs.Settling.{HasBroken, HasFailed}
 use Rattle.store_images.specs.SettlingStops.{StayOpen}
@@ -63,6 +73,12 @@ pub record GoesTo (old new : Opened) : Type 0 where
   pub failures : old.device.failures ≤ new.device.failures
   pub further : IsFurther old.core new.core
   pub failed : new.core.log.broken ≡ true → HasBroken old.core.log old.device new.device
+
+-- a store later on: its device's past stays, no failure was taken back, and it has gone further
+pub record IsAfter (now new : Opened) : Type 0 where
+  pub past : IsLater now.device new.device
+  pub failures : now.device.failures ≤ new.device.failures
+  pub further : IsFurther now.core new.core
 
 -- ---- a call
 
@@ -101,17 +117,47 @@ ComesTo o now (Some entry) last = IsMadeFor o now entry last
 
 -- ---- why a call is refused
 
--- no transaction is left, or no place or too few log positions for what a transaction may change
-abbrev pub IsSpent : CoreState → Type 0
-IsSpent core = (2 ^ 64 ≤ core.begun + 1)
-    ⊎ ((core.log.places + 1 < 2 ^ 64) × (end_of core.log + CHANGED_BLOCKS < 2 ^ 64) → ⊥)
+-- What a plan of the call is done with, in a transaction of the call: what it has read is what the blocks have that
+-- stand for the files as they are. So its reply is that of a step of the sequential server from these files, and
+-- the blocks with what it writes stand for the tree that the step leads to. It changes no more blocks than a
+-- transaction may.
+pub record IsPlannedFor (o : Outset) (at : Opened) (done : Outcome) : Type 0 where
+  pub begun : Begun
+  pub begun_for : IsBegunFor o at begun.number
+  pub base : Image
+  pub open_so : IsOpenSince base at.device at.core idle idle at.boot o.first o.entries o.last
+  pub snap : Snap
+  pub ends : EndsFrom snap done
+  pub few : ChangesFew CHANGED_BLOCKS done
+  pub read : AreAsRead (file_blocks base at.core) done.read
+  pub is_step : IsStepOf snap.geometry (ctx_of o.store.boot o.asked begun) o.asked.call done
+  pub next : Tree
+  pub goes : procedures.step o.last (ctx_of o.store.boot o.asked begun) o.asked.call done.reply next
+  pub leaves : Stands snap.geometry (with_objects (file_blocks base at.core) done.written) next
 
--- the store was broken when the call began, or a device call failed since; the numbers are spent; or memory was
--- refused
-abbrev pub HasCause : Outset → Opened → Cause → Type 0
-HasCause o now cause.Io = HasFailed o.store.core.log o.store.device now.device
-HasCause o now cause.Spent = IsSpent now.core
-HasCause o now cause.NoMemory = Unit {0}
+-- The change of the call was refused, at a moment of the call at which the store wasn't broken: no place was left,
+-- or too few log positions for the blocks that it changes and that the tail of the log lacked. These are so many.
+pub record FindsNoRoom (o : Outset) (now : Opened) (added : ℕ) : Type 0 where
+  pub at : Opened
+  pub since : GoesTo o.store at
+  pub until : IsAfter at now
+  pub sound : at.core.log.broken ≡ false
+  pub done : Outcome
+  pub planned : IsPlannedFor o at done
+  pub none : HasPlaces at.core.log (blocks_of done.written) → ⊥
+  pub lacked : added ≡ added_blocks at.core.log (blocks_of done.written)
+
+-- no transaction was begun, of a store that wasn't broken: no number is left
+pub record FindsNoNumber (o : Outset) (now : Opened) : Type 0 where
+  pub sound : o.store.core.log.broken ≡ false
+  pub none : 2 ^ 64 ≤ now.core.begun + 1
+
+-- the store was broken when the call began, or a device call failed since; no number of a transaction is left, or
+-- no room for the change of this call, which lacks so many blocks of the log's tail; or memory was refused
+abbrev pub HasCause : Outset → Opened → ℕ → Cause → Type 0
+HasCause o now added cause.Io = HasFailed o.store.core.log o.store.device now.device
+HasCause o now added cause.Spent = FindsNoNumber o now ⊎ FindsNoRoom o now added
+HasCause o now added cause.NoMemory = Unit {0}
 
 -- ---- what it answers
 
@@ -140,12 +186,20 @@ pub record IsRefusal (o : Outset) (told : Verdict) (now : Opened) : Type 0 where
   pub begins : begins_transaction o.asked.call ≡ true
   pub why : Cause
   pub told_is : told ≡ refusal o.asked.call why
-  pub because : HasCause o now why
+  pub added : ℕ
+  pub because : HasCause o now added why
 
 -- by whether a procedure was committed
 abbrev pub Tells : Outset → Option Entry → Verdict → Opened → Type 0
 Tells o (Some entry) told now = IsReplyOf o entry told now ⊎ IsUnsettled o told now
 Tells o None told now = IsOfNull o told now ⊎ IsRefusal o told now
+
+-- how many log positions the change of a call takes that was refused, as its cause says
+abbrev pub added_in : (o : Outset) (entry : Option Entry) (told : Verdict) (now : Opened)
+    → Tells o entry told now → ℕ
+added_in o (Some entry) told now tells = 0
+added_in o None told now (inl null) = 0
+added_in o None told now (inr refused) = refused.added
 
 -- What each stop leaves since the call began, those within a device call included: some image, and each that
 -- is left is good, with the boot number and with the files after a beginning of these entries, in which is
@@ -194,7 +248,8 @@ StandsWith o entry now (Reading begun taken) = (entry ≡ None) × IsBegunFor o 
 StandsWith o entry now (Read begun taken true) = (entry ≡ None) × IsBegunFor o now begun.number
 StandsWith o entry now (Read begun taken false) = (entry ≡ None) × IsBegunFor o now begun.number
     × (o.store.device.failures < now.device.failures)
-StandsWith o entry now (Refused begun why) = (entry ≡ None) × IsBegunFor o now begun.number × HasCause o now why
+StandsWith o entry now (Refused begun why) = (entry ≡ None) × IsBegunFor o now begun.number
+    × (added : ℕ) × HasCause o now added why
 StandsWith o entry now (Again begun wished) = (entry ≡ None) × IsBegunFor o now begun.number
 StandsWith o entry now (Waiting place) = (place ≡ length o.entries + 1) × (is_some entry ≡ true)
     × (is_answered_stable o.asked.call ≡ true)

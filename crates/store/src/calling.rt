@@ -60,6 +60,7 @@ pub(crate) fn a_step_keeps_a_call_going()
         → IsCalling o now worker → GoesOn worker.phase (side worker now.core) made new
         → waits_for_log made ≡ true → begins_transaction o.asked.call ≡ true }
 {
+    layout::counts_make_one_geometry();
     store_promise::an_open_store_keeps_its_files();
     store_runs::a_core_at_work_stays_so();
     store_runs::a_worker_leaves_the_run_going();

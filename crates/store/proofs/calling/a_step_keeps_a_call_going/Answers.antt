@@ -28,7 +28,7 @@ returns-clause-goes c = λ o now worker new made calling goes home reads lawful 
     (c.a_workers_step_is_told.ensures setting told 0 so_far tells_so worker new since.over.lawful
     lawful runs.position made goes)
     (c.a_core_at_work_stays_so.ensures old new made now.boot entries calling.at_work stands
-    since.over.tidy reads goes with) goes
+    since.over.tidy reads goes with) goes c.counts_make_one_geometry.ensures
     (λ uncommitted. c.a_worker_leaves_the_run_going.ensures.beside setting calling.base so_far
     worker new now.boot
     o.first calling.last entries made runs goes home lawful tidy uncommitted)
