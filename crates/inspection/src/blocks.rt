@@ -13,7 +13,7 @@ ghost use Rattle.inspection.specs.Refused.{IsRefusedBelow, IsRefusedPointer, Nam
 use disk::BlockNo;
 use inode::Snap;
 use layout::{Geometry, Inode, InodeKind, Numbers, Slot};
-use limits::{BLOCK_BYTES, DIRECT_INDEXES, MOST_SPAN, SLOTS_PER_BLOCK};
+use limits::{BLOCK_BYTES, DIRECT_INDEXES, INDIRECT_INDEXES, MOST_SPAN, SLOTS_PER_BLOCK};
 use objects::Addr;
 
 // The bytes of a data block, if it was read.
