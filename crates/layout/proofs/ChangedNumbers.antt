@@ -29,13 +29,15 @@ module _ (blocks after : Image) (inode : Inode) (same : ArePointersSame blocks a
   same_parts =
       let top : numbers_in after inode.double ≡ numbers_in blocks inode.double =
       same_in after blocks inode.double same.1.0 in
-      let long = in_length blocks inode.double in
-      (same_in after blocks inode.indirect same.0, top,
-      same_doubled after blocks inode.double inode.double
-      (λ i less. ap (λ l. numbers_in after (get_or l i 0)) top
-      ∙ same_in after blocks (get_or (numbers_in blocks inode.double) i 0)
-      (one_of (λ number. nat_eq number 0 ≡ false → after number ≡ blocks number)
-      (numbers_in blocks inode.double) same.1.1 i (omega (arith, less, long)))))
+      let long = in_length blocks inode.double in (
+        same_in after blocks inode.indirect same.0,
+        top,
+        same_doubled after blocks inode.double inode.double
+            (λ i less. ap (λ l. numbers_in after (get_or l i 0)) top
+            ∙ same_in after blocks (get_or (numbers_in blocks inode.double) i 0)
+            (one_of (λ number. nat_eq number 0 ≡ false → after number ≡ blocks number)
+            (numbers_in blocks inode.double) same.1.1 i (omega (arith, less, long)))),
+      )
 
   pub same_numbers : (numbers_of after inode ≡ numbers_of blocks inode)
       × (pointer_blocks after inode ≡ pointer_blocks blocks inode)

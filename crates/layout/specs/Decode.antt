@@ -1,5 +1,5 @@
 -- The file that an inode and its blocks are.
-use Rattle.std.specs.Prelude.{◌≡◌, ℕ, ◌*◌, ◌/◌, Bool, true, cond, not, ◌||◌, List, [], ◌∷◌, ◌++◌, nat_eq, take}
+use Rattle.std.specs.Prelude.{◌≡◌, ℕ, ◌*◌, ◌/◌, Bool, true, cond, not, ◌||◌, List, ◌∷◌, ◌++◌, nat_eq, take}
 use Rattle.std.specs.Prelude.{drop, length}
 use Rattle.std.specs.Prelude.{replicate, get_or, filter, All, IsOk, Option, Some, None, Result, Ok, Err}
 use Rattle.std.specs.List.{flat_map, filter_map, list_all, list_any, range_with_len}
