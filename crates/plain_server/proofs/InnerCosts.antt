@@ -1,5 +1,5 @@
 -- How many inner blocks name one of some indexes, counted one inner block after another.
-use Rattle.std.proofs.Common.{◌≡◌, ℕ, zero, suc, ◌+◌, ◌*◌, ◌≤◌, sym, ap, ◌∙◌, refl, Bool, true, false, cond, ◌&&◌, ◌||◌}
+use Rattle.std.proofs.Common.{◌≡◌, ℕ, zero, suc, ◌+◌, ◌*◌, ap, ◌∙◌, refl, Bool, true, false, cond, ◌&&◌, ◌||◌}
 use Rattle.std.proofs.Common.{List, [], ◌∷◌, ◌++◌, count_by, nat_le, nat_lt, arith}
 use Rattle.std.specs.FinSet as set
 use Rattle.std.specs.List.{list_any, range_with_len}

@@ -2,10 +2,9 @@ use Rattle.std.proofs.Common.{◌≡◌, ℕ, ◌+◌, ◌≤◌, length, Bool, 
 use Rattle.std.specs.List.{list_any}
 use Rattle.std.specs.Ordering.{nat_cmp}
 use Rattle.std.specs.FinSet as set
-use Rattle.limits.specs.declared.TheConstants.{FILE_INDEXES, INDIRECT_INDEXES}
+use Rattle.limits.specs.declared.TheConstants.{INDIRECT_INDEXES}
 use Rattle.model.specs.Cost.{file_cost, inner_cost, is_double, is_indirect}
 use Rattle.model.proofs.Sets.{any_items}
-use Rattle.plain_server.specs.Indexes.{AreIndexes}
 use Rattle.plain_server.proofs.Few.{few_indexes}
 use Rattle.plain_server.proofs.mapped.MappedIndexes.cost.Goals as goal
 
