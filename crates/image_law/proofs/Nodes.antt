@@ -1,7 +1,7 @@
 -- A file of an image is sound by itself, where its inode and its blocks are as its kind has them, and the names
 -- in its slots are names.
 use Rattle.std.proofs.Common.{◌≡◌, ℕ, zero, suc, ◌+◌, ◌*◌, ◌/◌, ◌%◌, ◌<◌, ◌≤◌, inl, inr, sym, ap, ◌∙◌, refl, subst}
-use Rattle.std.proofs.Common.{Bool, true, false, cond, List, [], ◌∷◌, ◌++◌, length, take, get_or, replicate}
+use Rattle.std.proofs.Common.{Bool, true, false, cond, not, List, [], ◌∷◌, ◌++◌, length, take, get_or, replicate}
 use Rattle.std.proofs.Common.{◌&&◌, length-append, length-take, Option, Some, None, Result, Ok, Err, nat_eq, nat_le, is_none, arith}
 use Rattle.std.specs.FinMap as map
 use Rattle.std.specs.FinSet as set
