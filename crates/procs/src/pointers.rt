@@ -1,6 +1,6 @@
 //! The pointer blocks of a file, which are asked for one behind the other. These are positions, of which nothing is
 //! claimed.
-ghost use Rattle.std.specs.Prelude.{◌+◌, ◌≤◌, IfErr};
+ghost use Rattle.std.specs.Prelude.{◌+◌, ◌<◌, ◌≤◌, IfErr};
 ghost use Rattle.limits.specs.declared.TheConstants.{INDIRECT_INDEXES};
 ghost use Rattle.inode.specs.Over.{MayStop};
 
@@ -10,13 +10,35 @@ use layout::Inode;
 use limits::INDIRECT_INDEXES;
 use nfs_types::Call;
 
-/// The pointer blocks of a file that has a double indirect block, from one on: its indirect block, this one, and the
-/// inner blocks.
+/// The pointer blocks of a file, from a place on.
 #[derive(Drop)]
 pub(crate) struct Pointers {
     inode: Inode,
     at: usize,
-    ghost within: { at ≤ INDIRECT_INDEXES + 2 },
+}
+
+/// How many places for pointer blocks a file has: those of its indirect block and of its double indirect block, and
+/// behind them those of the inner blocks; the first alone where it has no double indirect block.
+pub(crate) fn places_of(inode: &Inode) -> usize
+    ensures { result ≤ INDIRECT_INDEXES + 2 }
+{
+    if inode.double == 0 {
+        1
+    } else {
+        INDIRECT_INDEXES + 2
+    }
+}
+
+/// The number of the pointer block in a place: 0 where there is none.
+pub(crate) fn pointer_in(snap: &Snap, inode: &Inode, place: usize) -> Result<u32, Stop>
+    requires { place < INDIRECT_INDEXES + 2 }
+    ensures { IfErr result (λ why. MayStop snap.now why) }
+{
+    match place {
+        0 => Ok(inode.indirect),
+        1 => Ok(inode.double),
+        inner => inner_number(snap, inode, inner - 2),
+    }
 }
 
 // Asks for a data block, if the number is that of one.
@@ -39,17 +61,10 @@ impl Pointers {
     pub(crate) fn go_on(&mut self, snap: &Snap) -> Result<(), Stop>
         ensures { IfErr result (λ why. MayStop snap.now why) }
     {
-        if self.inode.double == 0 {
-            return ask_data(snap, self.inode.indirect);
-        }
-        'pointers: while self.at < INDIRECT_INDEXES + 2 {
-            let number = match self.at {
-                0 => self.inode.indirect,
-                1 => self.inode.double,
-                place => inner_number(snap, &self.inode, place - 2)?,
-            };
+        'places: for place in self.at..places_of(&self.inode) {
+            let number = pointer_in(snap, &self.inode, place)?;
             ask_data(snap, number)?;
-            self.at += 1;
+            self.at = place + 1;
         }
         Ok(())
     }
