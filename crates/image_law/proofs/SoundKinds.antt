@@ -1,5 +1,5 @@
 -- What a sound inode of a directory, or of a link, tells of its fields.
-use Rattle.std.proofs.Common.{◌≡◌, ℕ, ◌*◌, ◌/◌, ◌%◌, ◌<◌, ◌≤◌, Bool, true, cond, not, ◌&&◌, min, is_none, nat_eq, nat_le, nat_lt, arith}
+use Rattle.std.proofs.Common.{◌≡◌, ◌/◌, ◌%◌, ◌<◌, ◌≤◌, Bool, true, cond, not, ◌&&◌, min, is_none, nat_eq, nat_le, nat_lt, arith}
 use Rattle.limits.specs.declared.TheConstants.{BLOCK_BYTES, DIRECT_INDEXES, FIRST_DOUBLE_INDEX, LARGEST_DIRECTORY, TARGET_BYTES}
 use Rattle.layout.specs.declared.geometry.Geometry.{Geometry}
 use Rattle.layout.specs.declared.inode.Inode.{Inode}
@@ -7,7 +7,7 @@ use Rattle.layout.specs.declared.inode.InodeKind.TheVariants.{Directory, Link}
 use Rattle.layout.specs.Decode.{span_of}
 use Rattle.layout.specs.InodeForm.{is_sound_directory, is_sound_file, is_sound_kind, is_sound_link, is_sound_map}
 use Rattle.layout.specs.InodeForm.{names_first}
-use Rattle.inode.proofs.AllTests.{all_five, all_seven, all_three, all_two, is_less, no_more}
+use Rattle.inode.proofs.AllTests.{all_five, all_seven, all_three, is_less, no_more}
 
 module _ (g : Geometry) (inode : Inode) where
   -- ---- a directory
