@@ -28,12 +28,12 @@ returns-in-Ok-clause-ok c = λ blocks tree file has.
     let double = c.one_if_none.ensures.is in
     let missing = c.in-Ok.ensures.ok blocks tree file has in
     let low : c.inner_of-least.result ≡ inner_of (max c.args.first FIRST_DOUBLE_INDEX) =
-    c.inner_of-least.ensures.is ∙ ap inner_of c.max-least.ensures in
-    let rows : c.inner_of-count.result + 1 - c.inner_of-least.result
+    c.inner_of-least.ensures.is ∙ ap inner_of c.max.ensures in
+    let rows : c.inner_of.result + 1 - c.inner_of-least.result
     ≡ inner_of last + 1 - inner_of (max c.args.first FIRST_DOUBLE_INDEX) =
-    (λ i. c.inner_of-count.ensures.is i + 1 - low i) in
+    (λ i. c.inner_of.ensures.is i + 1 - low i) in
     let same : ◌≡◌ {A = ℕ} (missing_between inners c.inner_of-least.result
-    (c.inner_of-count.result + 1 - c.inner_of-least.result))
+    (c.inner_of.result + 1 - c.inner_of-least.result))
     (missing_between inners (inner_of (max c.args.first FIRST_DOUBLE_INDEX))
     (inner_of last + 1 - inner_of (max c.args.first FIRST_DOUBLE_INDEX))) =
     (λ i. missing_between inners (low i) (rows i)) in

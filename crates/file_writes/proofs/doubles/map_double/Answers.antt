@@ -123,3 +123,201 @@ returns-in-Ok-clause-twice c =
     (unspent c.store_double.new.draft n far double) =
     ap (λ (one : Inode). unspent c.store_double.new.draft n one.indirect one.double) c.led_double-led.ensures in
     omega (arith, first, second, third, new, once, same)
+
+pub returns-in-Err-store_double-clause-twice : goal.returns-in-Err-store_double-clause-twice
+returns-in-Err-store_double-clause-twice c =
+    let n = c.args.number in
+    let far = c.args.inode.now.indirect in
+    let was = c.args.inode.now.double in
+    let double = c.in-Ok-Some-take_block-2.double in
+    let first = nothing_spent c.args.draft.now c.take_block.new.draft n far was
+    c.take_block.ensures.geometry c.take_block.ensures.stays c.take_block.ensures.spent in
+    let second = nothing_spent c.take_block.new.draft c.take_block-2.new.draft n far was
+    c.take_block-2.ensures.geometry c.take_block-2.ensures.stays c.take_block-2.ensures.spent in
+    let third = nothing_spent c.take_block-2.new.draft c.take_block-3.new.draft n far was
+    c.take_block-3.ensures.geometry c.take_block-3.ensures.stays c.take_block-3.ensures.spent in
+    let new = unspent_double c.take_block-3.new.draft n far double was c.requires.none in
+    let once = c.store_double.ensures.once far in
+    let same : ◌≡◌ {A = ℕ}
+    (unspent c.store_double.new.draft n c.led_double-led.result.indirect c.led_double-led.result.double)
+    (unspent c.store_double.new.draft n far double) =
+    ap (λ (one : Inode). unspent c.store_double.new.draft n one.indirect one.double) c.led_double-led.ensures in
+    omega (arith, first, second, third, new, once, same)
+
+pub returns-in-Ok-None-clause-twice : goal.returns-in-Ok-None-clause-twice
+returns-in-Ok-None-clause-twice c =
+    let n = c.args.number in
+    let far = c.args.inode.now.indirect in
+    let was = c.args.inode.now.double in
+    let first = nothing_spent c.args.draft.now c.take_block.new.draft n far was
+    c.take_block.ensures.geometry c.take_block.ensures.stays c.take_block.ensures.spent in
+    omega (arith, first)
+
+pub returns-in-Err-clause-twice : goal.returns-in-Err-clause-twice
+returns-in-Err-clause-twice c =
+    let n = c.args.number in
+    let far = c.args.inode.now.indirect in
+    let was = c.args.inode.now.double in
+    let first = nothing_spent c.args.draft.now c.take_block.new.draft n far was
+    c.take_block.ensures.geometry c.take_block.ensures.stays c.take_block.ensures.spent in
+    omega (arith, first)
+
+pub returns-in-Ok-None-take_block-clause-twice : goal.returns-in-Ok-None-take_block-clause-twice
+returns-in-Ok-None-take_block-clause-twice c =
+    let n = c.args.number in
+    let far = c.args.inode.now.indirect in
+    let was = c.args.inode.now.double in
+    let first = nothing_spent c.args.draft.now c.take_block.new.draft n far was
+    c.take_block.ensures.geometry c.take_block.ensures.stays c.take_block.ensures.spent in
+    let second = nothing_spent c.take_block.new.draft c.take_block-2.new.draft n far was
+    c.take_block-2.ensures.geometry c.take_block-2.ensures.stays c.take_block-2.ensures.spent in
+    omega (arith, first, second)
+
+pub returns-in-Err-take_block-clause-twice : goal.returns-in-Err-take_block-clause-twice
+returns-in-Err-take_block-clause-twice c =
+    let n = c.args.number in
+    let far = c.args.inode.now.indirect in
+    let was = c.args.inode.now.double in
+    let first = nothing_spent c.args.draft.now c.take_block.new.draft n far was
+    c.take_block.ensures.geometry c.take_block.ensures.stays c.take_block.ensures.spent in
+    let second = nothing_spent c.take_block.new.draft c.take_block-2.new.draft n far was
+    c.take_block-2.ensures.geometry c.take_block-2.ensures.stays c.take_block-2.ensures.spent in
+    omega (arith, first, second)
+
+pub returns-in-Ok-None-take_block-2-clause-twice : goal.returns-in-Ok-None-take_block-2-clause-twice
+returns-in-Ok-None-take_block-2-clause-twice c =
+    let n = c.args.number in
+    let far = c.args.inode.now.indirect in
+    let was = c.args.inode.now.double in
+    let first = nothing_spent c.args.draft.now c.take_block.new.draft n far was
+    c.take_block.ensures.geometry c.take_block.ensures.stays c.take_block.ensures.spent in
+    let second = nothing_spent c.take_block.new.draft c.take_block-2.new.draft n far was
+    c.take_block-2.ensures.geometry c.take_block-2.ensures.stays c.take_block-2.ensures.spent in
+    let third = nothing_spent c.take_block-2.new.draft c.take_block-3.new.draft n far was
+    c.take_block-3.ensures.geometry c.take_block-3.ensures.stays c.take_block-3.ensures.spent in
+    omega (arith, first, second, third)
+
+pub returns-in-Err-take_block-2-clause-twice : goal.returns-in-Err-take_block-2-clause-twice
+returns-in-Err-take_block-2-clause-twice c =
+    let n = c.args.number in
+    let far = c.args.inode.now.indirect in
+    let was = c.args.inode.now.double in
+    let first = nothing_spent c.args.draft.now c.take_block.new.draft n far was
+    c.take_block.ensures.geometry c.take_block.ensures.stays c.take_block.ensures.spent in
+    let second = nothing_spent c.take_block.new.draft c.take_block-2.new.draft n far was
+    c.take_block-2.ensures.geometry c.take_block-2.ensures.stays c.take_block-2.ensures.spent in
+    let third = nothing_spent c.take_block-2.new.draft c.take_block-3.new.draft n far was
+    c.take_block-3.ensures.geometry c.take_block-3.ensures.stays c.take_block-3.ensures.spent in
+    omega (arith, first, second, third)
+
+pub returns-in_err-numbers-in-Ok-Some-take_block-2-clause-twice :
+    goal.returns-in_err-numbers-in-Ok-Some-take_block-2-clause-twice
+returns-in_err-numbers-in-Ok-Some-take_block-2-clause-twice c =
+    let n = c.args.number in
+    let far = c.args.inode.now.indirect in
+    let was = c.args.inode.now.double in
+    let first = nothing_spent c.args.draft.now c.take_block.new.draft n far was
+    c.take_block.ensures.geometry c.take_block.ensures.stays c.take_block.ensures.spent in
+    let second = nothing_spent c.take_block.new.draft c.take_block-2.new.draft n far was
+    c.take_block-2.ensures.geometry c.take_block-2.ensures.stays c.take_block-2.ensures.spent in
+    let third = nothing_spent c.take_block-2.new.draft c.take_block-3.new.draft n far was
+    c.take_block-3.ensures.geometry c.take_block-3.ensures.stays c.take_block-3.ensures.spent in
+    omega (arith, first, second, third)
+
+pub returns-in_err-inners-in-Ok-Some-take_block-2-clause-twice :
+    goal.returns-in_err-inners-in-Ok-Some-take_block-2-clause-twice
+returns-in_err-inners-in-Ok-Some-take_block-2-clause-twice c =
+    let n = c.args.number in
+    let far = c.args.inode.now.indirect in
+    let was = c.args.inode.now.double in
+    let first = nothing_spent c.args.draft.now c.take_block.new.draft n far was
+    c.take_block.ensures.geometry c.take_block.ensures.stays c.take_block.ensures.spent in
+    let second = nothing_spent c.take_block.new.draft c.take_block-2.new.draft n far was
+    c.take_block-2.ensures.geometry c.take_block-2.ensures.stays c.take_block-2.ensures.spent in
+    let third = nothing_spent c.take_block-2.new.draft c.take_block-3.new.draft n far was
+    c.take_block-3.ensures.geometry c.take_block-3.ensures.stays c.take_block-3.ensures.spent in
+    omega (arith, first, second, third)
+
+pub returns-in-Ok-None-clause-room : goal.returns-in-Ok-None-clause-room
+returns-in-Ok-None-clause-room c = λ blocks tree draft room.
+    let g = c.args.draft.now.there.geometry in
+    let base = image_of blocks c.args.draft.now in
+    let full = rw c.in-Ok-None.field-0-is at
+    (c.in-Ok-None.ensures.ok blocks base tree [] draft.shows (none_taken g base tree draft.holds)) in
+    absurd (omega (arith, full, room))
+
+pub returns-in-Ok-None-take_block-clause-room : goal.returns-in-Ok-None-take_block-clause-room
+returns-in-Ok-None-take_block-clause-room c = λ blocks tree draft room.
+    let g = c.args.draft.now.there.geometry in
+    let base = image_of blocks c.args.draft.now in
+    let b = c.in-Ok-Some.block in
+    let first = image_of blocks c.take_block.new.draft in
+    let taken : HasTaken c.take_block.new.draft.there.geometry base tree (b ∷ []) first =
+    subst (λ (s : Geometry). HasTaken s base tree (b ∷ []) first) (sym c.take_block.ensures.geometry)
+    (rw c.in-Ok-Some.field-0-is at
+    (c.in-Ok-Some.ensures.ok blocks base tree [] draft.shows (none_taken g base tree draft.holds))) in
+    let shown = c.in-Ok-Some.ensures.shows blocks draft.shows in
+    let full = rw c.in-Ok-None-take_block.field-0-is at
+    (c.in-Ok-None-take_block.ensures.ok blocks base tree (b ∷ []) shown taken) in
+    absurd (omega (arith, full, room))
+
+pub returns-in-Ok-None-take_block-2-clause-room : goal.returns-in-Ok-None-take_block-2-clause-room
+returns-in-Ok-None-take_block-2-clause-room c = λ blocks tree draft room.
+    let g = c.args.draft.now.there.geometry in
+    let base = image_of blocks c.args.draft.now in
+    let b = c.in-Ok-Some.block in
+    let first = image_of blocks c.take_block.new.draft in
+    let taken : HasTaken c.take_block.new.draft.there.geometry base tree (b ∷ []) first =
+    subst (λ (s : Geometry). HasTaken s base tree (b ∷ []) first) (sym c.take_block.ensures.geometry)
+    (rw c.in-Ok-Some.field-0-is at
+    (c.in-Ok-Some.ensures.ok blocks base tree [] draft.shows (none_taken g base tree draft.holds))) in
+    let shown = c.in-Ok-Some.ensures.shows blocks draft.shows in
+    let inner = c.in-Ok-Some-take_block.inner in
+    let second = image_of blocks c.take_block-2.new.draft in
+    let taken_two : HasTaken c.take_block-2.new.draft.there.geometry base tree (inner ∷ b ∷ []) second =
+    subst (λ (s : Geometry). HasTaken s base tree (inner ∷ b ∷ []) second) (sym c.take_block-2.ensures.geometry)
+    (rw c.in-Ok-Some-take_block.field-0-is at
+    (c.in-Ok-Some-take_block.ensures.ok blocks base tree (b ∷ []) shown taken)) in
+    let shown_two = c.in-Ok-Some-take_block.ensures.shows blocks shown in
+    let full = rw c.in-Ok-None-take_block-2.field-0-is at
+    (c.in-Ok-None-take_block-2.ensures.ok blocks base tree (inner ∷ b ∷ []) shown_two taken_two) in
+    absurd (omega (arith, full, room))
+
+pub returns-in-Err-clause-pause : goal.returns-in-Err-clause-pause
+returns-in-Err-clause-pause c = λ blocks tree draft less.
+    let g = c.args.draft.now.there.geometry in
+    let base = image_of blocks c.args.draft.now in
+    c.in-Err.ensures.pause blocks base tree [] draft.shows (none_taken g base tree draft.holds)
+
+pub returns-in-Err-take_block-clause-pause : goal.returns-in-Err-take_block-clause-pause
+returns-in-Err-take_block-clause-pause c = λ blocks tree draft less.
+    let g = c.args.draft.now.there.geometry in
+    let base = image_of blocks c.args.draft.now in
+    let b = c.in-Ok-Some.block in
+    let first = image_of blocks c.take_block.new.draft in
+    let taken : HasTaken c.take_block.new.draft.there.geometry base tree (b ∷ []) first =
+    subst (λ (s : Geometry). HasTaken s base tree (b ∷ []) first) (sym c.take_block.ensures.geometry)
+    (rw c.in-Ok-Some.field-0-is at
+    (c.in-Ok-Some.ensures.ok blocks base tree [] draft.shows (none_taken g base tree draft.holds))) in
+    let shown = c.in-Ok-Some.ensures.shows blocks draft.shows in
+    c.in-Err-take_block.ensures.pause blocks base tree (b ∷ []) shown taken
+
+pub returns-in-Err-take_block-2-clause-pause : goal.returns-in-Err-take_block-2-clause-pause
+returns-in-Err-take_block-2-clause-pause c = λ blocks tree draft less.
+    let g = c.args.draft.now.there.geometry in
+    let base = image_of blocks c.args.draft.now in
+    let b = c.in-Ok-Some.block in
+    let first = image_of blocks c.take_block.new.draft in
+    let taken : HasTaken c.take_block.new.draft.there.geometry base tree (b ∷ []) first =
+    subst (λ (s : Geometry). HasTaken s base tree (b ∷ []) first) (sym c.take_block.ensures.geometry)
+    (rw c.in-Ok-Some.field-0-is at
+    (c.in-Ok-Some.ensures.ok blocks base tree [] draft.shows (none_taken g base tree draft.holds))) in
+    let shown = c.in-Ok-Some.ensures.shows blocks draft.shows in
+    let inner = c.in-Ok-Some-take_block.inner in
+    let second = image_of blocks c.take_block-2.new.draft in
+    let taken_two : HasTaken c.take_block-2.new.draft.there.geometry base tree (inner ∷ b ∷ []) second =
+    subst (λ (s : Geometry). HasTaken s base tree (inner ∷ b ∷ []) second) (sym c.take_block-2.ensures.geometry)
+    (rw c.in-Ok-Some-take_block.field-0-is at
+    (c.in-Ok-Some-take_block.ensures.ok blocks base tree (b ∷ []) shown taken)) in
+    let shown_two = c.in-Ok-Some-take_block.ensures.shows blocks shown in
+    c.in-Err-take_block-2.ensures.pause blocks base tree (inner ∷ b ∷ []) shown_two taken_two

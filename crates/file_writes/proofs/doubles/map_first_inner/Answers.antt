@@ -144,3 +144,94 @@ returns-in-Ok-store_double-clause-twice c =
     (unspent c.store_double.new.draft c.args.number far double) =
     ap (λ (one : Inode). unspent c.store_double.new.draft c.args.number one.indirect one.double) c.sized-same.ensures in
     omega (arith, first, second, once, same)
+
+pub returns-in-Ok-Some-take_block-clause-twice : goal.returns-in-Ok-Some-take_block-clause-twice
+returns-in-Ok-Some-take_block-clause-twice c =
+    let far = c.args.inode.now.indirect in
+    let double = c.args.inode.now.double in
+    let first = nothing_spent c.args.draft.now c.take_block.new.draft c.args.number far double
+    c.take_block.ensures.geometry c.take_block.ensures.stays c.take_block.ensures.spent in
+    let second = nothing_spent c.take_block.new.draft c.take_block-2.new.draft c.args.number far double
+    c.take_block-2.ensures.geometry c.take_block-2.ensures.stays c.take_block-2.ensures.spent in
+    let once = c.store_double.ensures.once far in
+    let same : ◌≡◌ {A = ℕ}
+    (unspent c.store_double.new.draft c.args.number c.sized-same.result.indirect c.sized-same.result.double)
+    (unspent c.store_double.new.draft c.args.number far double) =
+    ap (λ (one : Inode). unspent c.store_double.new.draft c.args.number one.indirect one.double) c.sized-same.ensures in
+    omega (arith, first, second, once, same)
+
+pub returns-in-Ok-None-clause-twice : goal.returns-in-Ok-None-clause-twice
+returns-in-Ok-None-clause-twice c =
+    let far = c.args.inode.now.indirect in
+    let double = c.args.inode.now.double in
+    let first = nothing_spent c.args.draft.now c.take_block.new.draft c.args.number far double
+    c.take_block.ensures.geometry c.take_block.ensures.stays c.take_block.ensures.spent in
+    omega (arith, first)
+
+pub returns-in-Err-take_block-clause-twice : goal.returns-in-Err-take_block-clause-twice
+returns-in-Err-take_block-clause-twice c =
+    let far = c.args.inode.now.indirect in
+    let double = c.args.inode.now.double in
+    let first = nothing_spent c.args.draft.now c.take_block.new.draft c.args.number far double
+    c.take_block.ensures.geometry c.take_block.ensures.stays c.take_block.ensures.spent in
+    omega (arith, first)
+
+pub returns-in-Ok-None-take_block-clause-twice : goal.returns-in-Ok-None-take_block-clause-twice
+returns-in-Ok-None-take_block-clause-twice c =
+    let far = c.args.inode.now.indirect in
+    let double = c.args.inode.now.double in
+    let first = nothing_spent c.args.draft.now c.take_block.new.draft c.args.number far double
+    c.take_block.ensures.geometry c.take_block.ensures.stays c.take_block.ensures.spent in
+    let second = nothing_spent c.take_block.new.draft c.take_block-2.new.draft c.args.number far double
+    c.take_block-2.ensures.geometry c.take_block-2.ensures.stays c.take_block-2.ensures.spent in
+    omega (arith, first, second)
+
+pub returns-clause-twice : goal.returns-clause-twice
+returns-clause-twice c =
+    let far = c.args.inode.now.indirect in
+    let double = c.args.inode.now.double in
+    let first = nothing_spent c.args.draft.now c.take_block.new.draft c.args.number far double
+    c.take_block.ensures.geometry c.take_block.ensures.stays c.take_block.ensures.spent in
+    let second = nothing_spent c.take_block.new.draft c.take_block-2.new.draft c.args.number far double
+    c.take_block-2.ensures.geometry c.take_block-2.ensures.stays c.take_block-2.ensures.spent in
+    omega (arith, first, second)
+
+pub returns-in_err-numbers-in-Ok-Some-take_block-clause-twice :
+    goal.returns-in_err-numbers-in-Ok-Some-take_block-clause-twice
+returns-in_err-numbers-in-Ok-Some-take_block-clause-twice c =
+    let far = c.args.inode.now.indirect in
+    let double = c.args.inode.now.double in
+    let first = nothing_spent c.args.draft.now c.take_block.new.draft c.args.number far double
+    c.take_block.ensures.geometry c.take_block.ensures.stays c.take_block.ensures.spent in
+    let second = nothing_spent c.take_block.new.draft c.take_block-2.new.draft c.args.number far double
+    c.take_block-2.ensures.geometry c.take_block-2.ensures.stays c.take_block-2.ensures.spent in
+    omega (arith, first, second)
+
+pub returns-in_err-inners-in-Ok-Some-take_block-clause-twice :
+    goal.returns-in_err-inners-in-Ok-Some-take_block-clause-twice
+returns-in_err-inners-in-Ok-Some-take_block-clause-twice c =
+    let far = c.args.inode.now.indirect in
+    let double = c.args.inode.now.double in
+    let first = nothing_spent c.args.draft.now c.take_block.new.draft c.args.number far double
+    c.take_block.ensures.geometry c.take_block.ensures.stays c.take_block.ensures.spent in
+    let second = nothing_spent c.take_block.new.draft c.take_block-2.new.draft c.args.number far double
+    c.take_block-2.ensures.geometry c.take_block-2.ensures.stays c.take_block-2.ensures.spent in
+    omega (arith, first, second)
+
+pub returns-in-Err-take_block-clause-pause : goal.returns-in-Err-take_block-clause-pause
+returns-in-Err-take_block-clause-pause c = λ blocks tree draft less.
+    let g = c.args.draft.now.there.geometry in
+    let base = image_of blocks c.args.draft.now in
+    c.in-Err-take_block.ensures.pause blocks base tree [] draft.shows (none_taken g base tree draft.holds)
+
+pub returns-clause-pause : goal.returns-clause-pause
+returns-clause-pause c = λ blocks tree draft less.
+    let g = c.args.draft.now.there.geometry in
+    let b = c.in-Ok-Some.block in
+    let base = image_of blocks c.args.draft.now in
+    let first = image_of blocks c.take_block.new.draft in
+    let one : HasTaken g base tree (b ∷ []) first =
+    rw c.in-Ok-Some.field-0-is at
+    (c.in-Ok-Some.ensures.ok blocks base tree [] draft.shows (none_taken g base tree draft.holds)) in
+    c.in-Err-take_block-2.ensures.pause blocks base tree (b ∷ []) (c.in-Ok-Some.ensures.shows blocks draft.shows)
+    (subst (λ (s : Geometry). HasTaken s base tree (b ∷ []) first) (sym c.take_block.ensures.geometry) one)
