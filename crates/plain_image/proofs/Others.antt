@@ -1,5 +1,5 @@
 -- Where a file maps no block, it has zeros: these change neither its bytes of some size nor how many blocks it maps.
-use Rattle.std.proofs.Common.{◌≡◌, ℕ, ◌+◌, ◌-◌, ◌≤◌, inl, inr, sym, ap, ◌∙◌, refl, subst, true, cond, not, ◌&&◌}
+use Rattle.std.proofs.Common.{◌≡◌, ℕ, ◌+◌, ◌-◌, inl, inr, sym, ap, ◌∙◌, refl, subst, true, cond, not, ◌&&◌}
 use Rattle.std.proofs.Common.{nat_eq, zero, suc, List, [], ◌∷◌, ◌++◌, length, take, replicate, arith, length-append}
 use Rattle.std.specs.List.{flat_map, list_all}
 use Rattle.std.proofs.Math.Seq.{take-append-add}

@@ -1,6 +1,6 @@
 -- What was read of an image's parts can be read of the image.
 use Rattle.std.proofs.Common.{◌≡◌, ℕ, ◌*◌, ◌/◌, ◌%◌, ◌<◌, ◌≤◌, sym, ap, ◌∙◌, refl, subst, Bool, true, false}
-use Rattle.std.proofs.Common.{◌&&◌, ◌||◌, nat_eq, nat_le, nat_lt, List, take, drop, get_or, length}
+use Rattle.std.proofs.Common.{◌||◌, nat_eq, nat_le, nat_lt, List, take, drop, get_or, length}
 use Rattle.std.proofs.Common.{All}
 use Rattle.std.proofs.Common.{IfErr, IsOk, Ok, Err, Result, arith, inr}
 use Rattle.std.specs.List.{list_all}

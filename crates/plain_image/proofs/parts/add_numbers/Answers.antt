@@ -59,7 +59,7 @@ returns-in_err-more-clause-refused c =
     let g = c.args.geometry.now in
     let image = image_of c.args.disk.now in
     let at : ℕ = get_or c.args.pointers.now c.each.pointer-index 0 in
-    let refused : IfErr c.from_residual-in_err-more.result
+    let refused : IfErr c.from_residual.result
     (IsRangeFor (list_all (is_data_block_or_none g) (numbers_in image at) ≡ false)) = search rules in
     err_for (row_refused g image c.args.pointers.now c.each.pointer-index c.each-test.true)
-    c.from_residual-in_err-more.result refused
+    c.from_residual.result refused

@@ -19,4 +19,9 @@ pub back-init : goal.back-init
 back-init c = (omega arith, none_left c.args.numbers.now _ (omega arith))
 
 pub back-preserved : goal.back-preserved
-back-preserved c = ?
+back-preserved c =
+    let some = c.back-test.true in
+    let few = c.back.invariant.0 in (
+      omega (arith, some, few),
+      one_back c.args.numbers.now c.back.used some few c.if-numbers-used-eq0.true c.back.invariant.1,
+    )
