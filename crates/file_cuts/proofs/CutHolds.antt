@@ -1,5 +1,5 @@
 -- The blocks of an image in which a regular file was cut hold the tree with the file of this size.
-use Rattle.std.proofs.Common.{◌≡◌, ℕ, ◌<◌, sym, ap, ◌∙◌, subst, cond, length, All, Some, Ok, Err, arith}
+use Rattle.std.proofs.Common.{◌≡◌, ℕ, ◌<◌, sym, ap, ◌∙◌, subst, true, cond, length, All, Some, Ok, Err, arith}
 use Rattle.std.proofs.lemmas.Bool.{lt-ltb}
 use Rattle.std.proofs.lemmas.List.Elements.{All-from_recursion}
 use Rattle.limits.specs.declared.TheConstants.{BLOCK_BYTES}
