@@ -44,8 +44,8 @@ module _ (g : Geometry) (inode : Inode) where
         let few = no_more inode.size LARGEST_DIRECTORY rules.1 in
         omega (arith, few)
 
-    pub parent_below : inode.parent < g.inodes
-    parent_below =
+    pub parent_inside : inode.parent < g.inodes
+    parent_inside =
         let rules = all_seven (nat_le 2 inode.nlink) (nat_le inode.size LARGEST_DIRECTORY)
         (nat_eq (inode.size % BLOCK_BYTES) 0) (nat_lt 0 inode.parent) (nat_lt inode.parent g.inodes) near_first has_far
         directory_rules.0 in

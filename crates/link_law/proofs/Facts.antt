@@ -28,7 +28,7 @@ use Rattle.tallies.specs.Led.{led}
 use Rattle.image_law.specs.TreeOf.{tree_of}
 use Rattle.image_law.specs.Whole.{named}
 use Rattle.image_law.proofs.Made.{files_are}
-use Rattle.image_law.proofs.SoundKinds.{parent_below}
+use Rattle.image_law.proofs.SoundKinds.{parent_inside}
 use Rattle.image_law.proofs.Reached.{as_led}
 use Rattle.image_links.specs.declared.links.Links.{Links}
 use Rattle.image_links.specs.Linked.{is_directory_kind, parent_below}
@@ -108,7 +108,7 @@ module _ (g : Geometry) (blocks : Image) where
         no_more inode.nlink MOST_LINKS rules.2
 
     within_by : (kind : InodeKind) → kind ≡ Directory → is_sound_kind g kind inode ≡ true → inode.parent < g.inodes
-    within_by Directory kind e = parent_below g inode e
+    within_by Directory kind e = parent_inside g inode e
     within_by Regular kind e = absurd (let clash : Regular ≡ Directory = kind in cc)
     within_by Link kind e = absurd (let clash : Link ≡ Directory = kind in cc)
 
