@@ -1,6 +1,6 @@
+pub mod AllMet
 pub mod BelowBytes
 pub mod Finding
-pub mod Kinds
 pub mod Looked
-pub mod Met
 pub mod NearSlots
+pub mod NoDouble

@@ -85,7 +85,7 @@ module _ (content : Image) (long : (number : ℕ) → length (content number) �
   zero_bytes size (suc count) =
       let here : is_zeros (drop size (bytes_of content (0 ∷ []))) ≡ true =
       ap (λ l. is_zeros (drop size l)) (one_block 0) ∙ no_block 0 size refl in
-      let rest = zero_bytes (size - BLOCK_BYTES * length (0 ∷ [])) count in
+      let rest = zero_bytes (size - BLOCK_BYTES * length {A = ℕ} (0 ∷ [])) count in
       zeros_both size (0 ∷ []) (replicate count 0) ∙ (λ i. here i && rest i)
 
   module _ (size : ℕ) (numbers : List ℕ) where

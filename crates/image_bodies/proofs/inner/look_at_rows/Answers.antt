@@ -1,8 +1,7 @@
 use Rattle.std.proofs.Common.{rules, ◌≡◌, ◌+◌, ◌-◌, ◌*◌, ◌<◌, ◌∙◌, ◌&&◌, ◌++◌, ap, sym, refl, subst, filter, length, drop, take, true}
-use Rattle.std.proofs.Common.{ℕ, List, [], get_or, arith}
+use Rattle.std.proofs.Common.{ℕ, List, [], get_or, below_more, arith}
 use Rattle.std.specs.List.{flat_map}
 use Rattle.std.proofs.lemmas.List.{append-nil, take_all}
-use Rattle.borrow.Author.Count.{below_more}
 use Rattle.limits.specs.declared.TheConstants.{BLOCK_BYTES, FIRST_DOUBLE_INDEX}
 use Rattle.disk.specs.Crash.{Image}
 use Rattle.disk.specs.Device.{Device}
@@ -20,7 +19,7 @@ use Rattle.image_files.proofs.Then.{contents_then, long_then}
 use Rattle.file_counts.specs.Adds.{is_some}
 use Rattle.image_bodies.specs.Inner.{is_zero_row}
 use Rattle.image_bodies.proofs.BelowBytes.{rows_zero}
-use Rattle.image_bodies.proofs.Met.{met_more}
+use Rattle.image_bodies.proofs.AllMet.{met_more}
 use Rattle.image_bodies.proofs.inner.look_at_rows.Goals as goal
 
 pub rows-init : goal.rows-init

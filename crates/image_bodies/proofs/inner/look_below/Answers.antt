@@ -25,7 +25,7 @@ use Rattle.file_counts.specs.Adds.{is_none_or_below, is_some}
 use Rattle.image_bodies.specs.Inner.{are_zero_rows, below_of, is_zero_below}
 use Rattle.image_bodies.proofs.BelowBytes.{zero_doubled}
 use Rattle.image_bodies.proofs.Looked.{all_below, none_or_below}
-use Rattle.image_bodies.proofs.Met.{nothing_below}
+use Rattle.image_bodies.proofs.AllMet.{nothing_below}
 use Rattle.image_bodies.proofs.inner.look_below.Goals as goal
 
 -- these numbers are those of blocks with nothing but zeros past a size

@@ -4,7 +4,7 @@ use Rattle.layout.specs.Parts.{content_in}
 use Rattle.wal_law.specs.Recovery.{image_of}
 use Rattle.overlays.specs.LaidOver.{laid_over}
 use Rattle.slot_names.specs.Names.{AreNames}
-use Rattle.image_bodies.proofs.Kinds.{no_double_in_directory}
+use Rattle.image_bodies.proofs.NoDouble.{no_double_in_directory}
 use Rattle.image_bodies.proofs.Looked.{AddsSlots, slots_looked}
 use Rattle.image_bodies.proofs.looking.look_at_slots.Goals as goal
 

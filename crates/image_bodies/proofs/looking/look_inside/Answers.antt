@@ -10,7 +10,7 @@ use Rattle.overlays.specs.LaidOver.{laid_over}
 use Rattle.image_files.specs.Slots.{IsSpanned}
 use Rattle.image_bodies.specs.Bodies.{HasBlocksOf, IsLookedAt}
 use Rattle.image_bodies.specs.Inner.{is_zero_below}
-use Rattle.image_bodies.proofs.Kinds.{few_in_directory, no_double_in_directory, no_double_in_link}
+use Rattle.image_bodies.proofs.NoDouble.{few_in_directory, no_double_in_directory, no_double_in_link}
 use Rattle.image_bodies.proofs.Looked.{link_looked, none_below, regular_looked}
 use Rattle.image_bodies.proofs.NearSlots.{spanned_near}
 use Rattle.image_bodies.proofs.looking.look_inside.Goals as goal

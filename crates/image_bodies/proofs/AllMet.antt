@@ -132,15 +132,15 @@ module _ (content : Image) (inode : Inode) where
       then_so : met ++ owned_by content (Ok (Some inode)) ≡ met ++ ((indirect ++ pointers) ++ (near ++ further))
       then_so = ap (λ l. met ++ l) owned_in_parts
 
+      regrouped : (m a b c d : List ℕ) → (m ++ (a ++ b)) ++ (c ++ d) ≡ m ++ a ++ b ++ c ++ d
+      regrouped m a b c d = simp append_assoc
+
+      back : (m a b c d : List ℕ) → m ++ ((a ++ b) ++ (c ++ d)) ≡ m ++ a ++ b ++ c ++ d
+      back m a b c d = simp append_assoc
+
       at_first : met ++ filter is_some (inode.indirect ∷ near_of content inode) ++ below_of content inode.double
           ≡ met ++ indirect ++ near ++ pointers ++ further
       at_first =
           ap (λ l. met ++ l ++ (pointers ++ further))
           (filter-append is_some (inode.indirect ∷ []) (near_of content inode))
           ∙ regrouped met indirect near pointers further
-
-      regrouped : (m a b c d : List ℕ) → (m ++ (a ++ b)) ++ (c ++ d) ≡ m ++ a ++ b ++ c ++ d
-      regrouped m a b c d = simp append_assoc
-
-      back : (m a b c d : List ℕ) → m ++ ((a ++ b) ++ (c ++ d)) ≡ m ++ a ++ b ++ c ++ d
-      back m a b c d = simp append_assoc
