@@ -10,6 +10,7 @@ use crate::freeing::Freeing;
 use crate::next::Plan;
 use crate::pieces::Pieces;
 use crate::pointers::{Pointers, pointers_of};
+use crate::reading::first_handle;
 use crate::shrinking::{cut_at, cut_for, named, unnamed};
 use crate::writing::Writing;
 use block_files::BlockFiles;
@@ -362,26 +363,93 @@ fn is_asked(plan: &Plan, next: &Option<Stop>) -> bool {
     }
 }
 
+// A position, if a plan asks for the next of what it asks for, so that the run has come there.
+fn begun(alloc: Global, snap: &Snap, plan: &Plan, position: Ahead) -> Option<Ahead> {
+    let mut ahead = position;
+    let next = ahead.next(alloc, snap);
+    if is_asked(plan, &next) {
+        Some(ahead)
+    } else {
+        None
+    }
+}
+
+// The number of the file to which a name leads, if this is known.
+fn known_number(snap: &Snap, names: &Names, name: &DirectoryName) -> Option<u32> {
+    match named(snap, names, name) {
+        Ok(found) => found,
+        Err(_) => None,
+    }
+}
+
+// The numbers of files whose pointer blocks a call asks for: of that which its first handle names, and of those to which
+// its names lead.
+fn files_of(call: &Call, snap: &Snap, names: &Names) -> [Option<u32>; 3] {
+    let handled = match first_handle(call) {
+        Some(handle) => match handle.parts() {
+            Some((number, _)) => Some(number),
+            None => None,
+        },
+        None => None,
+    };
+    match call {
+        Call::Lookup { name } | Call::Create { name, .. } | Call::Remove { name } => {
+            [handled, known_number(snap, names, name), None]
+        }
+        Call::Rename { source, target } => [
+            handled,
+            known_number(snap, names, source),
+            known_number(snap, names, target),
+        ],
+        _ => [handled, None, None],
+    }
+}
+
+// Whether a plan asks for a whole block.
+fn needs_block(plan: &Plan) -> bool {
+    match plan {
+        Plan::Need(addr, _) => addr.len == BLOCK_BYTES,
+        _ => false,
+    }
+}
+
+// The pointer blocks of a file for the next of which a plan asks.
+fn pointers_behind(
+    alloc: Global,
+    call: &Call,
+    snap: &Snap,
+    names: &Names,
+    plan: &Plan,
+) -> Option<Ahead> {
+    if !needs_block(plan) {
+        return None;
+    }
+    for number in files_of(call, snap, names) {
+        if let Some(number) = number {
+            if let Some(pointers) = pointers_of(snap, number) {
+                if let Some(ahead) = begun(alloc, snap, plan, Ahead::Pointers(pointers)) {
+                    return Some(ahead);
+                }
+            }
+        }
+    }
+    None
+}
+
 /// What a call asks for behind a plan: nothing, unless the plan asks for the next of what the call asks for in a row, so
 /// that the run has come there.
 pub(crate) fn behind(alloc: Global, call: &Call, snap: &Snap, names: &Names, plan: &Plan) -> Ahead {
     if !matches!(plan, Plan::Need(..) | Plan::Claim(_)) {
         return Ahead::Nothing;
     }
-    if let Some(pointers) = pointers_of(snap, call) {
-        let mut ahead = Ahead::Pointers(pointers);
-        let next = ahead.next(alloc, snap);
-        if is_asked(plan, &next) {
-            return ahead;
-        }
+    if let Some(ahead) = pointers_behind(alloc, call, snap, names, plan) {
+        return ahead;
     }
-    let Ok(mut ahead) = in_a_row(alloc, call, snap, names) else {
+    let Ok(ahead) = in_a_row(alloc, call, snap, names) else {
         return Ahead::Nothing;
     };
-    let next = ahead.next(alloc, snap);
-    if is_asked(plan, &next) {
-        ahead
-    } else {
-        Ahead::Nothing
+    match begun(alloc, snap, plan, ahead) {
+        Some(ahead) => ahead,
+        None => Ahead::Nothing,
     }
 }

@@ -4,11 +4,9 @@ ghost use Rattle.std.specs.Prelude.{◌+◌, ◌<◌, ◌≤◌, IfErr};
 ghost use Rattle.limits.specs.declared.TheConstants.{INDIRECT_INDEXES};
 ghost use Rattle.inode.specs.Over.{MayStop};
 
-use crate::reading::first_handle;
 use inode::{Snap, Stop, data_block, held, inner_number};
 use layout::Inode;
 use limits::INDIRECT_INDEXES;
-use nfs_types::Call;
 
 /// The pointer blocks of a file, from a place on.
 #[derive(Drop)]
@@ -70,9 +68,8 @@ impl Pointers {
     }
 }
 
-/// Those of the file that a call's first handle names, if it has a double indirect block.
-pub(crate) fn pointers_of(snap: &Snap, call: &Call) -> Option<Pointers> {
-    let (number, _) = first_handle(call)?.parts()?;
+/// Those of the file of a number, if it has a double indirect block.
+pub(crate) fn pointers_of(snap: &Snap, number: u32) -> Option<Pointers> {
     match held(snap, number) {
         Ok(Some(inode)) => {
             if inode.double == 0 {
