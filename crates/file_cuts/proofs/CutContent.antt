@@ -1,10 +1,10 @@
 -- The blocks of a file of which the end was cut off: its numbers, and its pointer blocks.
-use Rattle.std.proofs.Common.{◌≡◌, ℕ, zero, suc, ◌+◌, ◌-◌, ◌*◌, ◌/◌, ◌<◌, ◌≤◌, inl, inr, sym, ap, ◌∙◌, refl, subst, Bool, true}
-use Rattle.std.proofs.Common.{false, List, [], ◌∷◌, ◌++◌, length, drop, get_or, nat_eq, filter, count_by, length-append}
+use Rattle.std.proofs.Common.{◌≡◌, ℕ, zero, suc, ◌+◌, ◌-◌, ◌*◌, ◌/◌, ◌<◌, ◌≤◌, inl, inr, sym, ap, ◌∙◌, refl, subst, Bool}
+use Rattle.std.proofs.Common.{true, false, List, [], ◌∷◌, ◌++◌, length, get_or, nat_eq, length-append}
 use Rattle.std.proofs.Common.{cond, not, ◌||◌, replicate, Some, Ok, arith}
 use Rattle.std.specs.List.{flat_map, list_all}
 use Rattle.std.proofs.lemmas.Bool.{cases_eq, cases_lt, eq-eqb}
-use Rattle.limits.specs.declared.TheConstants.{DIRECT_INDEXES, FILE_INDEXES, FIRST_DOUBLE_INDEX, INDIRECT_INDEXES}
+use Rattle.limits.specs.declared.TheConstants.{DIRECT_INDEXES, FIRST_DOUBLE_INDEX, INDIRECT_INDEXES}
 use Rattle.disk.specs.Crash.{Image}
 use Rattle.model.specs.Tree.{Tree}
 use Rattle.layout.specs.declared.geometry.Geometry.{Geometry}
@@ -21,7 +21,7 @@ use Rattle.layout.proofs.NumbersIn.{doubled_pass, in_length, same_in}
 use Rattle.inode.proofs.Placed.{passes_at}
 use Rattle.file_writes.proofs.Owned.{direct_count, double_at_second, far_at_first, inner_behind, many_pointers}
 use Rattle.file_writes.proofs.Owned.{not_pointer, own_pointer, pass_each, placed, pointers_apart}
-use Rattle.file_cuts.specs.Cut.{first_of, has_some, is_some, kept, lost, numbered, with_numbers, with_zeros, zeroed}
+use Rattle.file_cuts.specs.Cut.{first_of, has_some, numbered, with_numbers, with_zeros}
 use Rattle.file_cuts.specs.CutBlocks.{IsCutOf, with_pointers}
 use Rattle.file_cuts.specs.Doubles.{row_left}
 use Rattle.file_cuts.specs.declared.cutting.CutPointers.{CutPointers}
@@ -91,8 +91,8 @@ module _ (g : Geometry) (image : Image) (tree : Tree) (n : ℕ) (inode : Inode)
       → get_or olds i 0 ≡ get_or news i 0
   inner_was i less some =
       let long = olds_long in
-      kept_some (get_or olds i 0) (get_or news i 0) (left i) (is.further.inners.numbers_are i (omega (arith, less, long)))
-      some
+      kept_some (get_or olds i 0) (get_or news i 0) (left i)
+      (is.further.inners.numbers_are i (omega (arith, less, long))) some
 
   part_low : nat_eq cut.double.inners.part 0 ≡ false → p < INDIRECT_INDEXES
   part_low some =
@@ -125,7 +125,8 @@ module _ (g : Geometry) (image : Image) (tree : Tree) (n : ℕ) (inode : Inode)
   left_placed i = all_stay test (c - INDIRECT_INDEXES * i) (numbers_in content (get_or olds i 0)) (inner_placed i) refl
 
   pub far_placed : test cut.far.pointer ≡ true
-  far_placed = kept_passes test inode.indirect cut.far.pointer cut.far.numbers.items refl is.far.pointer_is pointers_placed.0
+  far_placed =
+      kept_passes test inode.indirect cut.far.pointer cut.far.numbers.items refl is.far.pointer_is pointers_placed.0
 
   pub double_placed : test cut.double.pointer ≡ true
   double_placed = kept_passes test inode.double cut.double.pointer news refl is.further.pointer_is pointers_placed.1
@@ -233,8 +234,8 @@ module _ (g : Geometry) (image : Image) (tree : Tree) (n : ℕ) (inode : Inode)
     far_written some =
         numbers_else (with_numbers (with_numbers zs cut.far.pointer cut.far.numbers.items) cut.double.inners.part
         cut.double.inners.part_numbers.items) cut.double.pointer news cut.far.pointer
-        (λ some_b same. differ 0 1 (λ e. omega (arith, e)) (omega arith) (omega arith) cut.far.pointer cut.double.pointer
-        (far_was some) (double_was some_b) some_b same)
+        (λ some_b same. differ 0 1 (λ e. omega (arith, e)) (omega arith) (omega arith) cut.far.pointer
+        cut.double.pointer (far_was some) (double_was some_b) some_b same)
         ∙ numbers_else (with_numbers zs cut.far.pointer cut.far.numbers.items) cut.double.inners.part
         cut.double.inners.part_numbers.items cut.far.pointer
         (λ some_b same. let few = part_low some_b in

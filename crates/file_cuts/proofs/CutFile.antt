@@ -1,6 +1,6 @@
 -- A regular file of which the end was cut off, in its blocks.
 use Rattle.std.proofs.Common.{◌≡◌, ℕ, zero, suc, ◌+◌, ◌-◌, ◌*◌, ◌<◌, ◌≤◌, inl, inr, sym, ap, ◌∙◌, refl, subst}
-use Rattle.std.proofs.Common.{Bool, true, false, cond, ◌&&◌, ◌||◌, List, [], ◌∷◌, ◌++◌, length, take, drop, get_or}
+use Rattle.std.proofs.Common.{Bool, true, false, cond, ◌&&◌, List, [], ◌∷◌, ◌++◌, length, take, drop, get_or}
 use Rattle.std.proofs.Common.{replicate, nat_eq, nat_le, nat_lt, append-nil, Some, Ok, arith}
 use Rattle.std.specs.FinSet.{retain}
 use Rattle.std.specs.List.{list_all}
@@ -9,7 +9,7 @@ use Rattle.std.proofs.lemmas.Bool.{cases_lt, eq-eqb, le-leb, lt-ltb}
 use Rattle.std.proofs.lemmas.List.{length-take-le, take_all, take-append-le}
 use Rattle.limits.specs.declared.TheConstants.{BLOCK_BYTES, DIRECT_INDEXES, FILE_INDEXES, LARGEST_FILE}
 use Rattle.disk.specs.Crash.{Image}
-use Rattle.model.specs.Cost.{cost, file_cost}
+use Rattle.model.specs.Cost.{cost}
 use Rattle.model.specs.Node as model
 use Rattle.model.specs.SetAttr.{mapped_of_size, resized, with_length}
 use Rattle.model.specs.Tree.{Tree}
@@ -143,7 +143,8 @@ module _ (g : Geometry) (image : Image) (tree : Tree) (n : ℕ) (inode : Inode) 
 
     not_pointers : after one ≡ zs one
     not_pointers =
-        cuts.number_unwritten g image tree n inode has k cut is last (left_in size) (k - 1) at_low last_there j j_low some
+        cuts.number_unwritten g image tree n inode has k cut is last (left_in size) (k - 1) at_low last_there j
+        j_low some
 
     other_last : suc j < k → nat_eq last 0 ≡ false → one ≡ last → ⊥
     other_last ahead some_of same =
@@ -213,7 +214,8 @@ module _ (g : Geometry) (image : Image) (tree : Tree) (n : ℕ) (inode : Inode) 
     new = cuts.new g image tree n inode has k cut is last (left_in size) (k - 1) at_low last_there shown size
 
     pub numbers_now : numbers_of after new ≡ kept
-    numbers_now = cuts.numbers_now g image tree n inode has k cut is last (left_in size) (k - 1) at_low last_there shown size
+    numbers_now =
+        cuts.numbers_now g image tree n inode has k cut is last (left_in size) (k - 1) at_low last_there shown size
 
     pub fewer : (b : ℕ) → how_often b (owned_by after (Ok (Some new))) + how_often b cut.gone.items
         ≡ how_often b (owned_by content (Ok (Some inode)))
@@ -240,10 +242,11 @@ module _ (g : Geometry) (image : Image) (tree : Tree) (n : ℕ) (inode : Inode) 
 
     is_mapped : IsMapped g after new
     is_mapped = record {
-      pointers = cuts.all_pointers_placed g image tree n inode has k cut is last (left_in size) (k - 1) at_low last_there
-          shown size;
+      pointers = cuts.all_pointers_placed g image tree n inode has k cut is last (left_in size) (k - 1) at_low
+          last_there shown size;
       numbers = ap (list_all (is_data_block_or_none g)) numbers_now ∙ placed;
-      used = cuts.pointers_used g image tree n inode has k cut is last (left_in size) (k - 1) at_low last_there shown size;
+      used = cuts.pointers_used g image tree n inode has k cut is last (left_in size) (k - 1) at_low last_there
+          shown size;
     }
 
     is_regular : IsRegular g after new

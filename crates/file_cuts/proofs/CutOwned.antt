@@ -1,7 +1,7 @@
 -- What a file owns of which the end was cut off: what it has still, and what is gone.
-use Rattle.std.proofs.Common.{◌≡◌, ℕ, ◌+◌, ◌-◌, ◌<◌, ◌≤◌, sym, ap, ◌∙◌, false, List, [], ◌∷◌, ◌++◌, drop, get_or, length}
+use Rattle.std.proofs.Common.{◌≡◌, ℕ, ◌+◌, ◌-◌, ◌<◌, ap, ◌∙◌, false, List, [], ◌∷◌, ◌++◌, drop, get_or, length}
 use Rattle.std.proofs.Common.{filter, count_by, nat_eq, Some, Ok, arith}
-use Rattle.limits.specs.declared.TheConstants.{DIRECT_INDEXES, FIRST_DOUBLE_INDEX, INDIRECT_INDEXES}
+use Rattle.limits.specs.declared.TheConstants.{DIRECT_INDEXES, FIRST_DOUBLE_INDEX}
 use Rattle.disk.specs.Crash.{Image}
 use Rattle.model.specs.Tree.{Tree}
 use Rattle.layout.specs.declared.geometry.Geometry.{Geometry}
@@ -11,7 +11,7 @@ use Rattle.layout.specs.Fields.{count_of}
 use Rattle.layout.specs.Owners.{owned_by}
 use Rattle.layout.specs.Parts.{content_in}
 use Rattle.layout.proofs.FileNumbers.{in_parts, pointers_are}
-use Rattle.file_cuts.specs.Cut.{first_of, is_some, kept, lost, one_of}
+use Rattle.file_cuts.specs.Cut.{first_of, is_some, lost}
 use Rattle.file_cuts.specs.CutBlocks.{IsCutOf}
 use Rattle.file_cuts.specs.Doubles.{times}
 use Rattle.file_cuts.specs.declared.cutting.CutPointers.{CutPointers}

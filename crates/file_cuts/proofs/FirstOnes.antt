@@ -1,13 +1,12 @@
 -- The first of some numbers, with zeros for the others.
-use Rattle.std.proofs.Common.{◌≡◌, ℕ, zero, suc, ◌+◌, ◌-◌, ◌<◌, ◌≤◌, min, inl, inr, sym, ap, ◌∙◌, refl, Bool, true, false}
-use Rattle.std.proofs.Common.{cond, not, ◌||◌, List, [], ◌∷◌, ◌++◌, length, take, drop, replicate, nat_eq, count_by, filter}
-use Rattle.std.proofs.Common.{length-append, append-nil, arith}
+use Rattle.std.proofs.Common.{◌≡◌, ℕ, zero, suc, ◌+◌, ◌-◌, ◌<◌, ◌≤◌, min, inl, inr, sym, ap, ◌∙◌, refl, Bool, true}
+use Rattle.std.proofs.Common.{false, cond, not, ◌||◌, List, [], ◌∷◌, ◌++◌, length, take, drop, replicate, nat_eq}
+use Rattle.std.proofs.Common.{count_by, filter, length-append, append-nil, arith}
 use Rattle.std.proofs.lemmas.Bool.{cases_lt}
 use Rattle.std.proofs.lemmas.Bool.Decides.{nat_tests}
-use Rattle.std.proofs.lemmas.List.{drop_min, length-replicate, take-append-drop, take_all}
+use Rattle.std.proofs.lemmas.List.{length-replicate, take-append-drop, take_all}
 use Rattle.std.proofs.lemmas.List.Elements.{filter-append}
 use Rattle.std.proofs.lemmas.List.Sums.{sum_by-append, sum_by-cons}
-use Rattle.std.specs.List.{list_any}
 use Rattle.file_cuts.specs.Cut.{first_of, has_some, is_some, kept, lost, one_of}
 use Rattle.file_cuts.specs.Doubles.{times}
 

@@ -1,7 +1,7 @@
 -- A regular file of which the size grew, up to which zeros lie already.
 use Rattle.std.proofs.Common.{◌≡◌, ℕ, zero, suc, ◌+◌, ◌-◌, ◌<◌, ◌≤◌, sym, ap, ◌∙◌, refl, subst, true, false}
-use Rattle.std.proofs.Common.{cond, ◌&&◌, ◌*◌, nat_lt, List, [], ◌∷◌, ◌++◌, length, take, drop, replicate, nat_eq, nat_le}
-use Rattle.std.proofs.Common.{Some, Ok, arith}
+use Rattle.std.proofs.Common.{cond, ◌&&◌, ◌*◌, nat_lt, List, [], ◌∷◌, ◌++◌, length, take, drop, replicate, nat_eq}
+use Rattle.std.proofs.Common.{nat_le, Some, Ok, arith}
 use Rattle.std.specs.FinSet.{retain}
 use Rattle.std.specs.List.{list_all}
 use Rattle.std.proofs.lemmas.Bool.{le-leb}
@@ -129,8 +129,8 @@ module _ (g : Geometry) (content : Image) (inode looks : Inode) (size : ℕ) whe
 
       mapped : mapped_of (numbers_of content inode)
           ≡ mapped_of_size size (take inode.size all) (mapped_of (numbers_of content inode))
-      mapped = sym (ap (λ t. cond t (retain (mapped_of (numbers_of content inode)) (λ index. nat_lt (index * BLOCK_BYTES) size))
-          (mapped_of (numbers_of content inode)))
+      mapped = sym (ap (λ t. cond t (retain (mapped_of (numbers_of content inode))
+          (λ index. nat_lt (index * BLOCK_BYTES) size)) (mapped_of (numbers_of content inode)))
           (not_below size (length (take inode.size all)) (omega (arith, more, whole))))
 
   grown_cost : inode.size ≤ size

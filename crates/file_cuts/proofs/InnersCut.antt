@@ -1,16 +1,16 @@
 -- Pointer blocks that are cut one after another.
-use Rattle.std.proofs.Common.{◌≡◌, ℕ, zero, suc, ◌+◌, ◌-◌, ◌*◌, ◌/◌, ◌<◌, ◌≤◌, inl, inr, sym, ap, ◌∙◌, refl, subst, Bool, true, false}
-use Rattle.std.proofs.Common.{cond, List, [], ◌∷◌, ◌++◌, length, drop, get_or, nat_eq, count_by, filter}
-use Rattle.std.proofs.Common.{length-append, append-nil, append_assoc, arith}
+use Rattle.std.proofs.Common.{◌≡◌, ℕ, zero, suc, ◌+◌, ◌-◌, ◌*◌, ◌/◌, ◌<◌, inl, inr, sym, ap, ◌∙◌, refl, subst, Bool, true}
+use Rattle.std.proofs.Common.{false, cond, List, [], ◌∷◌, ◌++◌, length, drop, get_or, nat_eq, count_by, filter}
+use Rattle.std.proofs.Common.{length-append, append-nil, arith}
 use Rattle.std.specs.List.{flat_map}
 use Rattle.std.proofs.lemmas.Bool.{cases_lt, eq-eqb}
 use Rattle.std.proofs.lemmas.Grind.{flat_map-append}
 use Rattle.std.proofs.lemmas.List.{get_or_append_left, get_or_past, get_or_push}
 use Rattle.std.proofs.lemmas.List.Sums.{sum_by-append}
-use Rattle.file_cuts.specs.Cut.{IsRowCut, first_of, has_some, is_some, kept, lost, one_of}
+use Rattle.file_cuts.specs.Cut.{IsRowCut, first_of, has_some, is_some, kept, lost}
 use Rattle.file_cuts.specs.Doubles.{AreInnersCut, row_left, times}
 use Rattle.limits.specs.declared.TheConstants.{INDIRECT_INDEXES}
-use Rattle.file_cuts.proofs.FirstOnes.{count_both, count_first, count_one, first_both, first_nil, kept_or_lost, none_counted}
+use Rattle.file_cuts.proofs.FirstOnes.{count_both, count_one, first_both, first_nil, kept_or_lost, none_counted}
 use Rattle.file_cuts.proofs.FirstOnes.{none_dropped, none_first, parted, times_both}
 
 abbrev pub how_often : ℕ → List ℕ → ℕ
@@ -198,7 +198,8 @@ module _ (f : ℕ → List ℕ) (wide : (x : ℕ) → length (f x) ≡ INDIRECT_
       numbers_are = numbers_now;
       part_is = is.part_is ∙ sym same;
       part_numbers_are = λ some.
-          let less = get_or-more numbers now (count / INDIRECT_INDEXES) (ap (λ x. nat_eq x 0) (sym is.part_is) ∙ some) in
+          let less = get_or-more numbers now (count / INDIRECT_INDEXES)
+          (ap (λ x. nat_eq x 0) (sym is.part_is) ∙ some) in
           let long = is.long in
           is.part_numbers_are some ∙ sym (early_row (count / INDIRECT_INDEXES) (omega (arith, less, long)));
       used_is = used_now;
@@ -216,8 +217,8 @@ module _ (f : ℕ → List ℕ) (wide : (x : ℕ) → length (f x) ≡ INDIRECT_
     cut_none empty none more =
         let same : used + 0 ≡ used = omega arith in
         let m = count - INDIRECT_INDEXES * length numbers in
-        subst (λ (t : ℕ × List ℕ × ℕ). AreInnersCut f (pointers ++ t.0 ∷ []) count before t.1 part part_numbers t.2 gone)
-        (λ i. (sym none i, sym more i, same i))
+        subst (λ (t : ℕ × List ℕ × ℕ). AreInnersCut f (pointers ++ t.0 ∷ []) count before t.1 part part_numbers t.2
+        gone) (λ i. (sym none i, sym more i, same i))
         (cut_elsewhere pointers count before numbers part part_numbers used gone is 0 0 (first_of m (f 0)) 0 gone
         (none_cut (f 0) m gone empty) (none_more numbers (count / INDIRECT_INDEXES)))
 
@@ -233,7 +234,8 @@ module _ (f : ℕ → List ℕ) (wide : (x : ℕ) → length (f x) ≡ INDIRECT_
           → AreInnersCut f (pointers ++ p ∷ []) count before next now stay (used + row_used) later
       cut_through here =
           subst (λ l. AreInnersCut f (pointers ++ p ∷ []) count before l now stay (used + row_used) later) (sym more)
-          (cut_here pointers count before numbers part part_numbers used gone is p now stay row_used later row_there here)
+          (cut_here pointers count before numbers part part_numbers used gone is p now stay row_used later row_there
+          here)
 
       -- it isn't
       pub cut_beside : (length numbers ≡ count / INDIRECT_INDEXES → ⊥)
@@ -241,8 +243,8 @@ module _ (f : ℕ → List ℕ) (wide : (x : ℕ) → length (f x) ≡ INDIRECT_
       cut_beside other =
           subst (λ l. AreInnersCut f (pointers ++ p ∷ []) count before l part part_numbers (used + row_used) later)
           (sym more)
-          (cut_elsewhere pointers count before numbers part part_numbers used gone is p now stay row_used later row_there
-          (other_more numbers now (count / INDIRECT_INDEXES) other))
+          (cut_elsewhere pointers count before numbers part part_numbers used gone is p now stay row_used later
+          row_there (other_more numbers now (count / INDIRECT_INDEXES) other))
 
   -- ---- the rows that stay are the first of all
 

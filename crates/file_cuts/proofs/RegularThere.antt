@@ -1,5 +1,5 @@
 -- A regular file in blocks that hold the files of a tree.
-use Rattle.std.proofs.Common.{◌≡◌, ℕ, ◌<◌, ◌≤◌, subst, Bool, true, ◌||◌, List, length, nat_eq, nat_le, Some, Ok, arith}
+use Rattle.std.proofs.Common.{◌≡◌, ℕ, ◌<◌, ◌≤◌, subst, true, List, length, nat_eq, nat_le, Some, Ok, arith}
 use Rattle.limits.specs.declared.TheConstants.{BLOCK_BYTES, FILE_INDEXES, LARGEST_FILE}
 use Rattle.disk.specs.Crash.{Image}
 use Rattle.model.specs.Tree.{Tree}

@@ -51,11 +51,11 @@ pub record HasPointers (g : Geometry) (cut : CutPointers) (old new : Image) : Ty
   pub parts : parts_of g new ≡ record (parts_of g old) { content = with_pointers (content_in g old) cut }
 
 -- and an inode has what stays, and the blocks that are gone are free
-pub record IsCut (g : Geometry) (number : ℕ) (inode : Inode) (last from : ℕ) (cut : CutPointers) (old new : Image) : Type 0
-  where
-    pub bytes : AreOfBytes g old → AreOfBytes g new
-    pub parts : parts_of g new ≡ record (parts_of g old) {
-      table = put (parts_of g old).table number (Ok (Some inode));
-      content = with_pointers (with_zeros (content_in g old) last from) cut;
-      block_bits = without cut.gone.items (parts_of g old).block_bits;
-    }
+pub record IsCut (g : Geometry) (number : ℕ) (inode : Inode) (last from : ℕ) (cut : CutPointers) (old new : Image)
+    : Type 0 where
+  pub bytes : AreOfBytes g old → AreOfBytes g new
+  pub parts : parts_of g new ≡ record (parts_of g old) {
+    table = put (parts_of g old).table number (Ok (Some inode));
+    content = with_pointers (with_zeros (content_in g old) last from) cut;
+    block_bits = without cut.gone.items (parts_of g old).block_bits;
+  }

@@ -1,5 +1,6 @@
 //! Numbers of blocks, and those that stay where their file is cut.
-ghost use Rattle.std.specs.Prelude.{◌≡◌, ◌+◌, ◌++◌, ◌∷◌, [], ◌≤◌, cond, length, drop, filter, count_by, nat_eq, IfOk, OnOk};
+ghost use Rattle.std.specs.Prelude.{◌≡◌, ◌+◌, ◌++◌, ◌∷◌, [], ◌≤◌, cond, length, drop, filter, count_by, nat_eq, IfOk};
+ghost use Rattle.std.specs.Prelude.{OnOk};
 ghost use Rattle.limits.specs.declared.TheConstants.{INDIRECT_INDEXES};
 ghost use Rattle.file_cuts.specs.Cut.{IsRowCut, first_of, is_some, one_of};
 

@@ -1,6 +1,5 @@
-use Rattle.std.proofs.Common.{◌≡◌, ℕ, ◌-◌, ◌++◌, sym, ap, ◌∙◌, refl, subst, true, List, length, drop, filter, arith}
-use Rattle.limits.specs.declared.TheConstants.{DIRECT_INDEXES, INDIRECT_INDEXES}
-use Rattle.layout.specs.Decode.{numbers_in}
+use Rattle.std.proofs.Common.{◌≡◌, ℕ, ◌++◌, sym, ap, ◌∙◌, refl, subst, true, List, length, drop, filter, arith}
+use Rattle.limits.specs.declared.TheConstants.{DIRECT_INDEXES}
 use Rattle.layout.specs.InodeForm.{is_data_block_or_none}
 use Rattle.layout.specs.Parts.{content_in}
 use Rattle.inode.proofs.InodeThere.{maps}
@@ -52,5 +51,6 @@ returns-clause-ok c = λ blocks tree file has.
           c.in_ok-far.far.numbers.items c.in_ok-far.far.used c.cut_row.new.gone.items)
           (λ i. (far_is i, c.saturating_sub-behind.ensures i, before i)) c.in_ok-far.ensures.is;
       further = subst (λ (m : ℕ). IsDoubleCut content inode.double m c.cut_row.new.gone.items c.in_ok-double.double
-          c.cut_double.new.gone.items) c.saturating_sub-further.ensures (c.in_ok-double.ensures.ok blocks tree file has);
+          c.cut_double.new.gone.items) c.saturating_sub-further.ensures
+          (c.in_ok-double.ensures.ok blocks tree file has);
     }

@@ -1,11 +1,10 @@
-use Rattle.std.proofs.Common.{◌≡◌, ℕ, ◌-◌, sym, ap, ◌∙◌, length, get_or, arith}
+use Rattle.std.proofs.Common.{◌≡◌, ◌-◌, sym, ◌∙◌, length, arith}
 use Rattle.std.proofs.lemmas.Result.{IfOk-weaker}
 use Rattle.limits.specs.declared.TheConstants.{FILE_INDEXES}
 use Rattle.layout.specs.Decode.{numbers_of}
 use Rattle.layout.specs.Parts.{content_in}
 use Rattle.layout.proofs.AllNumbers.{all-length}
 use Rattle.inode.proofs.Pieces.{direct}
-use Rattle.file_cuts.specs.Cut.{last_of}
 use Rattle.file_cuts.proofs.CutNumbers.{before, past}
 use Rattle.file_cuts.proofs.cutting.last_of.Goals as goal
 
@@ -21,7 +20,8 @@ returns-clause-ok c =
     let inode = c.args.inode.now in
     let content = content_in c.args.snap.now.geometry blocks in
     let numbers = numbers_of content inode in
-    let long : length numbers ≡ FILE_INDEXES = all-length content inode (direct c.args.snap.now blocks tree file inode has) in
+    let long : length numbers ≡ FILE_INDEXES =
+    all-length content inode (direct c.args.snap.now blocks tree file inode has) in
     let few = c.requires in
     let some = c.if-count-eq0.false in
     leads blocks tree file has

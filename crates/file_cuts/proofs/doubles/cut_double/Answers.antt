@@ -1,4 +1,5 @@
-use Rattle.std.proofs.Common.{rules, ◌≡◌, ℕ, ◌+◌, sym, ap, ◌∙◌, refl, subst, cond, nat_eq, ◌++◌, ◌∷◌, [], List, filter, count_by, arith}
+use Rattle.std.proofs.Common.{rules, ℕ, ◌+◌, sym, ap, ◌∙◌, refl, subst, cond, nat_eq, ◌++◌, ◌∷◌, [], List}
+use Rattle.std.proofs.Common.{filter, count_by, arith}
 use Rattle.std.specs.List.{list_all}
 use Rattle.layout.specs.Decode.{numbers_in}
 use Rattle.layout.specs.InodeForm.{is_data_block_or_none}
@@ -23,7 +24,8 @@ returns-in_err-inners-clause-pause c =
     let pointers = c.deref.ensures.value ∙ c.in_ok-pointers.ensures.ok blocks tree file has in
     c.in_err-inners.ensures.pause blocks tree has.over
     (ap (list_all (λ pointer. list_all test (numbers_in content pointer))) pointers
-    ∙ sym (doubled_pass content inode.double test) ∙ doubled_named g blocks tree file inode has.over.holds has.less has.there))
+    ∙ sym (doubled_pass content inode.double test)
+    ∙ doubled_named g blocks tree file inode has.over.holds has.less has.there))
 
 pub returns-clause-fits : goal.returns-clause-fits
 returns-clause-fits c =
@@ -33,8 +35,8 @@ returns-clause-fits c =
     let one = c.one_of.ensures.few in
     let count = c.count_some.ensures.count ∙ ap (λ (l : List ℕ). count_by is_some l) c.deref-2.ensures.value in
     record {
-      placed = kept_passes (is_data_block_or_none c.args.snap.now.geometry) c.args.inode.now.double c.in_ok-pointer.pointer
-          inners.numbers.items refl
+      placed = kept_passes (is_data_block_or_none c.args.snap.now.geometry) c.args.inode.now.double
+          c.in_ok-pointer.pointer inners.numbers.items refl
           (c.in_ok-pointer.ensures.is ∙ ap (λ n. cond (nat_eq n 0) 0 c.args.inode.now.double) count
           ∙ kept_is c.args.inode.now.double inners.numbers.items) c.requires;
       inners = c.in_ok-inners.ensures.fits;

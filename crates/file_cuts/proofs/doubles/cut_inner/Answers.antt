@@ -1,4 +1,4 @@
-use Rattle.std.proofs.Common.{◌≡◌, ℕ, ◌+◌, ◌-◌, ◌*◌, ◌++◌, ◌∷◌, [], sym, ap, ◌∙◌, refl, ◌&&◌, true, List, length}
+use Rattle.std.proofs.Common.{◌≡◌, ℕ, ◌-◌, ◌*◌, ◌∷◌, [], sym, ap, ◌∙◌, refl, ◌&&◌, true, List, length}
 use Rattle.std.proofs.Common.{length-append, arith}
 use Rattle.std.specs.List.{list_all}
 use Rattle.limits.specs.declared.TheConstants.{INDIRECT_INDEXES}
@@ -53,8 +53,8 @@ returns-then-index-through-clause-fits c = λ placed.
     let few = c.requires.fits.few in
     let row_few = c.in_ok-row.ensures.few in
     let more = ap (λ (l : List ℕ). length l) c.in_ok-add-2.ensures ∙ length-append was (row.pointer ∷ []) in
-    let now = kept_passes test c.args.pointer row.pointer row.numbers.items refl c.in_ok-row.ensures.is.pointer_is placed
-    in
+    let now = kept_passes test c.args.pointer row.pointer row.numbers.items refl
+    c.in_ok-row.ensures.is.pointer_is placed in
     record {
       placed = ap (list_all test) c.in_ok-add-2.ensures
           ∙ all_both test was (row.pointer ∷ []) c.requires.fits.placed (λ i. now i && true);
@@ -84,8 +84,8 @@ returns-clause-fits c = λ placed.
     let few = c.requires.fits.few in
     let row_few = c.in_ok-row.ensures.few in
     let more = ap (λ (l : List ℕ). length l) c.in_ok-add-2.ensures ∙ length-append was (row.pointer ∷ []) in
-    let now = kept_passes test c.args.pointer row.pointer row.numbers.items refl c.in_ok-row.ensures.is.pointer_is placed
-    in
+    let now = kept_passes test c.args.pointer row.pointer row.numbers.items refl
+    c.in_ok-row.ensures.is.pointer_is placed in
     record {
       placed = ap (list_all test) c.in_ok-add-2.ensures
           ∙ all_both test was (row.pointer ∷ []) c.requires.fits.placed (λ i. now i && true);

@@ -1,7 +1,6 @@
-use Rattle.std.proofs.Common.{rules, ◌≡◌, ℕ, sym, ap, ◌∙◌, refl, subst, List, length, take, arith}
+use Rattle.std.proofs.Common.{rules, ℕ, sym, ap, ◌∙◌, refl, subst, List, length, take, arith}
 use Rattle.std.specs.List.{list_all}
 use Rattle.std.proofs.lemmas.List.{take_all, take_more}
-use Rattle.limits.specs.declared.TheConstants.{INDIRECT_INDEXES}
 use Rattle.layout.specs.Decode.{numbers_in}
 use Rattle.layout.specs.InodeForm.{is_data_block_or_none}
 use Rattle.layout.specs.Parts.{content_in}
