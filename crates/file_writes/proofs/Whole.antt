@@ -151,9 +151,8 @@ pub moved_piece : (old new : Drafted) (blocks image : Image) (tree : Tree) (n : 
     → PutsPiece old new blocks tree n inode made offset piece
 moved_piece old new blocks image tree n inode next made offset piece geometry is shows less regular same stores =
     record {
-      is = moved_draft old new blocks image
-          (with_node tree n (node_written old.there.geometry (image_of blocks old) inode offset piece)) geometry is shows
-          stores.0;
+      is = let written = node_written old.there.geometry (image_of blocks old) inode offset piece in
+          moved_draft old new blocks image (with_node tree n written) geometry is shows stores.0;
       names = record {
         less = subst (λ (g : Geometry). n < g.inodes) (sym geometry) less;
         read = (λ i. inode_at (geometry i) (is i) n) ∙ stores.1 ∙ (λ i. Ok (Some (sym same i)));

@@ -1,4 +1,4 @@
-use Rattle.std.proofs.Common.{◌≡◌, ◌+◌, ◌-◌, max, cond, nat_eq, nat_lt, ap, ◌∙◌, ℕ, arith}
+use Rattle.std.proofs.Common.{◌≡◌, ◌+◌, ◌-◌, max, cond, nat_lt, ap, ◌∙◌, ℕ, arith}
 use Rattle.std.proofs.lemmas.Bool.{le-ltb, lt-ltb}
 use Rattle.limits.specs.declared.TheConstants.{FIRST_DOUBLE_INDEX}
 use Rattle.layout.specs.Decode.{numbers_in}
