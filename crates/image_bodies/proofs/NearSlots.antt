@@ -1,5 +1,5 @@
 -- A directory has no double indirect block: what it spans lies in front of it.
-use Rattle.std.proofs.Common.{◌≡◌, ℕ, ◌*◌, ◌≤◌, sym, ap, ◌∙◌, refl, subst, Bool, true, false, not, ◌&&◌, List, ◌++◌}
+use Rattle.std.proofs.Common.{◌≡◌, ℕ, ◌*◌, ◌≤◌, sym, ap, ◌∙◌, refl, subst, Bool, true, false, not, ◌&&◌}
 use Rattle.std.proofs.Common.{length, length-append, take, drop, nat_eq, arith}
 use Rattle.std.specs.List.{list_all}
 use Rattle.std.proofs.lemmas.List.{drop-append-le}

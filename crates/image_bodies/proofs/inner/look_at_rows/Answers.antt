@@ -1,5 +1,5 @@
-use Rattle.std.proofs.Common.{rules, ◌≡◌, ◌+◌, ◌-◌, ◌*◌, ◌<◌, ◌∙◌, ◌&&◌, ◌++◌, ap, sym, refl, subst, filter, length, drop, take, true}
-use Rattle.std.proofs.Common.{ℕ, List, [], get_or, below_more, arith}
+use Rattle.std.proofs.Common.{rules, ◌≡◌, ◌-◌, ◌*◌, ◌∙◌, ◌&&◌, ◌++◌, ap, sym, refl, subst, filter, drop, take}
+use Rattle.std.proofs.Common.{[], get_or, below_more, arith}
 use Rattle.std.specs.List.{flat_map}
 use Rattle.std.proofs.lemmas.List.{append-nil, take_all}
 use Rattle.limits.specs.declared.TheConstants.{BLOCK_BYTES, FIRST_DOUBLE_INDEX}

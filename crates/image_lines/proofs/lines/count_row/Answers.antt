@@ -1,5 +1,6 @@
 use Rattle.std.proofs.Common.{rules, ◌≡◌, ◌≤◌, ◌∙◌, ap, sym, length, true, false, nat_eq, ℕ, List, Err, arith}
 use Rattle.std.proofs.lemmas.List.Sums.{count_by-le-length}
+use Rattle.limits.specs.declared.TheConstants.{INDIRECT_INDEXES}
 use Rattle.disk.specs.Crash.{Image}
 use Rattle.layout.specs.Fields.{count_of}
 use Rattle.layout.specs.Parts.{content_in}
@@ -29,7 +30,9 @@ returns-in_err-numbers-clause-refused g c = λ keeps unspoiled range row.
 pub returns-clause-few : goal.returns-clause-few
 returns-clause-few g c =
     let few = count_by-le-length is_some c.as_slice.result.now in
-    let long = ap length c.as_slice.ensures in
+    let wide : length c.numbers.inside.numbers.items ≡ INDIRECT_INDEXES = c.numbers.invariant in
+    let long : length c.as_slice.result.now ≡ INDIRECT_INDEXES =
+    ap (length {A = ℕ}) (c.as_slice.ensures ∙ sym c.numbers.view_is) ∙ wide in
     let is = c.count.ensures in
     omega (arith, few, long, is)
 
