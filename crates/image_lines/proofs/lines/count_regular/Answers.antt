@@ -1,8 +1,7 @@
-use Rattle.std.proofs.Common.{rules, ◌≡◌, ◌+◌, ◌≤◌, ◌∙◌, ap, sym, subst, length, Err, arith}
-use Rattle.std.proofs.lemmas.List.Sums.{count_by-le-length}
+use Rattle.std.proofs.Common.{rules, ◌≡◌, ◌+◌, ◌∙◌, ap, sym, subst, Err, arith}
 use Rattle.disk.specs.Crash.{Image}
 use Rattle.disk.specs.Device.{Device}
-use Rattle.layout.specs.Decode.{doubled_in, numbers_of}
+use Rattle.layout.specs.Decode.{doubled_in}
 use Rattle.layout.specs.Fields.{count_of}
 use Rattle.layout.specs.Parts.{content_in}
 use Rattle.wal_law.specs.Recovery.{image_of}
@@ -11,7 +10,6 @@ use Rattle.overlays.specs.LaidOver.{laid_over}
 use Rattle.image_parts.specs.declared.fault.PartFault.TheVariants.{Range}
 use Rattle.image_files.specs.Far.{IsBelowMapped, near_of}
 use Rattle.image_files.proofs.AllMapped.{below_of_mapped, near_of_mapped}
-use Rattle.image_files.proofs.Data.{is_some}
 use Rattle.image_files.proofs.Then.{contents_then}
 use Rattle.image_lines.proofs.Counted.{counted_all}
 use Rattle.image_lines.proofs.lines.count_regular.Goals as goal

@@ -1,4 +1,4 @@
-use Rattle.std.proofs.Common.{rules, ◌≡◌, ◌+◌, ◌*◌, ◌<◌, ◌≤◌, ◌∙◌, ap, sym, refl, subst, length, take, get_or, ℕ, List, arith}
+use Rattle.std.proofs.Common.{rules, ◌+◌, ◌∙◌, ap, sym, refl, subst, get_or, arith}
 use Rattle.std.specs.List.{flat_map}
 use Rattle.std.proofs.lemmas.List.{take_all}
 use Rattle.disk.specs.Crash.{Image}
@@ -10,7 +10,6 @@ use Rattle.wal_law.specs.Recovery.{image_of}
 use Rattle.wal_law.proofs.OnlyRead.{no_read, reads_then, unspoiled_then}
 use Rattle.overlays.specs.LaidOver.{laid_over}
 use Rattle.image_files.specs.Far.{IsRowMapped}
-use Rattle.image_files.proofs.Rows.{rows_of}
 use Rattle.image_files.proofs.Then.{contents_then}
 use Rattle.image_lines.proofs.Counted.{counted_more}
 use Rattle.image_lines.proofs.lines.count_rows.Goals as goal
