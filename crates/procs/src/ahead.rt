@@ -26,9 +26,9 @@ use nfs_types::{Call, DirectoryName, Handle};
 use procedures::{ITSELF_COOKIE, PARENT_COOKIE};
 use std::alloc::{AllocError, Global};
 
-/// Nothing; the blocks of a file that a READ asks for; what a WRITE asks for; what a name asks for
-/// that a directory gets; what the blocks ask for that a file frees; what a listing asks for; the bitmaps; or the pointer
-/// blocks of a file.
+/// Nothing; the blocks of a file that a READ asks for; what a WRITE asks for; what a name asks for that a directory
+/// gets; what the blocks ask for that a file frees; what a listing asks for; the bitmaps; or the pointer blocks of a
+/// file.
 #[derive(Drop)]
 pub(crate) enum Ahead {
     Nothing,
@@ -50,8 +50,8 @@ pub(crate) struct Blocks {
     ghost within: { end ≤ FILE_INDEXES },
 }
 
-/// A listing: the slot from which it goes on, the room that is left for names and for the whole, and the numbers that it
-/// has listed, of which the first were told; these only where their files are told, with the pointer blocks of the
+/// A listing: the slot from which it goes on, the room that is left for names and for the whole, and the numbers that
+/// it has listed, of which the first were told; these only where their files are told, with the pointer blocks of the
 /// next.
 #[derive(Drop)]
 pub(crate) struct Listing {
@@ -382,8 +382,8 @@ fn known_number(snap: &Snap, names: &Names, name: &DirectoryName) -> Option<u32>
     }
 }
 
-// The numbers of files whose pointer blocks a call asks for: of that which its first handle names, and of those to which
-// its names lead.
+// The numbers of files whose pointer blocks a call asks for: of that which its first handle names, and of those to
+// which its names lead.
 fn files_of(call: &Call, snap: &Snap, names: &Names) -> [Option<u32>; 3] {
     let handled = match first_handle(call) {
         Some(handle) => match handle.parts() {
@@ -436,8 +436,8 @@ fn pointers_behind(
     None
 }
 
-/// What a call asks for behind a plan: nothing, unless the plan asks for the next of what the call asks for in a row, so
-/// that the run has come there.
+/// What a call asks for behind a plan: nothing, unless the plan asks for the next of what the call asks for in a row,
+/// so that the run has come there.
 pub(crate) fn behind(alloc: Global, call: &Call, snap: &Snap, names: &Names, plan: &Plan) -> Ahead {
     if !matches!(plan, Plan::Need(..) | Plan::Claim(_)) {
         return Ahead::Nothing;

@@ -1,18 +1,18 @@
-//! Files past their indirect block, that are cut and taken away.
+//! Files past their indirect block that are cut and taken away.
 use crate::tests::lives::{PLAIN, Row, first_unlike};
 use limits::LEAST_BLOCKS;
 use nfs_types::{CreateHow, NewAttributes};
 use std::test::Fail;
 use worked::procedures::{Asked, File, ROOT, UNSET, ZEROS};
 
-// Three files, each of which a row makes, the first one of a size that the largest file has.
+// Three files, each of which a row makes.
 const FIRST: File = File(2, 1, 1);
 
 const SECOND: File = File(3, 1, 2);
 
 const THIRD: File = File(4, 1, 3);
 
-// The offsets of the first bytes that the indirect block names, the first and the second inner block, and the last one.
+// The offsets of the first bytes of what these name: the indirect block, the first inner block, the second, and the last.
 const INDIRECT_AT: u64 = 32_768;
 
 const DOUBLE_AT: u64 = 4_227_072;
@@ -28,7 +28,7 @@ const SHORT: NewAttributes = NewAttributes {
     ..UNSET
 };
 
-// Offsets at which bytes of two blocks or of three lie on both sides of each border, and in inner blocks between.
+// Offsets of bytes on both sides of each border, and of some that inner blocks between these name.
 const PLACES: &[u64] = &[
     0,
     INDIRECT_AT - 5_000,
@@ -42,8 +42,8 @@ const PLACES: &[u64] = &[
     LARGEST - 10_000,
 ];
 
-// What a file has at these offsets is cut at borders, within blocks and in holes, is found by its name and listed, and goes by
-// each of the calls that take a last name, of which two leave it a name at first.
+// Files that have bytes at these places are found by their names, listed and read. They are cut at borders, within blocks
+// and in holes, and taken away by a RENAME and by REMOVEs, one of which leaves its file another name.
 const ROWS: &[Row] = &[
     Row::Asks(Asked::Create(ROOT, b"f", PLAIN)),
     Row::Asks(Asked::Create(ROOT, b"g", PLAIN)),

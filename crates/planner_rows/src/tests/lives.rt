@@ -1,4 +1,5 @@
-//! Calls one behind the other on an image: each is planned both ways on what those before it left, and is replayed then.
+//! Calls one behind the other on an image: each is planned both ways on what those before it left, and is replayed
+//! then.
 ghost use Rattle.std.specs.Prelude.{◌≡◌, All, OnOk};
 ghost use Rattle.model.specs.Sound.{SoundTime};
 ghost use Rattle.replays.specs.Replayed.{CanBeReplayed};
@@ -23,13 +24,14 @@ const NOW: Moment = Moment {
     nanoseconds: 0,
 };
 
-// Pieces of the bitmap from which free blocks are looked for: the one that has the bits of all blocks, another, and none.
+// Pieces of the bitmap from which free blocks are looked for: the one that has the bits of all blocks, another, and
+// none.
 const STARTS: [u32; 3] = [0, 3, 8];
 
 /// A row: a call of the superuser; the second file's links in a directory, or files that are made in the first one, at
-/// the names of a first byte and each second byte from one on and below an end; so many bytes that a file gets at each of
-/// these offsets; sizes that it gets, one behind the other; or none of the blocks is free from then on that have a bit in a
-/// piece of the bitmap.
+/// the names of a first byte and each second byte from one on and below an end; so many bytes that a file gets at each
+/// of these offsets; sizes that it gets, one behind the other; or none of the blocks is free from then on that have a
+/// bit in a piece of the bitmap.
 pub(crate) enum Row<'a> {
     Asks(Asked<'a>),
     Links(File, u8, u8, u8),
@@ -64,8 +66,8 @@ const EMPTY: NewAttributes = NewAttributes {
     ..UNSET
 };
 
-// What is made; what a file's bytes are, from the first block on, written over, in part and as a whole, across the border of the indirect block, in a hole and
-// at the end; what is refused.
+// What is made; what a file's bytes are, from the first block on, written over, in part and as a whole, across the
+// border of the indirect block, in a hole and at the end; what is refused.
 const BYTES: &[Row] = &[
     Row::Asks(Asked::MkDir(ROOT, b"d", UNSET)),
     Row::Asks(Asked::Create(ROOT, b"f", PLAIN)),
@@ -119,7 +121,8 @@ const BYTES: &[Row] = &[
 ];
 
 // What a directory of three blocks lists, with room for all and for some, behind cookies; names that come and go; and
-// names that go from a directory of several blocks to another, from the first block of one and a later one of the other.
+// names that go from a directory of several blocks to another, from the first block of one and a later one of the
+// other.
 const NAMES: &[Row] = &[
     Row::Asks(Asked::MkDir(ROOT, b"d", UNSET)),
     Row::Asks(Asked::Create(ROOT, b"f", PLAIN)),
@@ -248,7 +251,7 @@ fn take_all(alloc: Global, disk: &mut MemDisk, piece: u32) -> Result<(), Fail> {
     Ok(())
 }
 
-// The same as of a call for each of the calls of a row, of which the first has this number. The number of the next, where all were.
+// The same for each of the calls of a row, of which the first has this number. The number of the next, where all were.
 fn row_goes_alike(
     alloc: Global,
     disk: &mut MemDisk,
