@@ -318,7 +318,8 @@ module _ (o : Outset) (now : Opened) (worker : State) (new : Side) (made : Optio
       (told_then : IsTold s (told_after t (event.Work 0) made) (with_core store new.core))
       (at_work : IsCoreAtWork (told new.worker) new.core)
       (goes : GoesOn worker.phase (side worker now.core) made new)
-      (one_geometry : (g h : Geometry) → g.blocks ≡ h.blocks → g.inodes ≡ h.inodes → g ≡ h) where
+      (one_geometry : (g h : Geometry) → g.version ≡ h.version → g.blocks ≡ h.blocks → g.inodes ≡ h.inodes → g ≡ h)
+      where
     progress_is : progress_of new.worker ≡ progress_after now.core.log.broken made (progress_of worker)
     progress_is = tells.progress
 
