@@ -1,6 +1,6 @@
 -- The blocks of a file are what was met of it, in whatever order.
-use Rattle.std.proofs.Common.{◌≡◌, ℕ, ◌+◌, ◌<◌, ◌≤◌, sym, ap, ◌∙◌, refl, subst, Bool, true, false, cond, ◌||◌, List, [], ◌∷◌, ◌++◌}
-use Rattle.std.proofs.Common.{filter, length, length-append, nat_eq, not, get_or, Some, Ok, arith}
+use Rattle.std.proofs.Common.{◌≡◌, ℕ, ◌+◌, ◌<◌, ◌≤◌, sym, ap, ◌∙◌, refl, subst, Bool, true, false, cond, ◌||◌}
+use Rattle.std.proofs.Common.{List, [], ◌∷◌, ◌++◌, filter, length, length-append, nat_eq, not, get_or, Some, Ok, arith}
 use Rattle.std.proofs.lemmas.List.{append_assoc}
 use Rattle.std.proofs.lemmas.List.Elements.{filter-append}
 use Rattle.std.proofs.lemmas.List.Folds.{list_any-append}
@@ -91,7 +91,8 @@ nothing_below content double none =
 
 -- one inner block more
 pub met_more : (content : Image) (inner met : List ℕ) (place : ℕ) → place < length inner
-    → (met ++ filter is_some (rows_of content inner place)) ++ filter is_some (numbers_in content (get_or inner place 0))
+    → (met ++ filter is_some (rows_of content inner place))
+    ++ filter is_some (numbers_in content (get_or inner place 0))
     ≡ met ++ filter is_some (rows_of content inner (place + 1))
 met_more content inner met place less =
     append_assoc met (filter is_some (rows_of content inner place))

@@ -1,6 +1,6 @@
 -- What is told of one file.
-use Rattle.std.proofs.Common.{◌≡◌, ℕ, ◌-◌, ◌*◌, ◌≤◌, sym, ap, ◌∙◌, refl, subst, Bool, true, false, ◌&&◌, ◌||◌, List, [], ◌∷◌, ◌++◌}
-use Rattle.std.proofs.Common.{length, map, take, drop, nat_eq, nat_le, nat_lt, Option, arith}
+use Rattle.std.proofs.Common.{◌≡◌, ℕ, ◌-◌, ◌*◌, ◌≤◌, sym, ap, ◌∙◌, refl, subst, Bool, true, false, ◌&&◌, ◌||◌}
+use Rattle.std.proofs.Common.{List, [], ◌∷◌, ◌++◌, length, map, take, drop, nat_eq, nat_le, nat_lt, Option, arith}
 use Rattle.std.specs.List.{list_all}
 use Rattle.std.proofs.lemmas.List.{take-append-le}
 use Rattle.limits.specs.declared.TheConstants.{BLOCK_BYTES, DIRECT_INDEXES, FIRST_DOUBLE_INDEX, SLOTS_PER_BLOCK}
@@ -108,7 +108,8 @@ module _ (g : Geometry) (content : Image) (inode : Inode) where
         → IsLookedAt g content table number kind inode old new (tidy && is_zero_below content inode)
     none_below long kind old new tidy none =
         subst (IsLookedAt g content table number kind inode old new)
-        (sym (ap (λ b. tidy && b) (zero_doubled content long (inode.size - BLOCK_BYTES * FIRST_DOUBLE_INDEX) inode.double none)
+        (sym (ap (λ b. tidy && b)
+        (zero_doubled content long (inode.size - BLOCK_BYTES * FIRST_DOUBLE_INDEX) inode.double none)
         ∙ and_true tidy))
       where
         and_true : (b : Bool) → (b && true) ≡ b

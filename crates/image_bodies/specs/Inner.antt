@@ -10,7 +10,8 @@ use Rattle.file_counts.specs.Adds.{is_some}
 
 -- the double indirect block, its inner blocks, and those that these name
 abbrev pub below_of : Image → ℕ → List ℕ
-below_of content double = filter is_some (double ∷ numbers_in content double) ++ filter is_some (doubled_in content double)
+below_of content double =
+    filter is_some (double ∷ numbers_in content double) ++ filter is_some (doubled_in content double)
 
 -- the blocks that an inner block names have nothing but zeros past the file's size
 abbrev pub is_zero_row : Image → ℕ → ℕ → ℕ → Bool

@@ -21,8 +21,8 @@ use overlays::Overlay;
 use std::alloc::Global;
 use tallies::Owners;
 
-// Meets the blocks that an inner block of a file names, if it has this one, and tells whether they have nothing but zeros
-// past the file's size.
+// Meets the blocks that an inner block of a file names, if it has this one, and tells whether they have nothing but
+// zeros past the file's size.
 #[tactic(auto, using(wal_law::proofs::OnlyRead::reads_then, wal_law::proofs::OnlyRead::no_read))]
 fn look_at_row<D: CrashDisk>(
     alloc: Global,
@@ -43,7 +43,8 @@ fn look_at_row<D: CrashDisk>(
     ensures owners { length owners.new.has ≡ length owners.old.has }
     ensures looked { D.keeps_model disk.new → IsUnspoiled (D.device disk.old)
         → AreLong (content_on geometry.now overlay.now (D.device disk.old))
-        → IfOk result (λ yes. (yes ≡ is_zero_row (content_on geometry.now overlay.now (D.device disk.old)) size pointer inner)
+        → IfOk result (λ yes. (yes ≡ is_zero_row
+        (content_on geometry.now overlay.now (D.device disk.old)) size pointer inner)
         × IsRowMapped geometry.now (content_on geometry.now overlay.now (D.device disk.old)) pointer
         × ((met : List ℕ) → IsOwned met owners.old → IsOwned (met ++ filter is_some
         (numbers_in (content_on geometry.now overlay.now (D.device disk.old)) pointer)) owners.new)) }
@@ -88,7 +89,8 @@ fn look_at_rows<D: CrashDisk>(
     ensures owners { length owners.new.has ≡ length owners.old.has }
     ensures looked { D.keeps_model disk.new → IsUnspoiled (D.device disk.old)
         → AreLong (content_on geometry.now overlay.now (D.device disk.old))
-        → IfOk result (λ yes. (yes ≡ are_zero_rows (content_on geometry.now overlay.now (D.device disk.old)) size inner.now)
+        → IfOk result (λ yes. (yes ≡ are_zero_rows
+        (content_on geometry.now overlay.now (D.device disk.old)) size inner.now)
         × ((i : ℕ) → i < length inner.now → IsRowMapped geometry.now
         (content_on geometry.now overlay.now (D.device disk.old)) (get_or inner.now i 0))
         × ((met : List ℕ) → IsOwned met owners.old → IsOwned (met ++ filter is_some
@@ -114,8 +116,8 @@ fn look_at_rows<D: CrashDisk>(
     Ok(is_zero)
 }
 
-/// Meets the double indirect block of a file, its inner blocks and the blocks that these name, if there are any, and tells
-/// whether they have nothing but zeros past the file's size.
+/// Meets the double indirect block of a file, its inner blocks and the blocks that these name, if there are any, and
+/// tells whether they have nothing but zeros past the file's size.
 #[tactic(auto, using(wal_law::proofs::OnlyRead::reads_then, wal_law::proofs::OnlyRead::no_read))]
 pub(crate) fn look_below<D: CrashDisk>(
     alloc: Global,

@@ -167,8 +167,8 @@ fn first_untidy(first: Option<u32>, number: u32, tidy: bool) -> Option<u32>
     }
 }
 
-// Looks at what lies in a file's blocks in front of its double indirect block, which have these numbers, and tells whether
-// it is tidy, if nothing lies past its size in those behind.
+// Looks at what lies in a file's blocks in front of its double indirect block, which have these numbers, and tells
+// whether it is tidy, if nothing lies past its size in those behind.
 #[tactic(auto, using(wal_law::proofs::OnlyRead::reads_then, wal_law::proofs::OnlyRead::no_read))]
 fn look_inside<D: CrashDisk>(
     alloc: Global,

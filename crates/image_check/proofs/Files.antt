@@ -44,7 +44,9 @@ module _ (g : Geometry) (content : Image) (inode : Inode) (sound : SoundInode g 
       → IsSpanned g.inodes content inode (numbers_of content inode)
   unfolding slot_bytes
   spanned_by good is = record {
-    few = let few = few_spanned g inode good in let all = all-length content inode sound.fits.count in omega (arith, few, all);
+    few =
+        let few = few_spanned g inode good in
+        let all = all-length content inode sound.fits.count in omega (arith, few, all);
     first = is.spans;
     slots = λ index less.
         let count = length-range_with_len 0 (SLOTS_PER_BLOCK * span_of inode) in

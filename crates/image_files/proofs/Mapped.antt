@@ -80,7 +80,8 @@ module _ (g : Geometry) (image : Image) where
 
   module _ (inode : Inode) where
     -- without an indirect block they are its own, and zeros
-    pub near_numbers : nat_eq inode.indirect 0 ≡ true → inode.direct ++ replicate INDIRECT_INDEXES 0 ≡ near_of content inode
+    pub near_numbers : nat_eq inode.indirect 0 ≡ true
+        → inode.direct ++ replicate INDIRECT_INDEXES 0 ≡ near_of content inode
     near_numbers none =
         sym (ap (λ l. inode.direct ++ l) (none_in content inode.indirect none
         ∙ ap (λ n. replicate n 0) (in_length content inode.indirect)))

@@ -18,8 +18,8 @@ use overlays::Overlay;
 use std::alloc::Global;
 
 /// The numbers of the blocks of a file that lie in no inner block: those that its inode names itself, and those in its
-/// indirect block, 0 where no block is mapped. They are refused where one is that of no data block, or an indirect block
-/// has none.
+/// indirect block, 0 where no block is mapped. They are refused where one is that of no data block, or an indirect
+/// block has none.
 #[tactic(auto, using(wal_law::proofs::OnlyRead::reads_then, wal_law::proofs::OnlyRead::no_read))]
 pub fn read_numbers<D: CrashDisk>(
     alloc: Global,

@@ -2,7 +2,8 @@
 -- in its slots are names.
 use Rattle.std.proofs.Common.{◌≡◌, ℕ, zero, suc, ◌+◌, ◌*◌, ◌/◌, ◌%◌, ◌<◌, ◌≤◌, inl, inr, sym, ap, ◌∙◌, refl, subst}
 use Rattle.std.proofs.Common.{Bool, true, false, cond, not, List, [], ◌∷◌, ◌++◌, length, take, get_or, replicate}
-use Rattle.std.proofs.Common.{◌&&◌, length-append, length-take, Option, Some, None, Result, Ok, Err, nat_eq, nat_le, is_none, arith}
+use Rattle.std.proofs.Common.{◌&&◌, length-append, length-take, Option, Some, None, Result, Ok, Err, nat_eq, nat_le}
+use Rattle.std.proofs.Common.{is_none, arith}
 use Rattle.std.specs.FinMap as map
 use Rattle.std.specs.FinSet as set
 use Rattle.std.specs.List.{flat_map}
@@ -36,7 +37,8 @@ use Rattle.file_writes.proofs.OneNumber.{is_mapped, none_mapped}
 use Rattle.dir.proofs.Distinct.{found_in}
 use Rattle.dir.proofs.Members.{from_range, none_some, same}
 use Rattle.image_law.specs.TreeOf.{HasNames}
-use Rattle.image_law.proofs.SoundKinds.{few_spanned, no_verifier_of_directory, no_verifier_of_link, short_target, some_target}
+use Rattle.image_law.proofs.SoundKinds.{few_spanned, no_verifier_of_directory, no_verifier_of_link, short_target}
+use Rattle.image_law.proofs.SoundKinds.{some_target}
 
 module _ (content : Image) (long : (n : ℕ) → length (content n) ≡ BLOCK_BYTES) (are : (n : ℕ) → AreBytes (content n)) where
   -- ---- the bytes of blocks

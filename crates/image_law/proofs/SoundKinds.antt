@@ -1,6 +1,8 @@
 -- What a sound inode of a directory, or of a link, tells of its fields.
-use Rattle.std.proofs.Common.{◌≡◌, ◌/◌, ◌%◌, ◌<◌, ◌≤◌, Bool, true, cond, not, ◌&&◌, min, is_none, nat_eq, nat_le, nat_lt, arith}
-use Rattle.limits.specs.declared.TheConstants.{BLOCK_BYTES, DIRECT_INDEXES, FIRST_DOUBLE_INDEX, LARGEST_DIRECTORY, TARGET_BYTES}
+use Rattle.std.proofs.Common.{◌≡◌, ◌/◌, ◌%◌, ◌<◌, ◌≤◌, Bool, true, cond, not, ◌&&◌, min, is_none}
+use Rattle.std.proofs.Common.{nat_eq, nat_le, nat_lt, arith}
+use Rattle.limits.specs.declared.TheConstants.{BLOCK_BYTES, DIRECT_INDEXES, FIRST_DOUBLE_INDEX, LARGEST_DIRECTORY}
+use Rattle.limits.specs.declared.TheConstants.{TARGET_BYTES}
 use Rattle.layout.specs.declared.geometry.Geometry.{Geometry}
 use Rattle.layout.specs.declared.inode.Inode.{Inode}
 use Rattle.layout.specs.declared.inode.InodeKind.TheVariants.{Directory, Link}
@@ -13,7 +15,8 @@ module _ (g : Geometry) (inode : Inode) where
   -- ---- a directory
 
   abbrev has_far : Bool
-  has_far = cond (nat_lt DIRECT_INDEXES (inode.size / BLOCK_BYTES)) (not (nat_eq inode.indirect 0)) (nat_eq inode.indirect 0)
+  has_far =
+      cond (nat_lt DIRECT_INDEXES (inode.size / BLOCK_BYTES)) (not (nat_eq inode.indirect 0)) (nat_eq inode.indirect 0)
 
   abbrev near_first : Bool
   near_first = names_first (min (inode.size / BLOCK_BYTES) DIRECT_INDEXES) inode.direct

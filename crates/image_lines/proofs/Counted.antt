@@ -22,7 +22,8 @@ counted_more content inner place less =
 
 -- those in front of the double indirect block, and those that it reaches
 pub counted_all : (content : Image) (inode : Inode)
-    → count_of (numbers_of content inode) ≡ count_of (near_of content inode) + count_of (doubled_in content inode.double)
+    → count_of (numbers_of content inode)
+    ≡ count_of (near_of content inode) + count_of (doubled_in content inode.double)
 counted_all content inode =
     counted_parts content inode
     ∙ ap (λ k. k + count_of (doubled_in content inode.double))

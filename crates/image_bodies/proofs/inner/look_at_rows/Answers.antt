@@ -79,7 +79,8 @@ rows-preserved g c =
           let here : c.in_ok-row.row ≡ is_zero_row content c.args.size number index =
           row.0 ∙ ap (λ k. is_zero_row k c.args.size number index) same in
           let earlier = inv.zero (c.look_at_row.ensures.model keeps) unspoiled long in
-          c.both-is_zero.ensures ∙ (λ i. earlier i && here i) ∙ sym (rows_zero content long c.args.size index inner c.rows-test.true);
+          c.both-is_zero.ensures ∙ (λ i. earlier i && here i)
+          ∙ sym (rows_zero content long c.args.size index inner c.rows-test.true);
       mapped = λ keeps unspoiled long.
           let row = c.in_ok-row.ensures.looked keeps (unspoiled_then first before inv.reads unspoiled)
           (long_then geometry logged first before inv.reads long) in
@@ -91,8 +92,9 @@ rows-preserved g c =
           (long_then geometry logged first before inv.reads long) in
           let earlier = inv.owned (c.look_at_row.ensures.model keeps) unspoiled long met first_met in
           subst (λ l. IsOwned l c.look_at_row.new.owners) (met_more content inner met index c.rows-test.true)
-          (subst (λ k. IsOwned ((met ++ filter is_some (rows_of content inner index)) ++ filter is_some (numbers_in k number))
-          c.look_at_row.new.owners) same (row.2 (met ++ filter is_some (rows_of content inner index)) earlier));
+          (subst (λ k. IsOwned ((met ++ filter is_some (rows_of content inner index))
+          ++ filter is_some (numbers_in k number)) c.look_at_row.new.owners) same
+          (row.2 (met ++ filter is_some (rows_of content inner index)) earlier));
     }
 
 pub returns-clause-looked : goal.returns-clause-looked

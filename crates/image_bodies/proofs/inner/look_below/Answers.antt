@@ -1,5 +1,5 @@
-use Rattle.std.proofs.Common.{rules, ◌≡◌, ◌-◌, ◌*◌, ◌<◌, ◌∙◌, ◌++◌, ◌∷◌, ap, sym, subst, filter, length, true, false, nat_eq}
-use Rattle.std.proofs.Common.{ℕ, Bool, List, drop, get_or, Err, arith}
+use Rattle.std.proofs.Common.{rules, ◌≡◌, ◌-◌, ◌*◌, ◌<◌, ◌∙◌, ◌++◌, ◌∷◌, ap, sym, subst, filter, length}
+use Rattle.std.proofs.Common.{true, false, nat_eq, ℕ, Bool, List, drop, get_or, Err, arith}
 use Rattle.std.specs.List.{flat_map, list_all}
 use Rattle.std.proofs.lemmas.List.{append-nil, append_assoc}
 use Rattle.std.proofs.lemmas.Result.{IfOk-weaker}

@@ -21,8 +21,8 @@ use Rattle.image_bodies.proofs.looking.look_at_file.Goals as goal
 
 pub meet_blocks-requires-clause-indirect : goal.meet_blocks-requires-clause-indirect
 meet_blocks-requires-clause-indirect g c =
-    none_or_below c.args.geometry.now (length c.args.found.now.owners.has) c.requires.fits.owners c.args.inode.now.indirect
-    c.in_ok-numbers.ensures.indirect
+    none_or_below c.args.geometry.now (length c.args.found.now.owners.has) c.requires.fits.owners
+    c.args.inode.now.indirect c.in_ok-numbers.ensures.indirect
 
 pub meet_blocks-requires-clause-numbers : goal.meet_blocks-requires-clause-numbers
 meet_blocks-requires-clause-numbers g c =
@@ -137,4 +137,5 @@ returns-clause-added g c = λ keeps unspoiled as_read sound.
     (c.deref.ensures.value ∙ read.0) (c.meet_blocks.ensures.met met before)))))
     looked
     (c.first_untidy-found.ensures
-    ∙ ap (first_untidy c.args.found.now.untidy c.args.number) (c.both.ensures ∙ ap (λ b. c.in_ok-tidy.tidy && b) further))
+    ∙ ap (first_untidy c.args.found.now.untidy c.args.number)
+    (c.both.ensures ∙ ap (λ b. c.in_ok-tidy.tidy && b) further))

@@ -25,7 +25,8 @@ returns-in-Directory-clause-looked g c = λ keeps unspoiled as_read sound are.
     let kind = c.in-Directory.is in
     let none = no_double_in_directory geometry inode sound kind in
     IfOk-weaker c.look_at_slots.result
-    (λ tidy. IsLookedAt geometry content table c.args.number Directory inode c.args.links.now c.look_at_slots.new.links tidy)
+    (λ tidy. IsLookedAt geometry content table c.args.number Directory inode c.args.links.now
+    c.look_at_slots.new.links tidy)
     (λ tidy. IsLookedAt geometry content table c.args.number inode.kind inode c.args.links.now c.look_at_slots.new.links
     (tidy && is_zero_below content inode))
     (λ tidy looked. subst (λ k. IsLookedAt geometry content table c.args.number k inode c.args.links.now

@@ -27,7 +27,8 @@ returns-then-inode-eq0-clause-numbers g c = λ keeps unspoiled.
     sym c.are_placed.ensures ∙ c.if-not-are_placed.false in (
       c.in_ok-extend_from_slice.ensures.items ∙ ap (λ l. l ++ replicate INDIRECT_INDEXES 0) c.in_ok-numbers.ensures.items
           ∙ near_numbers geometry image inode none,
-      near_mapped geometry (content_in geometry image) inode near (no_row geometry (content_in geometry image) inode.indirect none),
+      near_mapped geometry (content_in geometry image) inode near
+          (no_row geometry (content_in geometry image) inode.indirect none),
     )
 
 pub returns-in_err-far-clause-refused : goal.returns-in_err-far-clause-refused
@@ -51,5 +52,6 @@ returns-clause-numbers g c = λ keeps unspoiled.
       c.in_ok-extend_from_slice-2.ensures.items
           ∙ (λ i. c.in_ok-numbers.ensures.items i ++ c.as_slice.ensures i)
           ∙ ap (λ l. inode.direct ++ l) (sym (row_numbers geometry image inode.indirect c.in_ok-far.far far)),
-      near_mapped geometry (content_in geometry image) inode near (row_mapped geometry image inode.indirect c.in_ok-far.far far),
+      near_mapped geometry (content_in geometry image) inode near
+          (row_mapped geometry image inode.indirect c.in_ok-far.far far),
     )
