@@ -1,18 +1,18 @@
 //! The pointer blocks of a file, which are asked for one behind the other. These are positions, of which nothing is
 //! claimed.
-ghost use Rattle.std.specs.Prelude.{◌+◌, ◌<◌, ◌≤◌, IfErr};
-ghost use Rattle.limits.specs.declared.TheConstants.{INDIRECT_INDEXES};
+ghost use Rattle.std.specs.Prelude.{◌≡◌, ◌+◌, ◌<◌, ◌≤◌, length, IfErr};
+ghost use Rattle.limits.specs.declared.TheConstants.{BLOCK_BYTES, INDIRECT_INDEXES};
 ghost use Rattle.inode.specs.Over.{MayStop};
 
 use inode::{Snap, Stop, data_block, held, inner_number};
-use layout::Inode;
+use layout::{Inode, Numbers};
 use limits::INDIRECT_INDEXES;
 
-/// The pointer blocks of a file, from a place on.
+/// The pointer blocks of a file. So many inner blocks were asked for, of those that its double indirect block names.
 #[derive(Drop)]
 pub(crate) struct Pointers {
     inode: Inode,
-    at: usize,
+    inners: usize,
 }
 
 /// How many places for pointer blocks a file has: those of its indirect block and of its double indirect block, and
@@ -52,17 +52,29 @@ fn ask_data(snap: &Snap, number: u32) -> Result<(), Stop>
 impl Pointers {
     /// Those of a file.
     pub(crate) fn begin(inode: Inode) -> Pointers {
-        Pointers { inode, at: 0 }
+        Pointers { inode, inners: 0 }
     }
 
     /// Asks for the next that wasn't read.
     pub(crate) fn go_on(&mut self, snap: &Snap) -> Result<(), Stop>
         ensures { IfErr result (λ why. MayStop snap.now why) }
     {
-        'places: for place in self.at..places_of(&self.inode) {
-            let number = pointer_in(snap, &self.inode, place)?;
-            ask_data(snap, number)?;
-            self.at = place + 1;
+        ask_data(snap, self.inode.indirect)?;
+        if !snap.geometry.is_data(self.inode.double) {
+            return Ok(());
+        }
+        let numbers = data_block(snap, self.inode.double)?;
+        self.ask_inners(snap, numbers)
+    }
+
+    // Asks for the next inner block that wasn't read, of those that the double indirect block names.
+    fn ask_inners(&mut self, snap: &Snap, numbers: &[u8]) -> Result<(), Stop>
+        requires { length numbers.now ≡ BLOCK_BYTES }
+        ensures { IfErr result (λ why. MayStop snap.now why) }
+    {
+        'inners: for inner in self.inners..INDIRECT_INDEXES {
+            ask_data(snap, Numbers::at(numbers, inner))?;
+            self.inners = inner + 1;
         }
         Ok(())
     }
