@@ -1,5 +1,5 @@
 -- A file is one by what was seen of its blocks, and back.
-use Rattle.std.proofs.Common.{◌≡◌, ℕ, ◌*◌, ◌≤◌, sym, ap, ◌∙◌, refl, subst, true, All, IsOk, get_or, Some, Ok, arith}
+use Rattle.std.proofs.Common.{◌≡◌, ℕ, ◌*◌, refl, subst, true, All, IsOk, get_or, Some, Ok, arith}
 use Rattle.std.proofs.lemmas.List.FromFn.{get_or-range_with_len, length-range_with_len}
 use Rattle.limits.specs.declared.TheConstants.{SLOTS_PER_BLOCK}
 use Rattle.disk.specs.Crash.{Image}
