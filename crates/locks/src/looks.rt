@@ -65,8 +65,8 @@ pub(crate) fn hold_of(holds: &[Hold], index: &Index, transaction: u64, addr: Add
     None
 }
 
-// Whether the transaction has taken the address by this hold.
-fn is_hold_of(hold: &Hold, transaction: u64, addr: Addr) -> bool
+/// Whether the transaction has taken the address by this hold.
+pub(crate) fn is_hold_of(hold: &Hold, transaction: u64, addr: Addr) -> bool
     ensures { result ≡ is_hold_of transaction addr hold.now }
 {
     hold.transaction == transaction
