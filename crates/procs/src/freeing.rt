@@ -1,23 +1,22 @@
 //! What a call asks for behind a run that frees blocks of a file: of one that is cut (RFC 1813, section 3.3.2), or that
 //! loses its last name (sections 3.3.12 to 3.3.14). It goes by the file's pointer blocks and not by its size. These are
 //! positions, of which nothing is claimed.
-ghost use Rattle.std.specs.Prelude.{◌≡◌, ◌+◌, ◌<◌, ◌≤◌, true, length, IfErr};
-ghost use Rattle.limits.specs.declared.TheConstants.{BLOCK_BYTES, FILE_INDEXES, INDIRECT_INDEXES};
-ghost use Rattle.layout.specs.Places.{is_data};
+ghost use Rattle.std.specs.Prelude.{◌≡◌, ◌≤◌, length, IfErr};
+ghost use Rattle.limits.specs.declared.TheConstants.{BLOCK_BYTES, FILE_INDEXES};
 ghost use Rattle.inode.specs.Over.{MayStop};
 
 use crate::pieces::{ask_block_bit, ask_number_bit};
-use crate::pointers::{Pointers, places_of, pointer_in};
+use crate::pointers::Pointers;
 use dir::is_empty;
 use inode::{Snap, Stop, block_number, data_block, held};
 use layout::{Inode, InodeKind, Numbers};
-use limits::{BLOCK_BYTES, DIRECT_INDEXES, INDIRECT_INDEXES, LARGEST_FILE};
+use limits::{BLOCK_BYTES, DIRECT_INDEXES, FIRST_DOUBLE_INDEX, INDIRECT_INDEXES, LARGEST_FILE};
 use std::alloc::Global;
 
 /// A file, and how many of its indexes stay; whether a part of the last of these is written over with zeros; the number
-/// that no file has then, where none stays; whether it is yet to be looked through for names; its pointer blocks; how
-/// many of these were gone through for their own bits, where none stays, and how many for those of the blocks that they
-/// name; how many numbers of the next of them; and whether an inner block stays.
+/// that no file has then, where none stays; whether it is yet to be looked through for names; its pointer blocks; and
+/// how far the bits of what is freed were asked for: those of inner blocks of a file that is gone, and those of what
+/// the indirect block names, inner blocks, and so many numbers of the next; and whether an inner block stays.
 #[derive(Drop)]
 pub(crate) struct Freeing {
     inode: Inode,
@@ -27,7 +26,8 @@ pub(crate) struct Freeing {
     is_looked_through: bool,
     pointers: Pointers,
     marked: usize,
-    place: usize,
+    is_past_far: bool,
+    inners: usize,
     at: usize,
     has_inner: bool,
     ghost within: { kept ≤ FILE_INDEXES },
@@ -41,13 +41,6 @@ fn ask_freed(snap: &Snap, number: u32) -> Result<(), Stop>
         return Ok(());
     }
     ask_block_bit(snap, number)
-}
-
-// The first index of a file that the pointer block in a place names. The double indirect block names none.
-fn first_index(place: usize) -> usize
-    requires { place < INDIRECT_INDEXES + 2 }
-{
-    DIRECT_INDEXES + INDIRECT_INDEXES * place.saturating_sub(1)
 }
 
 // Whether one of the first so many numbers in a pointer block is that of a block.
@@ -79,7 +72,8 @@ impl Freeing {
             is_looked_through: false,
             pointers: Pointers::begin(inode),
             marked: 0,
-            place: 0,
+            is_past_far: false,
+            inners: 0,
             at: 0,
             has_inner: false,
         }))
@@ -106,7 +100,8 @@ impl Freeing {
             is_looked_through,
             pointers: Pointers::begin(inode),
             marked: 0,
-            place: 0,
+            is_past_far: false,
+            inners: 0,
             at: 0,
             has_inner: false,
         }))
@@ -148,13 +143,18 @@ impl Freeing {
     }
 
     // Asks for the bits of the pointer blocks of a file that is gone.
-    fn ask_marks(&mut self, snap: &Snap) -> Result<(), Stop>
+    fn ask_pointer_bits(&mut self, snap: &Snap) -> Result<(), Stop>
         ensures { IfErr result (λ why. MayStop snap.now why) }
     {
-        'places: for place in self.marked..places_of(&self.inode) {
-            let pointer = pointer_in(snap, &self.inode, place)?;
-            ask_freed(snap, pointer)?;
-            self.marked = place + 1;
+        ask_freed(snap, self.inode.indirect)?;
+        ask_freed(snap, self.inode.double)?;
+        if !snap.geometry.is_data(self.inode.double) {
+            return Ok(());
+        }
+        let numbers = data_block(snap, self.inode.double)?;
+        'inners: for inner in self.marked..INDIRECT_INDEXES {
+            ask_freed(snap, Numbers::at(numbers, inner))?;
+            self.marked = inner + 1;
         }
         Ok(())
     }
@@ -169,13 +169,17 @@ impl Freeing {
         Ok(())
     }
 
-    // Asks for the bits of the blocks that a pointer block names and of which only the first so many stay, and then for
-    // its own, where the file is cut and none of them does. Whether one does.
-    fn ask_row(&mut self, snap: &Snap, pointer: u32, kept: usize) -> Result<bool, Stop>
-        requires { is_data snap.now.geometry pointer ≡ true }
+    // Asks for the bits of the blocks that a pointer block names, if there is one, from the first index that is freed
+    // on; its own numbers begin with this index. Then for its own bit, where the file is cut and none of its numbers
+    // stays. Whether one does.
+    fn ask_row(&mut self, snap: &Snap, pointer: u32, first: usize) -> Result<bool, Stop>
         ensures { IfErr result (λ why. MayStop snap.now why) }
     {
+        if !snap.geometry.is_data(pointer) {
+            return Ok(false);
+        }
         let bytes = data_block(snap, pointer)?;
+        let kept = self.kept.saturating_sub(first);
         'indexes: for index in self.at.max(kept)..INDIRECT_INDEXES {
             ask_freed(snap, Numbers::at(bytes, index))?;
             self.at = index + 1;
@@ -189,34 +193,49 @@ impl Freeing {
         Ok(false)
     }
 
-    // Asks for the bits that the pointer block in a place has freed. Whether a number in it stays.
-    fn ask_place(&mut self, snap: &Snap, place: usize) -> Result<bool, Stop>
-        requires { place < INDIRECT_INDEXES + 2 }
+    // Asks for the bits that the indirect block has freed.
+    fn ask_far(&mut self, snap: &Snap) -> Result<(), Stop>
         ensures { IfErr result (λ why. MayStop snap.now why) }
     {
-        let pointer = pointer_in(snap, &self.inode, place)?;
-        if place == 1 || !snap.geometry.is_data(pointer) {
-            return Ok(false);
-        }
-        self.ask_row(snap, pointer, self.kept.saturating_sub(first_index(place)))
-    }
-
-    // Asks for the bits that pointer blocks have freed, one block behind the other, and then for that of the double
-    // indirect block, where the file is cut and no inner block stays.
-    fn ask_rows(&mut self, snap: &Snap) -> Result<(), Stop>
-        ensures { IfErr result (λ why. MayStop snap.now why) }
-    {
-        'places: for place in self.place..places_of(&self.inode) {
-            if self.ask_place(snap, place)? && place > 1 {
-                self.has_inner = true;
-            }
-            self.place = place + 1;
+        if !self.is_past_far {
+            self.ask_row(snap, self.inode.indirect, DIRECT_INDEXES)?;
+            self.is_past_far = true;
             self.at = 0;
         }
-        if self.number.is_none() && !self.has_inner {
-            ask_freed(snap, self.inode.double)?;
+        Ok(())
+    }
+
+    // Asks for the bits that the inner blocks of these numbers have freed, one block behind the other.
+    fn ask_inners(&mut self, snap: &Snap, numbers: &[u8]) -> Result<(), Stop>
+        requires { length numbers.now ≡ BLOCK_BYTES }
+        ensures { IfErr result (λ why. MayStop snap.now why) }
+    {
+        'inners: for inner in self.inners..INDIRECT_INDEXES {
+            let first = FIRST_DOUBLE_INDEX + INDIRECT_INDEXES * inner;
+            if self.ask_row(snap, Numbers::at(numbers, inner), first)? {
+                self.has_inner = true;
+            }
+            self.inners = inner + 1;
+            self.at = 0;
         }
         Ok(())
+    }
+
+    // Asks for the bits that the double indirect block has freed, and then for its own, where the file is cut and no
+    // inner block stays.
+    fn ask_double(&mut self, snap: &Snap) -> Result<(), Stop>
+        ensures { IfErr result (λ why. MayStop snap.now why) }
+    {
+        let double = self.inode.double;
+        if !snap.geometry.is_data(double) {
+            return Ok(());
+        }
+        let numbers = data_block(snap, double)?;
+        self.ask_inners(snap, numbers)?;
+        if self.number.is_some() || self.has_inner {
+            return Ok(());
+        }
+        ask_block_bit(snap, double)
     }
 
     /// Asks for the next object that wasn't read.
@@ -229,10 +248,11 @@ impl Freeing {
         self.pointers.go_on(snap)?;
         self.ask_last(snap)?;
         if self.number.is_some() {
-            self.ask_marks(snap)?;
+            self.ask_pointer_bits(snap)?;
         }
         self.ask_near(snap)?;
-        self.ask_rows(snap)?;
+        self.ask_far(snap)?;
+        self.ask_double(snap)?;
         match self.number {
             Some(number) => ask_number_bit(snap, number),
             None => Ok(()),

@@ -1,10 +1,10 @@
 //! The pointer blocks of a file, which are asked for one behind the other. These are positions, of which nothing is
 //! claimed.
-ghost use Rattle.std.specs.Prelude.{◌≡◌, ◌+◌, ◌<◌, ◌≤◌, length, IfErr};
-ghost use Rattle.limits.specs.declared.TheConstants.{BLOCK_BYTES, INDIRECT_INDEXES};
+ghost use Rattle.std.specs.Prelude.{◌≡◌, length, IfErr};
+ghost use Rattle.limits.specs.declared.TheConstants.{BLOCK_BYTES};
 ghost use Rattle.inode.specs.Over.{MayStop};
 
-use inode::{Snap, Stop, data_block, held, inner_number};
+use inode::{Snap, Stop, data_block, held};
 use layout::{Inode, Numbers};
 use limits::INDIRECT_INDEXES;
 
@@ -13,30 +13,6 @@ use limits::INDIRECT_INDEXES;
 pub(crate) struct Pointers {
     inode: Inode,
     inners: usize,
-}
-
-/// How many places for pointer blocks a file has: those of its indirect block and of its double indirect block, and
-/// behind them those of the inner blocks; the first alone where it has no double indirect block.
-pub(crate) fn places_of(inode: &Inode) -> usize
-    ensures { result ≤ INDIRECT_INDEXES + 2 }
-{
-    if inode.double == 0 {
-        1
-    } else {
-        INDIRECT_INDEXES + 2
-    }
-}
-
-/// The number of the pointer block in a place: 0 where there is none.
-pub(crate) fn pointer_in(snap: &Snap, inode: &Inode, place: usize) -> Result<u32, Stop>
-    requires { place < INDIRECT_INDEXES + 2 }
-    ensures { IfErr result (λ why. MayStop snap.now why) }
-{
-    match place {
-        0 => Ok(inode.indirect),
-        1 => Ok(inode.double),
-        inner => inner_number(snap, inode, inner - 2),
-    }
 }
 
 // Asks for a data block, if the number is that of one.
