@@ -27,7 +27,7 @@ begun P holds block name is = record {
 }
 
 -- what is there doesn't go by what stands for none
-default : (xs : List Hold) (k : ℕ) (d e : Hold) → k < length xs → get_or xs k d ≡ get_or xs k e
+pub default : (xs : List Hold) (k : ℕ) (d e : Hold) → k < length xs → get_or xs k d ≡ get_or xs k e
 default [] k d e lt = absurd (omega (arith, lt))
 default (x ∷ xs) zero d e lt = refl
 default (x ∷ xs) (suc k) d e lt = default xs k d e (omega (arith, lt))

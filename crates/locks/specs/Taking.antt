@@ -1,7 +1,6 @@
 -- What comes of a wish, and what it leaves.
-use Rattle.std.specs.Prelude.{◌≡◌, ℕ, ◌-◌, ◌<◌, List, get_or, length, true}
-use Rattle.objects.specs.declared.addr.Addr.{Addr}
-use Rattle.txn_law.specs.Holds.{IsFree, is_hold_of, with_hold}
+use Rattle.std.specs.Prelude.{◌≡◌, List}
+use Rattle.txn_law.specs.Holds.{IsFree, with_hold}
 use Rattle.txn_law.specs.declared.hold.Hold.{Hold}
 use Rattle.locks.specs.declared.table.Take.{Take}
 use Rattle.locks.specs.declared.table.Take.TheVariants as take
@@ -16,8 +15,3 @@ abbrev pub IsTaking : List Hold → Hold → Take → List Hold → Type 0
 IsTaking old hold take.Held new = IsFreeFor old hold × (new ≡ with_hold old hold)
 IsTaking old hold take.Busy new = (IsFreeFor old hold → ⊥) × (new ≡ old)
 IsTaking old hold take.NoMemory new = IsFreeFor old hold × (new ≡ old)
-
--- the last hold is what this transaction has taken by this address
-pub record IsHeldLast (holds : List Hold) (tx : ℕ) (addr : Addr) : Type 0 where
-  pub some : 0 < length holds
-  pub mine : (d : Hold) → is_hold_of tx addr (get_or holds (length holds - 1) d) ≡ true

@@ -1,13 +1,11 @@
 //! What is taken, and let go again.
-ghost use Rattle.std.specs.Prelude.{◌≡◌, ◌↔◌, ◌-◌, ◌<◌, ◌≤◌, ◌++◌, ◌∷◌, [], IsTrue, length, slice_set, vec_len};
-ghost use Rattle.std.specs.Prelude.{vec_capacity};
+ghost use Rattle.std.specs.Prelude.{◌≡◌, ◌<◌, ◌≤◌, ◌++◌, ◌∷◌, [], length, vec_len, vec_capacity};
 ghost use Rattle.locks.specs.Index.{IsIndex, numbers};
-ghost use Rattle.locks.specs.Taking.{IsHeldLast};
 ghost use Rattle.txn_law.specs.Holds.{joined, without_hold, with_hold, released};
 ghost use Rattle.txn_law.specs.Tidy.{AreApart};
 
 use crate::index::Index;
-use crate::looks::{hold_of, is_hold_of};
+use crate::looks::{hold_of, name_of};
 use objects::Addr;
 use txn_law::Hold;
 
@@ -22,46 +20,12 @@ pub(crate) fn note(holds: &mut Vec<Hold>, index: &mut Index, hold: Hold)
     ensures index { IsIndex (numbers holds.new.items) index.new.last.items index.new.before.items }
 {
     match hold_of(holds, index, hold.transaction, hold.addr) {
-        Some(had) => note_again(holds, index, joined(Some(had), hold)),
+        Some(had) => {
+            let_go(holds, index, hold.transaction, hold.addr);
+            add(holds, index, joined(Some(had), hold));
+        }
         None => add(holds, index, hold),
     }
-}
-
-// Puts a hold in place of the one that its transaction had of its address. It stands last then.
-fn note_again(holds: &mut Vec<Hold>, index: &mut Index, hold: Hold)
-    requires room { vec_len holds.old < vec_capacity holds.old }
-    requires names { length index.old.before.items < vec_capacity index.old.before }
-    requires homed { hold.addr.block.0 < length index.old.last.items }
-    requires apart { AreApart holds.old.items }
-    requires index { IsIndex (numbers holds.old.items) index.old.last.items index.old.before.items }
-    ensures holds { holds.new.items ≡ without_hold holds.old.items hold.transaction hold.addr ++ hold ∷ [] }
-    ensures index { IsIndex (numbers holds.new.items) index.new.last.items index.new.before.items }
-{
-    if is_last(holds, hold.transaction, hold.addr) {
-        replace_last(holds, hold);
-    } else {
-        let_go(holds, index, hold.transaction, hold.addr);
-        add(holds, index, hold);
-    }
-}
-
-// Whether the last hold is the transaction's one of the address.
-fn is_last(holds: &[Hold], transaction: u64, addr: Addr) -> bool
-    ensures { IsTrue result ↔ IsHeldLast holds.now transaction addr }
-{
-    if holds.len() == 0 {
-        return false;
-    }
-    is_hold_of(&holds[holds.len() - 1], transaction, addr)
-}
-
-// Puts a hold in place of the last one.
-fn replace_last(holds: &mut Vec<Hold>, hold: Hold)
-    requires { 0 < length holds.old.items }
-    ensures { holds.new.items ≡ slice_set holds.old.items (length holds.old.items - 1) hold }
-{
-    let last = holds.len() - 1;
-    holds[last] = hold;
 }
 
 // Adds a hold, for which there is room.
@@ -80,9 +44,10 @@ fn add(holds: &mut Vec<Hold>, index: &mut Index, hold: Hold)
     }
 }
 
-// Lets go of the transaction's hold of the address.
+// Lets go of the transaction's hold of the address. Only what stands behind it is noted anew.
 fn let_go(holds: &mut Vec<Hold>, index: &mut Index, transaction: u64, addr: Addr)
     requires names { length index.old.before.items < vec_capacity index.old.before }
+    requires apart { AreApart holds.old.items }
     requires index { IsIndex (numbers holds.old.items) index.old.last.items index.old.before.items }
     ensures items { holds.new.items ≡ without_hold holds.old.items transaction addr }
     ensures len { vec_len holds.new ≤ vec_len holds.old }
@@ -91,8 +56,12 @@ fn let_go(holds: &mut Vec<Hold>, index: &mut Index, transaction: u64, addr: Addr
     ensures names { length index.new.before.items < vec_capacity index.new.before }
     ensures index { IsIndex (numbers holds.new.items) index.new.last.items index.new.before.items }
 {
-    holds.retain(|hold| hold.transaction != transaction || hold.addr != addr);
-    index.note_all(holds);
+    let name = name_of(holds, index, transaction, addr);
+    if name > 0 {
+        index.cut(holds, name - 1);
+        holds.remove(name - 1);
+        index.note_from(holds, name - 1);
+    }
 }
 
 // What is held by a new hold beside one that there was.

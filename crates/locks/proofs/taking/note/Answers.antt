@@ -10,4 +10,4 @@ returns-in-None-clause-holds c =
     subst
     (λ (hs : List Hold). hold_of hs c.args.hold.transaction c.args.hold.addr ≡ None) c.deref.ensures.value
     (sym c.hold_of.ensures ∙ c.in-None.is) in
-    rw (c.add.ensures.holds, none, none_left c.args.holds.now.items c.args.hold.transaction c.args.hold.addr none) refl
+    rw (c.add-in-None.ensures.holds, none, none_left c.args.holds.now.items c.args.hold.transaction c.args.hold.addr none) refl

@@ -1,6 +1,6 @@
 use Rattle.std.proofs.Common.{◌<◌, length, arith}
 use Rattle.locks.proofs.IndexLemmas.{numbers-at, numbers-length}
-use Rattle.locks.proofs.index.Index.note_all.Goals as goal
+use Rattle.locks.proofs.index.Index.note_from.Goals as goal
 
 pub note-requires-clause-homed : goal.note-requires-clause-homed
 note-requires-clause-homed c =

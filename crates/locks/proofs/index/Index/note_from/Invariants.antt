@@ -1,7 +1,7 @@
 -- the holds before this one are noted
 use Rattle.std.proofs.Common.{◌≡◌, ◌≤◌, length, take, vec_capacity}
 use Rattle.locks.specs.Index.{IsIndex, numbers}
-use Rattle.locks.proofs.index.Index.note_all.Given as goal
+use Rattle.locks.proofs.index.Index.note_from.Given as goal
 
 abbrev pub invariant-loop-i : goal.invariant-loop-i
 invariant-loop-i l = record {

@@ -3,7 +3,7 @@ use Rattle.std.proofs.Common.{◌≡◌, false}
 use Rattle.txn_law.specs.Holds.{is_hold_of}
 use Rattle.txn_law.specs.declared.hold.Hold.{Hold}
 use Rattle.locks.specs.Walks.{IsPassed}
-use Rattle.locks.proofs.looks.hold_of.Given as goal
+use Rattle.locks.proofs.looks.name_of.Given as goal
 
 abbrev pub invariant-loop-name : goal.invariant-loop-name
 invariant-loop-name l =
