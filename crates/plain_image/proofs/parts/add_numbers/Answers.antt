@@ -1,4 +1,5 @@
-use Rattle.std.proofs.Common.{rules, ◌≡◌, false, ℕ, ◌+◌, List, ◌++◌, ◌&&◌, get_or, take, refl, sym, ap, ◌∙◌, IfErr, arith}
+use Rattle.std.proofs.Common.{rules, ◌≡◌, false, ℕ, ◌+◌, List, ◌++◌, ◌&&◌, get_or, take, refl, sym, ap, ◌∙◌, IfErr}
+use Rattle.std.proofs.Common.{arith}
 use Rattle.std.specs.List.{flat_map, list_all}
 use Rattle.std.proofs.lemmas.List.{append-nil, append_assoc, take_all, take_more}
 use Rattle.std.proofs.lemmas.List.Folds.{list_all-append}
