@@ -71,8 +71,8 @@ pub record IsFoundLog (was_read : Type 0) (size : ℕ) (image : Image) (log : Lo
 abbrev pub next_super : Super → Super
 next_super found = record { geometry = newest found.geometry; boot = found.boot + 1 }
 
--- An opening has only read; or at each stop there is what lay there, under its super block or under the one that has both
--- the next boot number and the newest version.
+-- An opening has only read; or at each stop there is what lay there, under its super block or under the one that has
+-- both the next boot number and the newest version.
 abbrev pub LeavesImage : Device → Device → Type 0
 LeavesImage before later = HasOnlyRead before later
     ⊎ ((found : Super) × IsSuper (image_of before SUPER_BLOCK) found

@@ -30,16 +30,16 @@ use store_promise::OpenFault;
 use txn::Core;
 use wal::Wal;
 
-/// Opens a store: brings home what the log holds, and counts the opening. An image of an older version is brought to the
-/// newest in the same write as the boot number. An image is refused by the first of
-/// these that holds: an allocation failed (NoMemory), its device has no blocks (Magic), the super block can't
-/// be read (Device) or is refused as `Super::read` says, its sizes aren't the device's or no boot number is
-/// left (Range), a block of the log can't be read (Device) or isn't one of a log (Log), or an allocation for it
-/// failed (NoMemory). Until then nothing is written. Later only Device and NoMemory come.
+/// Opens a store: brings home what the log holds, and counts the opening. An image of an older version is brought to
+/// the newest in the same write as the boot number. An image is refused by the first of these that holds: an
+/// allocation failed (NoMemory), its device has no blocks (Magic), the super block can't be read (Device) or is
+/// refused as `Super::read` says, its sizes aren't the device's or no boot number is left (Range), a block of the log
+/// can't be read (Device) or isn't one of a log (Log), or an allocation for it failed (NoMemory). Until then nothing
+/// is written. Later only Device and NoMemory come.
 /// A refusal hands the disk back, and is Device just where a call of the device failed and was counted. Whatever image
-/// a device at rest has, each stop leaves its blocks as they were, save that what the log has may have come home; and the
-/// super block as it was, or with both the next boot number and the newest version. One with a good image keeps its tree
-/// at each stop, and so it does when it is opened again.
+/// a device at rest has, each stop leaves its blocks as they were, save that what the log has may have come home; and
+/// the super block as it was, or with both the next boot number and the newest version. One with a good image keeps
+/// its tree at each stop, and so it does when it is opened again.
 #[tactic(auto, using(crate::specs::Opening::has_opened))]
 pub fn open<D: CrashDisk>(alloc: Global, disk: D) -> Result<Store<D>, (D, OpenFault)>
     ensures idle { IfOk result (λ store. IsIdle store.core) }

@@ -159,7 +159,8 @@ returns-in-Err-raise-clause-keeps g c = λ tree first holds kept.
     let empty = none_home log c.lawful-3.ensures.log none.0 c.install.ensures.quiet.installing none.1
     brings.coming.logged in
     let same = raised_is found c.newest-geometry.result c.newest-geometry.ensures.is in
-    let keeps = subst (KeepsBlocks before later) same (c.in-Err-raise.ensures.raised before log c.lawful-3.ensures.log empty
+    let keeps = subst (KeepsBlocks before later) same
+    (c.in-Err-raise.ensures.raised before log c.lawful-3.ensures.log empty
     (subst (λ bytes. BringsHome before bytes home log) (sym same) brings)) in
     later_refused before tree first holds found (next_super found) (super_bytes (next_super found)) is.is_super refl refl
     (c.a_super_block_is_its_bytes.ensures (next_super found) found.geometry.lawful c.in-Ok-find.ensures.boot)
