@@ -1,6 +1,6 @@
 -- The blocks that a file owns, gathered from its inode and its pointer blocks.
 use Rattle.std.proofs.Common.{◌≡◌, ℕ, ◌+◌, ◌<◌, sym, ap, ◌∙◌, refl, List, [], ◌∷◌, ◌++◌, filter, get_or, length, take}
-use Rattle.std.proofs.Common.{Some, Ok}
+use Rattle.std.proofs.Common.{Some, Ok, append-nil, nat_eq, true}
 use Rattle.std.specs.List.{flat_map}
 use Rattle.std.proofs.lemmas.List.{append_assoc, flat_map_more, take_more}
 use Rattle.std.proofs.lemmas.List.Elements.{filter-append}
@@ -8,6 +8,7 @@ use Rattle.disk.specs.Crash.{Image}
 use Rattle.layout.specs.declared.inode.Inode.{Inode}
 use Rattle.layout.specs.Decode.{doubled_in, numbers_in, numbers_of, pointer_blocks}
 use Rattle.layout.specs.Owners.{owned_by}
+use Rattle.layout.proofs.NumbersIn.{no_double_left, none_left}
 use Rattle.inode_writes.specs.Frees.{is_some, named_by}
 
 module _ (content : Image) where
@@ -45,3 +46,20 @@ module _ (content : Image) where
       ∙ ap (filter is_some)
       (ap (λ l. l ++ further) (append_assoc pointers inode.direct far)
       ∙ append_assoc pointers (inode.direct ++ far) further)
+
+  -- without a double indirect block they are those that no inner block names
+  pub near_owned : (inode : Inode) → nat_eq inode.double 0 ≡ true
+      → filter is_some (inode.indirect ∷ inode.double ∷ inode.direct ++ numbers_in content inode.indirect)
+      ≡ owned_by content (Ok (Some inode))
+  unfolding numbers_of pointer_blocks
+  near_owned inode none =
+      let first : List ℕ = inode.indirect ∷ inode.double ∷ [] in
+      let near : List ℕ = inode.direct ++ numbers_in content inode.indirect in
+      let inner : List ℕ = numbers_in content inode.double in
+      let below : List ℕ = doubled_in content inode.double in
+      sym (filter-append is_some (first ++ inner) (near ++ below)
+      ∙ (λ i. filter-append is_some first inner i ++ filter-append is_some near below i)
+      ∙ (λ i. (filter is_some first ++ none_left content inode.double none i)
+      ++ (filter is_some near ++ no_double_left content inode.double none i))
+      ∙ (λ i. append-nil (filter is_some first) i ++ append-nil (filter is_some near) i)
+      ∙ sym (filter-append is_some first near))

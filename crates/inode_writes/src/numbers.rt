@@ -84,6 +84,9 @@ pub(crate) fn blocks_of(alloc: Global, snap: &Snap, inode: &Inode) -> Result<Vec
         → HasInode snap.now blocks tree file inode.now → IsPause stop) }
 {
     let far = indirect_numbers(alloc, snap, inode)?;
+    if inode.double == 0 {
+        return Ok(near_blocks(alloc, inode, &[], &far)?);
+    }
     let inner = double_numbers(alloc, snap, inode)?;
     let mut numbers = near_blocks(alloc, inode, &inner, &far)?;
     add_below(alloc, snap, &inner, &mut numbers)?;

@@ -1,4 +1,4 @@
-use Rattle.std.proofs.Common.{ap, sym, ◌∙◌, ◌++◌, ◌∷◌, filter, rules}
+use Rattle.std.proofs.Common.{ap, sym, ◌∙◌, ◌++◌, ◌∷◌, ℕ, List, filter, nat_eq, rules}
 use Rattle.std.specs.List.{flat_map, list_all}
 use Rattle.layout.specs.Decode.{numbers_in}
 use Rattle.layout.specs.InodeForm.{is_data_block_or_none}
@@ -7,24 +7,33 @@ use Rattle.layout.proofs.NumbersIn.{doubled_pass}
 use Rattle.inode.proofs.Placed.{inner_placed}
 use Rattle.inode.proofs.Stops.{at_err}
 use Rattle.inode_writes.specs.Frees.{is_some, named_by}
-use Rattle.inode_writes.proofs.OwnedBlocks.{all_owned}
+use Rattle.inode_writes.proofs.OwnedBlocks.{all_owned, near_owned}
 use Rattle.inode_writes.proofs.numbers.blocks_of.Goals as goal
 
 pub add_below-requires : goal.add_below-requires
 add_below-requires c =
-    ap (list_all (is_data_block_or_none c.args.snap.now.geometry)) c.deref-3.ensures.value ∙ c.in_ok-inner.ensures.placed
+    ap (list_all (is_data_block_or_none c.args.snap.now.geometry)) c.deref-4.ensures.value ∙ c.in_ok-inner.ensures.placed
+
+pub returns-then-inode-eq0-clause-ok : goal.returns-then-inode-eq0-clause-ok
+returns-then-inode-eq0-clause-ok c = λ blocks tree file has.
+    let inode = c.args.inode.now in
+    let content = content_in c.args.snap.now.geometry blocks in
+    c.in_ok-near_blocks.ensures
+    ∙ ap (λ (far : List ℕ). filter is_some (inode.indirect ∷ inode.double ∷ inode.direct ++ far))
+    (c.deref.ensures.value ∙ c.in_ok-far.ensures.ok blocks tree file has)
+    ∙ near_owned content inode (ap (λ n. nat_eq n 0) c.if-inode-eq0.true)
 
 pub returns-clause-ok : goal.returns-clause-ok
 returns-clause-ok c = λ blocks tree file has.
     let inode = c.args.inode.now in
     let content = content_in c.args.snap.now.geometry blocks in
     let inner = c.in_ok-inner.ensures.ok blocks tree file has in
-    let first = c.deref.ensures.value ∙ inner in
-    let far = c.deref-2.ensures.value ∙ c.in_ok-far.ensures.ok blocks tree file has in
+    let first = c.deref-2.ensures.value ∙ inner in
+    let far = c.deref-3.ensures.value ∙ c.in_ok-far.ensures.ok blocks tree file has in
     c.in_ok-add_below.ensures.ok blocks tree has.over
     ∙ (λ i. (c.in_ok-numbers.ensures
     ∙ (λ j. filter is_some (inode.indirect ∷ inode.double ∷ first j ++ inode.direct ++ far j))) i
-    ++ flat_map (named_by content) ((c.deref-3.ensures.value ∙ inner) i))
+    ++ flat_map (named_by content) ((c.deref-4.ensures.value ∙ inner) i))
     ∙ all_owned content inode
 
 pub returns-in_err-add_below-clause-pause : goal.returns-in_err-add_below-clause-pause
@@ -33,7 +42,7 @@ returns-in_err-add_below-clause-pause c =
     let inode = c.args.inode.now in
     let content = content_in c.args.snap.now.geometry blocks in
     let test = is_data_block_or_none c.args.snap.now.geometry in
-    let inner = c.deref-3.ensures.value ∙ c.in_ok-inner.ensures.ok blocks tree file has in
+    let inner = c.deref-4.ensures.value ∙ c.in_ok-inner.ensures.ok blocks tree file has in
     c.in_err-add_below.ensures.pause blocks tree has.over
     (ap (list_all (λ pointer. list_all test (numbers_in content pointer))) inner
     ∙ sym (doubled_pass content inode.double test)
