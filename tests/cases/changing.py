@@ -10,7 +10,7 @@ from cases.nfs import ACCES, EXIST, FBIG, INVAL, ISDIR, MLINK, NAMETOOLONG, NOEN
 from cases.nfs import NOT_SYNC, PERM, STALE
 from cases.running import MADE, is_so, same
 
-BLOCK, LARGEST, NOW = 4096, 1032 * 4096, 2000
+BLOCK, SPAN, LARGEST, NOW = 4096, images.SPAN, images.LARGEST_FILE, 2000
 THEN = nfs.Time(NOW, 0)
 NONE = nfs.new_attributes()
 GUARDED, UNCHECKED, EXCLUSIVE = ((it, NONE) for it in (nfs.GUARDED, nfs.UNCHECKED, nfs.EXCLUSIVE))
@@ -32,14 +32,14 @@ def free(client):
 # Bytes.
 
 
-def row_the_last_byte_of_the_largest_file(client):
-    file = client.create(ROOT, b"f")
-    client.write(file, LARGEST - 1, b"z")
-    takes(client, file, LARGEST, 2, "a byte and the indirect block")
-    for offset, data in (LARGEST, b"z"), (LARGEST - 1, b"zz"), (2**64 - 1, b"z"), (2**32, b"z"):
+def row_the_last_byte_of_the_indirect_block_and_bytes_past_the_largest_file(client):
+    file, end = client.create(ROOT, b"f"), SPAN * BLOCK
+    client.write(file, end - 1, b"z")
+    takes(client, file, end, 2, "a byte and the indirect block")
+    for offset, data in (LARGEST, b"z"), (LARGEST - 1, b"zz"), (2**64 - 1, b"z"), (2**33, b"z"):
         client.refuse(FBIG, nfs.WRITE, file, offset, len(data), nfs.UNSTABLE, data)
     client.refuse(FBIG, nfs.SETATTR, file, nfs.new_attributes(size=LARGEST + 1), None)
-    part = client.do(nfs.READ, file, LARGEST - 3, 10)
+    part = client.do(nfs.READ, file, end - 3, 10)
     same("the last bytes", (part.data, part.eof), (b"\0\0z", True))
     client.set(file, size=0)
     takes(client, file, 0, 0, "nothing")
@@ -437,12 +437,12 @@ def on_image(place, root, blocks, inodes, **how):
 
 
 def full_file(**more):
-    """The largest file, with all its blocks."""
-    return images.regular(size=LARGEST, mapped=range(1032), **more)
+    """A file that fills an indirect block."""
+    return images.regular(size=SPAN * BLOCK, mapped=range(SPAN), **more)
 
 
 def assert_room_behind(place, files, blocks):
-    """So many largest files lie before all that is free, and new blocks come from there."""
+    """So many of these files lie before all that is free, and new blocks come from there."""
     root = images.directory({b"%d" % it: full_file() for it in range(files)}, span=2)
     image, client = on_image(place, root, blocks, 64)
     same("what is free", free(client)[0], image.free_blocks)
@@ -484,7 +484,7 @@ def test_a_file_with_as_many_names_as_it_may_have(place):
 
 def test_a_directory_without_a_free_slot(place):
     one, other = images.regular(), images.regular()
-    root = images.directory({b"names": images.directory({b"%d" % it: (one, other)[it % 2] for it in range(1032 * 32)})})
+    root = images.directory({b"names": images.directory({b"%d" % it: (one, other)[it % 2] for it in range(SPAN * 32)})})
     image, client = on_image(place, root, 4096, 64)
     names = root.below(b"names").handle()
     client.refuse(NOSPC, nfs.CREATE, names, b"one more", GUARDED)

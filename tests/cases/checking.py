@@ -8,7 +8,7 @@ import struct
 
 from cases import images, nfs, wire
 from cases.images import BITMAP, BITS, BLOCK_BYTES, DIRECT, DIRECTORY, INODE_BYTES, LARGEST_FILE, LINK, LOG_SLOTS
-from cases.images import REGULAR, ROOT, SLOT_BYTES, SLOTS, ZEROS
+from cases.images import REGULAR, ROOT, SLOT_BYTES, SLOTS, SPAN, ZEROS
 from cases.running import contents, is_so, same
 
 MOST_LINKS, TARGET_BYTES, LAST_BOOT = 32_000, 1024, 2**64 - 1
@@ -57,9 +57,9 @@ class Reader:
     def read_super_block(self):
         block = self.home_block(0)
         holds(MAGIC, "block 0 has no magic", len(block) == BLOCK_BYTES and block[:8] == b"NFSJRNL1")
-        _, version, self.blocks, self.inodes, _, self.boot = struct.unpack_from("<8sIIIIQ", block)
-        holds(VERSION, f"version {version}", version == 1)
-        holds(RANGE, "bytes of block 0", block == wire.super_block(self.blocks, self.inodes, self.boot))
+        _, self.version, self.blocks, self.inodes, _, self.boot = struct.unpack_from("<8sIIIIQ", block)
+        holds(VERSION, f"version {self.version}", self.version in images.LARGEST_FILES)
+        holds(RANGE, "bytes of block 0", block == wire.super_block(self.blocks, self.inodes, self.boot, self.version))
         holds(RANGE, f"{self.blocks} blocks", 1024 <= self.blocks <= 1_048_576)
         holds(RANGE, f"{self.inodes} inodes", 32 <= self.inodes <= 65_536 and self.inodes % 32 == 0)
         parts = -(-self.blocks // BITS) + -(-self.inodes // BITS) + self.inodes // images.INODES_PER_BLOCK
@@ -108,38 +108,48 @@ class Reader:
             return None
         kind, mode, uid, gid, nlink, gap, size, *rest = struct.unpack_from("<6IQ6I2Q", data)
         parent, flags, verifier = struct.unpack_from("<II8s", data, 72)
-        direct, (indirect, end_gap) = struct.unpack_from("<8I", data, 88), struct.unpack_from("<II", data, 120)
+        direct, (indirect, double) = struct.unpack_from("<8I", data, 88), struct.unpack_from("<II", data, 120)
         what = f"file {number}"
         holds(RANGE, f"{what}: kind {kind}", kind in (REGULAR, DIRECTORY, LINK))
-        holds(RANGE, f"{what}: bytes of no field", gap == end_gap == 0)
+        holds(RANGE, f"{what}: bytes of no field", gap == 0 and (self.version > 1 or double == 0))
         holds(RANGE, f"{what}: mode {mode:o} and {nlink} links", mode <= 4095 and 1 <= nlink <= MOST_LINKS)
         holds(RANGE, f"{what}: times {rest[:6]}", all(it < 10**9 for it in rest[1:6:2]))
         has_verifier = kind == REGULAR if flags == 1 else not flags and not any(verifier)
         holds(RANGE, f"{what}: flags {flags}, verifier {verifier}", has_verifier)
         holds(RANGE, f"{what}: parent {parent}", 0 < parent < self.inodes if kind == DIRECTORY else not parent)
         self.is_unsound(f"{what}: made in boot {rest[6]}", rest[6] <= self.boot)
-        pieces = self.pieces(what, direct, indirect)
+        pieces = self.pieces(what, direct, indirect, double)
         times, stamp = (rest[0:2], rest[2:4], rest[4:6]), tuple(rest[6:])
         file = images.File(kind, size, pieces, mode, uid, gid, times, stamp, verifier if flags else None, number)
         file.nlink, file.parent = nlink, parent or None
-        {REGULAR: self.check_regular, DIRECTORY: self.read_directory, LINK: self.check_link}[kind](what, file, indirect)
+        {REGULAR: self.check_regular, DIRECTORY: self.read_directory, LINK: self.check_link}[kind](what, file)
         return file
 
-    def pieces(self, what, direct, indirect):
-        numbers = list(direct)
-        if indirect:
-            further = struct.unpack("<1024I", self.own(what, indirect))
-            holds(RANGE, f"{what}: an indirect block without a number", any(further))
-            numbers += further
-        return {index: self.own(what, it) for index, it in enumerate(numbers) if it}
+    def pieces(self, what, direct, indirect, double):
+        """A file's blocks by their indexes. One that has numbers of blocks is there only where it has that of a block."""
+        found = {DIRECT: self.numbers(what, indirect)}
+        for place, inner in enumerate(self.numbers(what, double)):
+            found[SPAN + place * images.INDIRECT] = self.numbers(what, inner)
+        pieces = {index: self.own(what, it) for index, it in enumerate(direct) if it}
+        for first, numbers in found.items():
+            pieces.update((index, self.own(what, it)) for index, it in enumerate(numbers, first) if it)
+        return pieces
 
-    def check_regular(self, what, file, _):
-        holds(RANGE, f"{what}: size {file.size}", file.size <= LARGEST_FILE)
+    def numbers(self, what, block):
+        """The numbers that a block has, which is one of a file's pointer blocks, or none."""
+        if not block:
+            return ()
+        found = struct.unpack("<1024I", self.own(what, block))
+        holds(RANGE, f"{what}: block {block} has no number of a block", any(found))
+        return found
+
+    def check_regular(self, what, file):
+        holds(RANGE, f"{what}: size {file.size}", file.size <= images.LARGEST_FILES[max(self.version, wire.FORMAT)])
         self.check_end(what, file)
 
-    def check_link(self, what, file, indirect):
+    def check_link(self, what, file):
         holds(RANGE, f"{what}: size {file.size}", 1 <= file.size <= TARGET_BYTES)
-        holds(RANGE, f"{what}: blocks {list(file.pieces)}", list(file.pieces) == [0] and not indirect)
+        holds(RANGE, f"{what}: blocks {list(file.pieces)}", list(file.pieces) == [0])
         self.check_end(what, file)
 
     def check_end(self, what, file):
@@ -148,12 +158,11 @@ class Reader:
             end = max(0, file.size - index * BLOCK_BYTES)
             self.is_unsound(f"{what}: bytes past its size, in {index}", end >= BLOCK_BYTES or piece[end:] == ZEROS[end:])
 
-    def read_directory(self, what, file, indirect):
+    def read_directory(self, what, file):
         span = file.size // BLOCK_BYTES
-        holds(RANGE, f"{what}: size {file.size}", file.size <= LARGEST_FILE and file.size % BLOCK_BYTES == 0)
+        holds(RANGE, f"{what}: size {file.size}", span <= SPAN and file.size % BLOCK_BYTES == 0)
         holds(RANGE, f"{what}: {file.nlink} links", file.nlink >= 2)
-        is_spanned = list(file.pieces) == list(range(span)) and (indirect != 0) == (span > DIRECT)
-        holds(RANGE, f"{what}: blocks {list(file.pieces)}", is_spanned)
+        holds(RANGE, f"{what}: blocks {list(file.pieces)}", list(file.pieces) == list(range(span)))
         names = set()
         for index, piece in file.pieces.items():
             for place in range(SLOTS) if piece is not ZEROS else ():
@@ -372,11 +381,11 @@ class Spoiled:
         return BLOCK_BYTES * self.image.table + INODE_BYTES * self.number(*names)
 
     def numbers(self, *names):
-        """The block numbers of a file: those in its inode, and its indirect block's."""
-        return struct.unpack_from("<8II", self.whole, self.inode(*names) + 88)
+        """The block numbers in a file's inode: eight of its own, its indirect block's, and its double indirect one's."""
+        return struct.unpack_from("<8III", self.whole, self.inode(*names) + 88)
 
     def block(self, index, *names):
-        """Where a block of a file lies: one of its inode's, or the indirect block."""
+        """Where one of the blocks lies that a file's inode names."""
         return BLOCK_BYTES * self.numbers(*names)[index]
 
     def slot(self, *names):
@@ -417,7 +426,7 @@ def test_the_faults_of_block_0_and_of_the_log(place, spoiled=Spoiled):
     it = spoiled(place)
     same("the whole image", it.fault_of(it.whole), None)
     assert_faults(it, MAGIC, {f"byte {at}": [(at, b"\xff")] for at in range(8)})
-    assert_faults(it, VERSION, {f"version {number}": [(8, four(number))] for number in (0, 2, 256, 2**24)})
+    assert_faults(it, VERSION, {f"version {number}": [(8, four(number))] for number in (0, 3, 256, 2**24)})
     assert_faults(it, RANGE, {
         "fewer blocks than the file has": [(12, four(1029))],
         "more": [(12, four(1031))],
@@ -458,7 +467,7 @@ def test_the_faults_that_one_file_shows_by_itself(place, spoiled=Spoiled):
         assert_faults(it, RANGE, {f"{what}: {name}": [(at + offset, value)] for name, offset, value in (
             ("kind 3", 0, four(3)), ("kind 0", 0, four(0)), ("kind 257", 0, four(257)), ("mode 010000", 4, four(0o10000)),
             ("no links", 16, four(0)), ("32001 links", 16, four(32_001)), ("a gap", 20, four(1)),
-            ("the last gap", 124, four(1)), ("a size past the largest", 24, eight(LARGEST_FILE + 4096)),
+            ("a number before the data, or a gap", 124, four(1)), ("a size past the largest", 24, eight(LARGEST_FILE + 4096)),
             ("atime", 36, four(10**9)), ("mtime", 44, four(10**9)), ("ctime", 52, four(2**32 - 1)),
             ("flags", 76, four(2)), ("a verifier", 80, b"v"),
             ("a block before the data", 88, four(data - 1)), ("a block behind the last", 88, four(1030)),
@@ -572,7 +581,7 @@ def test_of_several_faults_the_first_is_told(place, spoiled=Spoiled):
     it = spoiled(place)
     changes = [
         (MAGIC, (0, b"x")),
-        (VERSION, (8, b"\2")),
+        (VERSION, (8, b"\3")),
         (RANGE, (4095, b"\1")),
         (LOG, (BLOCK_BYTES * images.START, b"\1")),
         (RANGE, (it.inode(b"far"), four(3))),

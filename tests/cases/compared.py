@@ -11,14 +11,14 @@ import os
 import random
 import struct
 
-from cases import checking, conversing, nfs, plain, wire
+from cases import checking, conversing, images, nfs, plain, wire
 from cases.running import MADE, expect, same
 
 FIRST_SEED = int(os.environ.get("FIRST_SEED", "0"))
 SEEDS, SEEDS_OF_A_CASE, CALLS, NOW = 200, 10, 80, 2000
 # Counts of blocks and inodes: enough of both; and few numbers, or few data blocks, which are soon used up.
 ROOMY, NARROW = (1024, 64), [(1024, 32), (1024, 14_208)]
-BLOCK, LARGEST = 4096, 1032 * 4096
+BLOCK, LARGEST = 4096, images.LARGEST_FILE
 ROOT, MOUNT = nfs.handle(1, 0, 0), 100005
 
 # How often each procedure is drawn, of those that are served.
@@ -44,12 +44,12 @@ SECONDS = [0, 1, MADE, NOW, 2**31, 2**32 - 1]
 NANOSECONDS = [0, 0, 1, 999_999_999, 10**9, 2**32 - 1]
 # Files stay short, since the plain program copies them at each call; what lies far out is refused.
 OFFSETS = [0, 0, 0, 1, 5, 100, BLOCK - 1, BLOCK, BLOCK + 1, 2 * BLOCK, 7 * BLOCK + 4000, 8 * BLOCK, 9 * BLOCK]
-FAR_OFFSETS = [LARGEST, LARGEST + 1, 2**32, 2**63, 2**64 - 1]
+FAR_OFFSETS = [LARGEST, LARGEST + 1, 2**33, 2**63, 2**64 - 1]
 COUNTS = [0, 1, 2, 5, 100, BLOCK, BLOCK + 1, 10_000, 32_768, 131_071, 131_072]
 FAR_COUNTS = [131_073, 138_000, 2**31, 2**32 - 1]
 LIST_COUNTS = [0, 103, 104, 127, 128, 132, 200, 300, 400, 600, 1000, 4096, 32768, 2**32 - 1]
 SIZES = [0, 0, 1, 5, 100, BLOCK - 1, BLOCK, BLOCK + 1, 5 * BLOCK, 8 * BLOCK, 8 * BLOCK + 1, 10 * BLOCK]
-FAR_SIZES = [LARGEST + 1, 2**32, 2**64 - 1]
+FAR_SIZES = [LARGEST + 1, 2**33, 2**64 - 1]
 
 
 def credential_of(caller):

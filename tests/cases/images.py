@@ -13,7 +13,10 @@ from cases.running import BLOCKS, INODES, MADE, NEW_MODE, contents, expect, same
 BLOCK_BYTES, INODE_BYTES, SLOT_BYTES, NAME_BYTES = 4096, 128, 128, 112
 LOG_HEADER, FIRST_SLOT, LOG_SLOTS, START, BITMAP = 1, 2, 511, 513, 514
 BITS, INODES_PER_BLOCK, SLOTS, DIRECT, INDIRECT = 32768, 32, 32, 8, 1024
-LARGEST_FILE = (DIRECT + INDIRECT) * BLOCK_BYTES
+# Indexes from SPAN on are below the double indirect block, which no directory has, and no file of version 1.
+SPAN = DIRECT + INDIRECT
+LARGEST_FILES = {1: SPAN * BLOCK_BYTES, 2: (SPAN + INDIRECT**2) * BLOCK_BYTES}
+LARGEST_FILE, LARGEST_DIRECTORY = LARGEST_FILES[wire.FORMAT], SPAN * BLOCK_BYTES
 ROOT, ZEROS = 1, bytes(BLOCK_BYTES)
 REGULAR, DIRECTORY, LINK = nfs.REGULAR, nfs.DIRECTORY, nfs.LINK_TYPE
 
@@ -30,10 +33,10 @@ class File:
         self.number, self.nlink, self.parent = number, 0, None
 
     def cost(self):
-        """How many blocks it uses: one more where an index is mapped that its inode has no place for."""
-        return len(self.pieces) + any(index >= DIRECT for index in self.pieces)
+        """How many blocks it uses, with those that have numbers of blocks."""
+        return len(self.pieces) + pointer_blocks(self.pieces)
 
-    def bytes(self, offset=0, count=LARGEST_FILE):
+    def bytes(self, offset=0, count=2**64):
         """A regular file's or a link's bytes from an offset on, at most so many."""
         found, end = bytearray(), min(self.size, offset + count)
         while offset < end:
@@ -42,6 +45,21 @@ class File:
             found += piece
             offset += len(piece)
         return bytes(found)
+
+    def put(self, offset, data):
+        """Writes bytes, as a WRITE does."""
+        end = offset + len(data)
+        for index in range(offset // BLOCK_BYTES, -(-end // BLOCK_BYTES)):
+            at, old = index * BLOCK_BYTES, self.pieces.get(index, b"").ljust(BLOCK_BYTES, b"\0")
+            low, high = max(offset, at), min(end, at + BLOCK_BYTES)
+            self.pieces[index] = old[: low - at] + data[low - offset : high - offset] + old[high - at :]
+        self.size = max(self.size, end)
+
+    def cut(self, size):
+        """Gives it another size: the blocks past the end go, and so do the bytes behind it in the last one."""
+        lengths = {index: min(BLOCK_BYTES, size - index * BLOCK_BYTES) for index in self.pieces}
+        self.pieces = {at: self.pieces[at][:it].ljust(BLOCK_BYTES, b"\0") for at, it in lengths.items() if it > 0}
+        self.size = size
 
     def below(self, *names):
         """The file that these names lead to, one behind the other."""
@@ -58,6 +76,13 @@ class File:
         return nfs.Attributes(
             self.kind, self.mode, self.nlink, self.uid, self.gid, self.size, BLOCK_BYTES * self.cost(),
             nfs.Device(0, 0), 1, self.number, self.atime, self.mtime, self.ctime)
+
+
+def pointer_blocks(indexes):
+    """How many blocks have the numbers of these indexes, as far as an inode has no place for them: the indirect block, and
+    the double indirect one with its inner blocks."""
+    inner = {(it - SPAN) // INDIRECT for it in indexes if it >= SPAN}
+    return any(DIRECT <= it < SPAN for it in indexes) + (1 + len(inner) if inner else 0)
 
 
 def regular(*parts, size=None, mapped=(), mode=0o644, **more):
@@ -96,12 +121,12 @@ class Image:
     """The blocks of an image with this tree, each by its number: a block that isn't there is zeros. Data blocks are
     taken from the first on, or in another order of their numbers."""
 
-    def __init__(self, root, blocks=BLOCKS, inodes=INODES, boot=0, order=lambda numbers: numbers):
+    def __init__(self, root, blocks=BLOCKS, inodes=INODES, boot=0, order=lambda numbers: numbers, version=wire.FORMAT):
         self.root, self.blocks, self.inodes = root, blocks, inodes
         self.inode_bitmap = BITMAP + -(-blocks // BITS)
         self.table = self.inode_bitmap + -(-inodes // BITS)
         self.data = self.table + inodes // INODES_PER_BLOCK
-        self.files, self.content = [], {0: wire.super_block(blocks, inodes, boot)}
+        self.files, self.content, self.pointers = [], {0: wire.super_block(blocks, inodes, boot, version)}, []
         root.stamp = (0, 0)
         self.number_files()
         free = iter(order(list(range(self.data, blocks))))
@@ -133,16 +158,30 @@ class Image:
         numbers = {index: next(free) for index in sorted(file.pieces)}
         for index, number in numbers.items():
             self.content[number] = file.pieces[index].ljust(BLOCK_BYTES, b"\0")
-        indirect = 0
-        if any(index >= DIRECT for index in numbers):
-            indirect = next(free)
-            self.content[indirect] = struct.pack("<1024I", *(numbers.get(DIRECT + it, 0) for it in range(INDIRECT)))
+        taken = [*numbers.values()]
+
+        def pointers(found):
+            """The number of a block that has these numbers, by their places in it, or 0 where there are none."""
+            if not found:
+                return 0
+            number = next(free)
+            taken.append(number)
+            self.pointers.append(number)
+            self.content[number] = struct.pack("<1024I", *(found.get(it, 0) for it in range(INDIRECT)))
+            return number
+
         direct = [numbers.get(it, 0) for it in range(DIRECT)]
+        indirect = pointers({index - DIRECT: it for index, it in numbers.items() if DIRECT <= index < SPAN})
+        inner = collections.defaultdict(dict)
+        for index, it in numbers.items():
+            if index >= SPAN:
+                inner[(index - SPAN) // INDIRECT][(index - SPAN) % INDIRECT] = it
+        double = pointers({place: pointers(found) for place, found in inner.items()})
         at, place = self.table + file.number // INODES_PER_BLOCK, INODE_BYTES * (file.number % INODES_PER_BLOCK)
         block = bytearray(self.content.get(at, bytes(BLOCK_BYTES)))
-        block[place : place + INODE_BYTES] = inode(file, direct, indirect)
+        block[place : place + INODE_BYTES] = inode(file, direct, indirect, double)
         self.content[at] = bytes(block)
-        return [*numbers.values(), *([indirect] if indirect else [])]
+        return taken
 
     def mark(self, first, numbers, count):
         """Writes a bitmap, bit k of which is bit k mod 8, the least first, of byte k / 8. Those from the count on are set."""
@@ -198,13 +237,13 @@ def slots_of(file, index):
     return bytes(found)
 
 
-def inode(file, direct, indirect):
+def inode(file, direct, indirect, double):
     times = [it for time in (file.atime, file.mtime, file.ctime) for it in time]
     head = struct.pack("<6I", file.kind, file.mode, file.uid, file.gid, file.nlink, 0)
     middle = struct.pack("<Q6I2Q", file.size, *times, *file.stamp)
     parent = file.parent.number if file.kind == DIRECTORY else 0
     verifier = struct.pack("<II8s", parent, int(file.verifier is not None), file.verifier or b"")
-    return head + middle + verifier + struct.pack("<8III", *direct, indirect, 0)
+    return head + middle + verifier + struct.pack("<8III", *direct, indirect, double)
 
 
 def new_root():
@@ -219,7 +258,7 @@ def several():
         b"empty": regular(mode=0),
         b"hello": regular((0, b"hello"), (BLOCK_BYTES, b"there")),
         b"hole": regular((3 * BLOCK_BYTES + 5, b"x"), verifier=b"verifier"),
-        b"last byte": regular((LARGEST_FILE - 1, b"z")),
+        b"last byte": regular((SPAN * BLOCK_BYTES - 1, b"z")),
         b"mapped past its end": regular((0, b"short"), mapped=(7, 8, 1031), stamp=(2**40, 2**41)),
         b"border": regular((0, bytes(range(256)) * 160), mode=0o7777, uid=2**32 - 1, gid=2**32 - 2),
         b"twice": twice,

@@ -8,10 +8,10 @@ from cases.conversing import NO_VERIFIER, ROOT
 from cases.running import MADE, expect, is_so, same
 from cases.tcp import Server
 
-BLOCK, SPAN = images.BLOCK_BYTES, images.DIRECT + images.INDIRECT
+BLOCK, SPAN = images.BLOCK_BYTES, images.SPAN
 MOST_BLOCKS, MOST_INODES = 1_048_576, 65_536
-# What the largest file takes: its blocks and the indirect one.
-LARGEST_COST = SPAN + 1
+# What a file takes that fills an indirect block: its blocks and that one.
+FULL_COST = SPAN + 1
 NAMES = 10_000
 
 
@@ -21,8 +21,8 @@ def filled(blocks, inodes, share):
     data, bits, table = os.urandom(9 * BLOCK), images.BITS, inodes // images.INODES_PER_BLOCK
     # What isn't for files, and some blocks for names, for `last`, and for what a case writes.
     rest = images.BITMAP + -(-blocks // bits) + -(-inodes // bits) + table + 128
-    count = int((blocks - rest) * share) // LARGEST_COST
-    files = {b"%d" % it: images.regular(size=images.LARGEST_FILE, mapped=range(SPAN)) for it in range(count)}
+    count = int((blocks - rest) * share) // FULL_COST
+    files = {b"%d" % it: images.regular(size=SPAN * BLOCK, mapped=range(SPAN)) for it in range(count)}
     root = images.directory({**files, b"last": images.regular((0, data))}, span=(count + 1) // images.SLOTS + 1)
     return images.Image(root, blocks, inodes), data
 
@@ -49,7 +49,7 @@ def assert_served(place, image, data):
         same(f"the bytes of {name}", client.read(it), wanted[name])
     if image.root.slots[0][0] == b"0":
         client.do(nfs.REMOVE, ROOT, b"0")
-        same("what is free at the end", free(client)[0], image.free_blocks - 11 + LARGEST_COST)
+        same("what is free at the end", free(client)[0], image.free_blocks - 11 + FULL_COST)
     server.kill()
     read = checking.reader_of(path)
     root, (files, blocks) = read.files[images.ROOT], read.counts()

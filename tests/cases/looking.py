@@ -189,7 +189,7 @@ def test_random_damage_is_judged_as_the_reader_judges_it(place):
 
 def test_show_refuses_what_an_opening_refuses(place):
     for at, value, fault in (
-        (0, b"x", MAGIC), (8, b"\2", VERSION), (40, b"\1", RANGE), (24, b"\xff" * 8, RANGE), (BLOCK_BYTES, b"\0\2", LOG),
+        (0, b"x", MAGIC), (8, b"\3", VERSION), (40, b"\1", RANGE), (24, b"\xff" * 8, RANGE), (BLOCK_BYTES, b"\0\2", LOG),
         (BLOCK_BYTES * 516 + INODE_BYTES, b"\3", RANGE),
     ):
         image = place.image()

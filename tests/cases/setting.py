@@ -4,7 +4,7 @@ tree it leads to, is worked out here from RFC 1813, section 3.3.2, and docs/PROT
 import random
 
 from cases import checking, compared, conversing, images, nfs, telling, wire
-from cases.images import BLOCK_BYTES, LARGEST_FILE, ZEROS
+from cases.images import BLOCK_BYTES, LARGEST_FILE, SPAN
 from cases.running import expect, same
 
 NOW = nfs.Time(2000, 0)
@@ -38,10 +38,8 @@ def change(file, new):
     file.gid = file.gid if new.gid is None else new.gid
     file.ctime = NOW
     if new.size is not None:
-        # The blocks past the end go, and so do the bytes behind it in the last one.
-        lengths = {index: min(BLOCK_BYTES, new.size - index * BLOCK_BYTES) for index in file.pieces}
-        file.pieces = {at: (file.pieces[at][:it] + ZEROS)[:BLOCK_BYTES] for at, it in lengths.items() if it > 0}
-        file.size, file.mtime = new.size, NOW
+        file.cut(new.size)
+        file.mtime = NOW
     for name in "atime", "mtime":
         which, time = getattr(new, name)
         if which:
@@ -70,7 +68,7 @@ class Draws(compared.Stream):
 
 
 def assert_set(place, seed):
-    tree = telling.tree(telling.long_files(LARGEST_FILE), 40)
+    tree = telling.tree(telling.long_files(SPAN * BLOCK_BYTES), 40)
     image = images.Image(tree, 2048, 256)
     path = image.write(place.path("image"))
     draws = Draws(seed)

@@ -478,7 +478,7 @@ def test_images_that_are_refused(place):
     prints(place, "its inodes", ["image 1024 33", "crash old", "open"], "format refused 2 Inodes")
     poked = [*image("crash old"), "poke 0 0 00", "open", "drive 0", "crash old", "open"]
     prints(place, "no super block", poked, "open boot 1", "open refused 1 Magic")
-    poked = [*image("crash old"), "poke 0 8 02", "open"]
+    poked = [*image("crash old"), "poke 0 8 03", "open"]
     prints(place, "its version", poked, "open boot 1", "open refused 2 Version")
     poked = [*image("crash old"), "poke 0 12 01", "open"]
     prints(place, "its sizes", poked, "open boot 1", "open refused 3 Range")

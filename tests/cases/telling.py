@@ -8,7 +8,7 @@ same of the plain program.
 import collections
 
 from cases import images, nfs, wire
-from cases.images import BLOCK_BYTES, DIRECT, LARGEST_FILE, NAME_BYTES, directory, link, regular
+from cases.images import BLOCK_BYTES, DIRECT, LARGEST_FILE, NAME_BYTES, SPAN, directory, link, regular
 from cases.nfs import ACCES, BADHANDLE, BAD_COOKIE, INVAL, NAMETOOLONG, NOENT, NOTDIR, STALE, TOOSMALL
 from cases.running import Skipped, expect, is_so, same
 
@@ -75,8 +75,8 @@ def holder():
     })
 
 
-def long_files(largest):
-    """Files with bytes and holes, on both sides of the border of the indirect block, and one that ends at `largest`."""
+def long_files(end):
+    """Files with bytes and holes, on both sides of the border of the indirect block, and one that ends at `end`."""
     border = DIRECT * BLOCK_BYTES
     long = bytes((at * 7 + at // 251) % 256 for at in range(140_000))
     return directory({
@@ -85,7 +85,7 @@ def long_files(largest):
         b"hole": regular((0, b"left"), (3 * BLOCK_BYTES - 1, b"right")),
         b"holes": regular((border + 9, b"middle"), size=border + 3 * BLOCK_BYTES + 1),
         b"nothing but a hole": regular(size=100_000),
-        b"largest": regular((0, b"first"), (largest - 4, b"last")),
+        b"longest": regular((0, b"first"), (end - 4, b"last")),
     })
 
 
@@ -486,7 +486,7 @@ def ask_to_commit(world):
 
 
 def assert_told(place, ask, blocks=2048, inodes=256, boot=0, **how):
-    image = images.Image(tree(long_files(LARGEST_FILE)), blocks, inodes, boot, **how)
+    image = images.Image(tree(long_files(SPAN * BLOCK_BYTES)), blocks, inodes, boot, **how)
     questions = [it for it in ask(world_of(image, boot + 1)) if it.procedure in nfs.SERVED]
     if not questions:
         raise Skipped("what it asks isn't served yet")

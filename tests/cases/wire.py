@@ -5,6 +5,8 @@ RFC 1813."""
 import struct
 
 PROGRAM, VERSION = 100003, 3
+# The version of the images that the program makes (docs/FORMAT.md).
+FORMAT = 2
 NULL, GETATTR, SETATTR = 0, 1, 2
 NFS3_OK, NFS3ERR_IO = 0, 5
 DIRECTORY = 2
@@ -125,6 +127,6 @@ def mode_and_change(stream):
     return struct.unpack_from(">I", message, at + 4)[0], struct.unpack_from(">I", message, at + 76)[0]
 
 
-def super_block(blocks, inodes, boot):
+def super_block(blocks, inodes, boot, version=FORMAT):
     """Block 0 of an image, whose numbers have the least byte first."""
-    return struct.pack("<8sIIIIQ", b"NFSJRNL1", 1, blocks, inodes, 0, boot).ljust(4096, b"\0")
+    return struct.pack("<8sIIIIQ", b"NFSJRNL1", version, blocks, inodes, 0, boot).ljust(4096, b"\0")

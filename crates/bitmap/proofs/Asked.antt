@@ -3,7 +3,7 @@ use Rattle.std.proofs.Common.{◌≡◌, ℕ, ◌+◌, ◌*◌, ◌/◌, ◌%◌
 use Rattle.limits.specs.declared.TheConstants.{FIRST_HOME_BLOCK}
 use Rattle.objects.specs.declared.addr.Addr.{Addr}
 use Rattle.layout.specs.declared.geometry.Geometry.{Geometry}
-use Rattle.layout.specs.declared.grid.TheConstants.{PIECE_BYTES, PIECES_PER_BLOCK}
+use Rattle.layout.specs.declared.grid.TheConstants.{PIECE_BITS, PIECE_BYTES, PIECES_PER_BLOCK}
 use Rattle.layout.specs.Geometry.{table_at}
 use Rattle.layout.specs.Objects.{IsObject, bits}
 use Rattle.inode.specs.declared.snap.Snap.{Snap}
@@ -24,3 +24,10 @@ may_stop snap (stop.Need addr mode) new asked = (new, asked)
 may_stop snap (stop.Claim block) new asked = absurd asked
 may_stop snap stop.Io new asked = tt
 may_stop snap stop.NoMemory new asked = tt
+
+-- the piece of the bitmap that has the bit of a block
+pub has_bit_of : (g : Geometry) (number : ℕ) (addr : Addr) → number < g.blocks
+    → addr.block.0 ≡ FIRST_HOME_BLOCK + number / PIECE_BITS / PIECES_PER_BLOCK
+    → addr.offset ≡ PIECE_BYTES * (number / PIECE_BITS % PIECES_PER_BLOCK) → addr.len ≡ PIECE_BYTES → IsObject g addr
+has_bit_of g number addr less block offset len =
+    is_object g FIRST_HOME_BLOCK (number / PIECE_BITS) addr (omega arith) (omega (arith, less)) block offset len

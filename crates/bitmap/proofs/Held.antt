@@ -1,10 +1,10 @@
 -- An inode of blocks that hold the files of a tree has as many blocks as its file costs, and each is a data block.
 use Rattle.std.proofs.Common.{◌≡◌, ℕ, ◌<◌, sym, ap, ◌∙◌, refl, Bool, true, false, cond, not, ◌||◌, ◌&&◌}
-use Rattle.std.proofs.Common.{drop, List, [], ◌∷◌, length, filter, nat_eq, nat_lt, nat_le}
+use Rattle.std.proofs.Common.{List, [], ◌∷◌, ◌++◌, length, filter, nat_eq, nat_lt, nat_le}
 use Rattle.std.proofs.Common.{min, is_none, Option, Some, None, Result, Ok, Err, arith, ◌%◌, ◌/◌}
-use Rattle.std.specs.List.{AllByRecursion, list_all, list_any}
+use Rattle.std.specs.List.{AllByRecursion, list_all}
 use Rattle.std.proofs.lemmas.Bool.{lt-ltb}
-use Rattle.std.proofs.lemmas.List.Sums.{length-filter, sum_by-cons}
+use Rattle.std.proofs.lemmas.List.Folds.{list_all-append}
 use Rattle.limits.specs.declared.TheConstants.{BLOCK_BYTES, DIRECT_INDEXES, LARGEST_DIRECTORY}
 use Rattle.limits.specs.declared.TheConstants.{TARGET_BYTES}
 use Rattle.disk.specs.Crash.{Image}
@@ -16,19 +16,19 @@ use Rattle.layout.specs.declared.geometry.Geometry.{Geometry}
 use Rattle.layout.specs.declared.inode.Inode.{Inode}
 use Rattle.layout.specs.declared.inode.InodeKind.{InodeKind}
 use Rattle.layout.specs.declared.inode.InodeKind.TheVariants.{Regular, Directory, Link}
-use Rattle.layout.specs.Decode.{IsMapped, IsOfKind, body_of, file_of, inode_at, numbers_of}
+use Rattle.layout.specs.Decode.{IsOfKind, body_of, file_of, inode_at, numbers_of, pointer_blocks}
 use Rattle.layout.specs.InodeForm.{is_data_block_or_none, is_sound_directory, is_sound_file, is_sound_kind}
 use Rattle.layout.specs.InodeForm.{is_sound_link, is_sound_map, names_first}
 use Rattle.layout.specs.Owners.{owned_by}
 use Rattle.layout.specs.Parts.{content_in, table_of}
 use Rattle.layout.specs.Places.{is_data}
 use Rattle.layout.specs.Holds.{Holds}
-use Rattle.layout.proofs.AllNumbers.{all_placed, maps}
 use Rattle.layout.proofs.Mapped.{is_some}
-use Rattle.layout.proofs.Used.{regular_held}
+use Rattle.layout.proofs.Used.{owned_length}
 use Rattle.inode.proofs.AllTests.{all_five, all_seven, all_three, all_two, no_more}
+use Rattle.inode.proofs.FarThere.{numbers_pass, pointer_blocks_pass}
 use Rattle.inode.proofs.InodeThere.{is_of_kind, is_read, is_sound}
-use Rattle.inode.proofs.UsedBlocks.{counted, directory_counted, link_counted, regular_counted}
+use Rattle.inode.proofs.UsedBlocks.{all_counted, counted, directory_counted, link_counted, regular_counted}
 
 -- what a file of this inode costs
 module _ (g : Geometry) (content : Image) (i : Inode) (direct : length i.direct ≡ DIRECT_INDEXES) where
@@ -42,25 +42,22 @@ module _ (g : Geometry) (content : Image) (i : Inode) (direct : length i.direct 
       (nat_lt 0 i.parent) (nat_lt i.parent g.inodes)
       (names_first (min (i.size / BLOCK_BYTES) DIRECT_INDEXES) i.direct)
       (cond (nat_lt DIRECT_INDEXES (i.size / BLOCK_BYTES)) (not (nat_eq i.indirect 0)) (nat_eq i.indirect 0))
-      (all_two _ (is_none i.verifier) three.2).0 in
+      (all_two _ (nat_eq i.double 0) (all_two _ (is_none i.verifier) three.2).0).0 in
       directory_counted g content i direct file.spans (no_more i.size LARGEST_DIRECTORY rules.1) rules.6
+      (all_two _ (nat_eq i.double 0) (all_two _ (is_none i.verifier) three.2).0).1
   costs Link good file =
       let three = all_three (is_sound_file i) (is_sound_map g i) (is_sound_link i) good in
       let rules = all_five (nat_le 1 i.size) (nat_le i.size TARGET_BYTES) (nat_eq i.parent 0)
-      (names_first 1 i.direct) (nat_eq i.indirect 0) (all_two _ (is_none i.verifier) three.2).0 in
+      (names_first 1 i.direct) (nat_eq i.indirect 0)
+      (all_two _ (nat_eq i.double 0) (all_two _ (is_none i.verifier) three.2).0).0 in
       link_counted g content i direct rules.3 rules.4
+      (all_two _ (nat_eq i.double 0) (all_two _ (is_none i.verifier) three.2).0).1
 
-  turned : (b : Bool) → ◌≡◌ {A = ℕ} (cond (not b) 1 0) (cond b 0 1)
-  turned true = refl
-  turned false = refl
-
-  has_length : IsMapped g content i → length (owned_by content (Ok (Some i))) ≡ counted content i
-  has_length mapped =
-      let all = length-filter is_some (i.indirect ∷ numbers_of content i) in
-      let first = sum_by-cons (λ n. cond (is_some n) 1 0) i.indirect (numbers_of content i) in
-      let same = turned (nat_eq i.indirect 0) in
-      let count = sym (regular_held g content i direct mapped) ∙ regular_counted g content i direct mapped in
-      omega (arith, all, first, same, count)
+  has_length : length (owned_by content (Ok (Some i))) ≡ counted content i
+  has_length =
+      let held = owned_length content i in
+      let all = all_counted g content i direct in
+      omega (arith, held, all)
 
 -- what is no number of a file's, or a data block's, is a data block's where it is kept
 module _ (g : Geometry) where
@@ -88,20 +85,6 @@ module _ (g : Geometry) (blocks : Image) (tree : Tree) (holds : Holds g blocks t
   read_as r e =
       ap (λ b. cond b (inode_at g blocks n) (Err Range)) (sym (lt-ltb n g.inodes less)) ∙ e
 
-  mapped : (i : Inode) → inode_at g blocks n ≡ Ok (Some i) → (kind : InodeKind)
-      → is_sound_kind g kind i ≡ true → IsOfKind g content kind i → IsMapped g content i
-  mapped i read Regular good file = file.mapped
-  mapped i read Directory good file = file.mapped
-  mapped i read Link good file =
-      let three = all_three (is_sound_file i) (is_sound_map g i) (is_sound_link i) good in
-      let rules = all_five (nat_le 1 i.size) (nat_le i.size TARGET_BYTES) (nat_eq i.parent 0)
-      (names_first 1 i.direct) (nat_eq i.indirect 0) (all_two _ (is_none i.verifier) three.2).0 in
-      record {
-        numbers = all_placed g content i (is_read g blocks tree n i holds less read)
-            (λ some. let clash : true ≡ false = sym rules.4 ∙ some in cc);
-        used = ap (λ b. b || list_any is_some (drop (length i.direct) (numbers_of content i))) rules.4;
-      }
-
   pub has_cost : (r : Result (Option Inode) LayoutFault) → table_of g blocks n ≡ r
       → length (owned_by content r) ≡ cost_at (file_of g.inodes content r)
   has_cost (Err fault) e = refl
@@ -111,7 +94,7 @@ module _ (g : Geometry) (blocks : Image) (tree : Tree) (holds : Holds g blocks t
       let sound = is_read g blocks tree n i holds less read in
       let good = is_sound g blocks tree n i holds less read in
       let file = is_of_kind g blocks tree n i holds less read in
-      has_length g content i sound.fits.count (mapped i read i.kind good file)
+      has_length g content i sound.fits.count
       ∙ sym (costs g content i sound.fits.count i.kind good file)
 
   pub are_data : (r : Result (Option Inode) LayoutFault) → table_of g blocks n ≡ r
@@ -120,9 +103,8 @@ module _ (g : Geometry) (blocks : Image) (tree : Tree) (holds : Holds g blocks t
   are_data (Ok None) e = tt
   are_data (Ok (Some i)) e =
       let read = read_as (Ok (Some i)) e in
-      let sound = is_read g blocks tree n i holds less read in
       let good = is_sound g blocks tree n i holds less read in
       let file = is_of_kind g blocks tree n i holds less read in
-      let all = (mapped i read i.kind good file).numbers in
-      kept g (i.indirect ∷ numbers_of content i)
-      (λ j. (maps g i sound).1 j && all j)
+      kept g (pointer_blocks content i ++ numbers_of content i)
+      (list_all-append (is_data_block_or_none g) (pointer_blocks content i) (numbers_of content i)
+      ∙ (λ j. pointer_blocks_pass g content i i.kind good file j && numbers_pass g content i i.kind good file j))

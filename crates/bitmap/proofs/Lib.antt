@@ -13,3 +13,5 @@ pub mod NewBlocks
 pub mod Gained
 pub mod Enough
 pub mod LowestClear
+pub mod PutAgain
+pub mod ClearedBits

@@ -3,3 +3,4 @@ pub mod Pieces
 pub mod Bits
 pub mod NewBlock
 pub mod Enough
+pub mod Frees

@@ -2,6 +2,7 @@
 //! each; and their bits, set and cleared.
 #![tactic(auto)]
 
+mod clearing;
 mod finding;
 mod laws;
 mod marking;
@@ -9,6 +10,7 @@ mod pieces;
 mod room;
 mod taking;
 
+pub use clearing::clear_blocks;
 pub use finding::{new_block, new_number};
 pub use laws::the_clear_bits_are_what_is_free;
 pub use marking::{mark_block, mark_number};

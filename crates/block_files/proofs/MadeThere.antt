@@ -25,7 +25,7 @@ use Rattle.layout.specs.declared.inode.InodeKind.TheVariants as kinds
 use Rattle.layout.specs.Decode.{body_of, mapped_of, named_in, node_with, numbers_of}
 use Rattle.layout.specs.Geometry.{data_at}
 use Rattle.layout.specs.Places.{is_data}
-use Rattle.layout.proofs.NumbersIn as pointers
+use Rattle.layout.proofs.FileNumbers.{near_pass}
 use Rattle.layout.proofs.OnGrid.{data_within}
 use Rattle.layout.proofs.Written.{not_same}
 use Rattle.inode_writes.specs.Linked.{linked}
@@ -68,6 +68,7 @@ module _ (g : Geometry) (image : Image) (inodes : ℕ) (head : Head) (sound : So
       count = refl;
       direct = zeros_below DIRECT_INDEXES;
       indirect = omega arith;
+      double = omega arith;
     };
     good = good;
   }
@@ -88,7 +89,7 @@ module _ (g : Geometry) (image : Image) (inodes : ℕ) (head : Head) (sound : So
       (let few = g.lawful.1.1 in omega (arith, most, few))
       (λ i. file_good g image inodes (made kinds.Directory) head sound same i && true
       && (le-leb 2 head.nlink range.0 i && true && true && lt-ltb 0 head.parent range.1 i
-      && lt-ltb head.parent g.inodes most i && true && true && is_none (none i)))
+      && lt-ltb head.parent g.inodes most i && true && true && true && is_none (none i)))
 
 -- ---- what is in it
 
@@ -113,8 +114,7 @@ none_mapped numbers e =
 
 module _ (inodes : ℕ) (content : Image) (inode : Inode) where
   no_numbers : list_all (λ n. nat_eq n 0) (numbers_of content (emptied inode)) ≡ true
-  unfolding numbers_of
-  no_numbers = pointers.none_pass content 0 refl (λ n. nat_eq n 0) refl
+  no_numbers = near_pass content (emptied inode) refl refl (λ n. nat_eq n 0) refl refl
 
   pub regular_empty : body_of inodes content kinds.Regular (emptied inode) ≡ model.Regular [] set.empty
   regular_empty = ap (model.Regular []) (none_mapped (numbers_of content (emptied inode)) no_numbers)
@@ -200,10 +200,10 @@ module _ (g : Geometry) (image : Image) (inodes : ℕ) (head : Head) (target : L
   named = λ i. (not (some i) && true) && true
 
   link_good : is_sound_kind g kinds.Link link ≡ true
-  link_good = λ i. file_good g image inodes link head sound same i && ((placed i && true) && true)
+  link_good = λ i. file_good g image inodes link head sound same i && ((placed i && true) && true && true && true)
       && (le-leb 1 (length target) (let more = good.some in omega (arith, more)) i
       && le-leb (length target) TARGET_BYTES good.short i && eq-eqb head.parent 0 no_parents i
-      && named i && true && is_none (none i))
+      && named i && true && true && is_none (none i))
 
   pub link_sound : SoundInode g link
   unfolding is_sound_inode
@@ -224,6 +224,7 @@ module _ (g : Geometry) (image : Image) (inodes : ℕ) (head : Head) (target : L
       count = refl;
       direct = (let low = within.1 in let most = g.lawful.0.1 in omega (arith, low, most), zeros_below 7);
       indirect = omega arith;
+      double = omega arith;
     };
     good = link_good;
   }

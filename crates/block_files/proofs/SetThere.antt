@@ -86,8 +86,8 @@ module _ (g : Geometry) (image : Image) (inodes : ℕ) (inode : Inode) (head : H
       && lt-ltb head.ctime.nanoseconds NANOSECONDS sound.ctime.nanoseconds i
 
   all_eight : (a b c d e f h k : Bool) → (a && b && c && d && e && f && h && k) ≡ true
-      → (b ≡ true) × (c ≡ true) × (f ≡ true) × (h ≡ true)
-  all_eight true true true true true true true true e = (refl, refl, refl, refl)
+      → (b ≡ true) × (c ≡ true) × (f ≡ true) × (h ≡ true) × (k ≡ true)
+  all_eight true true true true true true true true e = (refl, refl, refl, refl, refl)
   all_eight _ _ _ _ _ _ _ _ e = cc
 
   pub made_of : (kind : FileKind) → kind ≡ head.kind
@@ -114,20 +114,23 @@ module _ (g : Geometry) (image : Image) (inodes : ℕ) (inode : Inode) (head : H
       (nat_eq (inode.size % BLOCK_BYTES) 0) (nat_lt 0 inode.parent) (nat_lt inode.parent g.inodes)
       (names_first (min (inode.size / BLOCK_BYTES) DIRECT_INDEXES) inode.direct)
       (cond (nat_lt DIRECT_INDEXES (inode.size / BLOCK_BYTES)) (not (nat_eq inode.indirect 0))
-      (nat_eq inode.indirect 0)) (is_none inode.verifier) three.2 in
+      (nat_eq inode.indirect 0)) (nat_eq inode.double 0) (all_two _ (is_none inode.verifier) three.2).0 in
       let range = in_range (sym fits.kind) in
       let most : head.parent < g.inodes = let less = range.2 in omega (arith, less, same) in
       λ i. file_good i && three.1 i && (le-leb 2 head.nlink range.0 i && rest.0 i && rest.1 i
-      && lt-ltb 0 head.parent range.1 i && lt-ltb head.parent g.inodes most i && rest.2 i && rest.3 i
+      && lt-ltb 0 head.parent range.1 i && lt-ltb head.parent g.inodes most i && rest.2 i && rest.3 i && rest.4 i
       && is_none (made_of told.Directory fits.kind i))
   good kinds.Link old fits =
       let three = all_three (is_sound_file inode) (is_sound_map g inode) (is_sound_link inode) old in
       let both = all_two (nat_le 1 inode.size && nat_le inode.size TARGET_BYTES && nat_eq inode.parent 0
-      && names_first 1 inode.direct && nat_eq inode.indirect 0) (is_none inode.verifier) three.2 in
+      && names_first 1 inode.direct && nat_eq inode.indirect 0 && nat_eq inode.double 0) (is_none inode.verifier)
+      three.2 in
+      let no_pointers = all_two (nat_le 1 inode.size && nat_le inode.size TARGET_BYTES && nat_eq inode.parent 0
+      && names_first 1 inode.direct && nat_eq inode.indirect 0) (nat_eq inode.double 0) both.0 in
       let rest = all_five (nat_le 1 inode.size) (nat_le inode.size TARGET_BYTES) (nat_eq inode.parent 0)
-      (names_first 1 inode.direct) (nat_eq inode.indirect 0) both.0 in
+      (names_first 1 inode.direct) (nat_eq inode.indirect 0) no_pointers.0 in
       λ i. file_good i && three.1 i && (rest.0 i && rest.1 i && eq-eqb head.parent 0 (sym fits.parent) i
-      && rest.3 i && rest.4 i && is_none (made_of told.Link fits.kind i))
+      && rest.3 i && rest.4 i && no_pointers.1 i && is_none (made_of told.Link fits.kind i))
 
   pub no_verifier : (verifier : Option Verifier) → verifier ≡ None → IfSome verifier VerifierFits
   no_verifier verifier is = subst (λ (v : Option Verifier). IfSome v VerifierFits) (sym is) tt
@@ -167,6 +170,7 @@ module _ (g : Geometry) (image : Image) (inodes : ℕ) (inode : Inode) (head : H
       count = old.fits.count;
       direct = old.fits.direct;
       indirect = old.fits.indirect;
+      double = old.fits.double;
     };
     good = good inode.kind old.good fits;
   }

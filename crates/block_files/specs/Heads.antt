@@ -43,6 +43,7 @@ looks_of head = record {
   verifier = head.verifier;
   direct = replicate DIRECT_INDEXES 0;
   indirect = 0;
+  double = 0;
 }
 
 -- an inode of this kind with the attributes of a head, and no blocks

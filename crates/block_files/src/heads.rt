@@ -1,6 +1,6 @@
 //! The files of an image by their numbers.
 ghost use Rattle.std.specs.Prelude.{ℕ, ◌≡◌, ◌+◌, ◌≤◌, IfErr, IfOk};
-ghost use Rattle.limits.specs.declared.TheConstants.{FILE_INDEXES};
+ghost use Rattle.limits.specs.declared.TheConstants.{FILE_INDEXES, INDIRECT_INDEXES};
 ghost use Rattle.disk.specs.Crash.{Image};
 ghost use Rattle.model.specs.Tree.{Tree};
 ghost use Rattle.files.specs.Heads.{IsFileAt};
@@ -38,7 +38,7 @@ pub fn head_of(number: u32, inode: &Inode, used: u32) -> Head
 
 // How many blocks the file of an inode uses. What a directory uses is told by its size, and no block of it is read.
 fn used_in(snap: &Snap, inode: &Inode) -> Result<u32, Stop>
-    ensures few { IfOk result (λ used. used ≤ FILE_INDEXES + 1) }
+    ensures few { IfOk result (λ used. used ≤ FILE_INDEXES + INDIRECT_INDEXES + 2) }
     ensures ok { IfOk result (λ used. (blocks : Image) (tree : Tree) (file : ℕ)
         → HasInode snap.now blocks tree file inode.now
         → IsShown inode.now used (body_in snap.now.geometry blocks inode.now)) }

@@ -36,6 +36,7 @@ pub(crate) fn looks_of(head: &Head) -> Inode
         verifier: head.verifier,
         direct: [0; DIRECT_INDEXES],
         indirect: 0,
+        double: 0,
     }
 }
 

@@ -70,7 +70,7 @@ pub fn resize(alloc: Global, draft: &mut Draft, head: &Head, size: u64) -> Resul
         × IsDraft draft.new blocks (with_node tree head.now.number
         (node_of head.now (with_length (Some size) node.body)))) }
     ensures seen { draft.new.seen ≡ draft.old.seen }
-    ensures spent { spent draft.new ≤ spent draft.old + 3 }
+    ensures spent { spent draft.new ≤ spent draft.old + 5 }
     ensures err { IfErr result (λ stop. MayStop draft.old.seen stop) }
     ensures pause { IfErr result (λ stop. (blocks : Image) (tree : Tree) → IsDraft draft.old blocks tree
         → IsPause stop) }

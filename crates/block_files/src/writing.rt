@@ -34,7 +34,7 @@ pub fn write(
         × IsDraft draft.new blocks (with_node tree head.now.number
         (node_of head.now (with_text offset text.now node.body)))) }
     ensures seen { draft.new.seen ≡ draft.old.seen }
-    ensures spent { length text.now ≤ TRANSFER_BYTES → spent draft.new ≤ spent draft.old + 36 }
+    ensures spent { length text.now ≤ TRANSFER_BYTES → spent draft.new ≤ spent draft.old + 71 }
     ensures err { IfErr result (λ stop. MayStop draft.old.seen stop) }
     ensures pause { IfErr result (λ stop. (blocks : Image) (tree : Tree) → IsDraft draft.old blocks tree
         → IsPause stop) }

@@ -43,7 +43,7 @@ small_size g kinds.Directory inode is good =
     (names_first (min (inode.size / BLOCK_BYTES) DIRECT_INDEXES) inode.direct)
     (cond (nat_lt DIRECT_INDEXES (inode.size / BLOCK_BYTES)) (not (nat_eq inode.indirect 0))
     (nat_eq inode.indirect 0))
-    (all_two _ (is_none inode.verifier) three.2).0 in
+    (all_two _ (nat_eq inode.double 0) (all_two _ (is_none inode.verifier) three.2).0).0 in
     no_more inode.size LARGEST_DIRECTORY rules.1
 small_size g kinds.Regular inode is good = cc
 small_size g kinds.Link inode is good = cc

@@ -1,26 +1,27 @@
 -- A directory that has one block more, in whose first slot a name lies.
 use Rattle.std.proofs.Common.{◌≡◌, ℕ, zero, suc, ◌+◌, ◌-◌, ◌*◌, ◌/◌, ◌%◌, ◌<◌, ◌≤◌, max, min, inl, inr, sym, ap, ◌∙◌, refl}
-use Rattle.std.proofs.Common.{subst, Bool, true, false, cond, not, ◌&&◌, ◌||◌, List, [], ◌∷◌, length, take, drop}
+use Rattle.std.proofs.Common.{subst, Bool, true, false, cond, not, ◌&&◌, List, [], ◌∷◌, ◌++◌, length, take, drop}
 use Rattle.std.proofs.Common.{get_or, set, replicate, nat_eq, nat_le, nat_lt, is_none, IsOk, Some, None, Ok, arith}
 use Rattle.std.proofs.Math.Seq.{take-append_seam, drop-append_seam}
 use Rattle.std.specs.Cmp.Lexicographic.{nat_list_cmp_total, slice_cmp}
 use Rattle.std.specs.FinMap as map
 use Rattle.std.specs.FinMap.{find, from_entries, get, get-from_entries, insert}
-use Rattle.std.specs.List.{flat_map, list_all, list_any}
+use Rattle.std.specs.List.{flat_map, list_all}
 use Rattle.std.specs.Ordering.{nat_cmp}
 use Rattle.std.proofs.lemmas.Bool.Decides.{nat_tests}
 use Rattle.std.proofs.lemmas.Bool.{cases_eq, cases_lt, eq-eqb, le-leb, le-ltb, lt-ltb}
 use Rattle.std.proofs.Common.{◌⊎◌, filter, length-append}
-use Rattle.std.proofs.lemmas.List.{drop-drop, length-replicate, get_or-set_other, get_or-set_same, get_or-take, length-set, length-take-le}
+use Rattle.std.proofs.lemmas.List.{append_assoc, drop-drop, length-replicate, get_or-set_other, get_or-set_same, get_or-take}
+use Rattle.std.proofs.lemmas.List.{length-set, length-take-le}
 use Rattle.std.proofs.lemmas.List.FromFn.{get_or-range_with_len, length-range_with_len}
 use Rattle.std.proofs.lemmas.List.Elements.{All-from_get_or}
-use Rattle.limits.specs.declared.TheConstants.{BLOCK_BYTES, DIRECT_INDEXES, FILE_INDEXES, INDIRECT_INDEXES, LARGEST_DIRECTORY}
+use Rattle.limits.specs.declared.TheConstants.{BLOCK_BYTES, DIRECT_INDEXES, FILE_INDEXES, LARGEST_DIRECTORY}
 use Rattle.limits.specs.declared.TheConstants.{MOST_SPAN, SLOTS_PER_BLOCK}
 use Rattle.disk.specs.Crash.{Image}
 use Rattle.objects.specs.Spliced.{spliced}
 use Rattle.model.specs.Node.{Body, DirectoryEntry, Entries, Node}
 use Rattle.model.specs.Node as nodes
-use Rattle.model.specs.Tree.{Tree, node_at, with_node}
+use Rattle.model.specs.Tree.{Tree, with_node}
 use Rattle.model.specs.Tree as trees
 use Rattle.procedures.specs.Changes.{with_entry}
 use Rattle.files.specs.Changing.{IsOwnSlot, adds}
@@ -30,8 +31,11 @@ use Rattle.layout.specs.declared.inode.InodeKind.{InodeKind}
 use Rattle.layout.specs.declared.inode.InodeKind.TheVariants as kinds
 use Rattle.layout.specs.declared.slot.Slot.{Slot}
 use Rattle.layout.specs.declared.slot.TheConstants.{SLOT_BYTES}
-use Rattle.layout.specs.Decode.{IsDirectory, IsOfKind, body_of, bytes_of, content_of, directory_in, entries_in}
-use Rattle.layout.specs.Decode.{named_in, node_with, numbers_in, numbers_of, slot_bytes, slots_of, span_of}
+use Rattle.layout.specs.Decode.{IsDirectory, IsOfKind, body_of, bytes_of, content_of, directory_in, doubled_in}
+use Rattle.layout.specs.Decode.{entries_in, named_in, node_with, numbers_in, numbers_of, pointer_blocks, slot_bytes}
+use Rattle.layout.specs.Decode.{slots_of, span_of}
+use Rattle.layout.proofs.AllNumbers.{maps}
+use Rattle.layout.proofs.FileNumbers.{pointers_pass}
 use Rattle.layout.proofs.Written.{not_same}
 use Rattle.layout.specs.InodeForm.{SoundInode, is_data_block_or_none, is_sound_directory, is_sound_file, is_sound_inode}
 use Rattle.layout.specs.InodeForm.{is_sound_kind, is_sound_map, names_first}
@@ -41,7 +45,7 @@ use Rattle.layout.specs.Parts.{content_in}
 use Rattle.layout.specs.SlotForm.{SoundSlot, read_slot, used_bytes}
 use Rattle.layout.proofs.SlotBytes.{free_read}
 use Rattle.inode.specs.declared.snap.Snap.{Snap}
-use Rattle.inode.proofs.AllTests.{all_three, all_two}
+use Rattle.inode.proofs.AllTests.{all_three}
 use Rattle.inode.proofs.Pieces.{in_block}
 use Rattle.bitmap.proofs.Gained.{grown, grown_holds}
 use Rattle.dir.specs.Slots.{Lying, slot_at}
@@ -64,10 +68,11 @@ use Rattle.dir_writes.proofs.Spanned.{body_there, node_there}
 use Rattle.dir_writes.proofs.UsedBytes.{used_long, used_read}
 use Rattle.dir_writes.proofs.WideSlots.{as_many, past, widened, within}
 
-all_eight : (a b c d e f h k : Bool) → (a && b && c && d && e && f && h && k) ≡ true
+all_nine : (a b c d e f h k l : Bool) → (a && b && c && d && e && f && h && k && l) ≡ true
     → (a ≡ true) × (b ≡ true) × (c ≡ true) × (d ≡ true) × (e ≡ true) × (f ≡ true) × (h ≡ true) × (k ≡ true)
-all_eight true true true true true true true true e = (refl, refl, refl, refl, refl, refl, refl, refl)
-all_eight _ _ _ _ _ _ _ _ e = cc
+    × (l ≡ true)
+all_nine true true true true true true true true true e = (refl, refl, refl, refl, refl, refl, refl, refl, refl)
+all_nine _ _ _ _ _ _ _ _ _ e = cc
 
 same_number : (a b : ℕ) → nat_eq a b ≡ true → a ≡ b
 same_number a b e = grind (arith, nat_tests)
@@ -231,12 +236,12 @@ module _ (snap : Snap) (base : Image) (tree : Tree) (n : ℕ) (inode : Inode) (n
 
   whole_size : inode.size ≡ BLOCK_BYTES * span
   whole_size =
-      let eight = all_eight (nat_le 2 inode.nlink) (nat_le inode.size LARGEST_DIRECTORY)
+      let nine = all_nine (nat_le 2 inode.nlink) (nat_le inode.size LARGEST_DIRECTORY)
       (nat_eq (inode.size % BLOCK_BYTES) 0) (nat_lt 0 inode.parent) (nat_lt inode.parent g.inodes)
       (names_first (min (inode.size / BLOCK_BYTES) DIRECT_INDEXES) inode.direct)
       (cond (nat_lt DIRECT_INDEXES (inode.size / BLOCK_BYTES)) (not (nat_eq inode.indirect 0))
-      (nat_eq inode.indirect 0)) (is_none inode.verifier) tests.2 in
-      let whole = same_number (inode.size % BLOCK_BYTES) 0 eight.2 in omega (arith, whole)
+      (nat_eq inode.indirect 0)) (nat_eq inode.double 0) (is_none inode.verifier) tests.2 in
+      let whole = same_number (inode.size % BLOCK_BYTES) 0 nine.2 in omega (arith, whole)
 
   pub size_is : grown_size inode.size offset block ≡ BLOCK_BYTES * (span + 1)
   size_is = let whole = whole_size in let long = block_long in omega (arith, whole, long)
@@ -244,11 +249,11 @@ module _ (snap : Snap) (base : Image) (tree : Tree) (n : ℕ) (inode : Inode) (n
   -- ---- its indirect block
 
   far_rule : cond (nat_lt DIRECT_INDEXES span) (not (nat_eq inode.indirect 0)) (nat_eq inode.indirect 0) ≡ true
-  far_rule = (all_eight (nat_le 2 inode.nlink) (nat_le inode.size LARGEST_DIRECTORY)
+  far_rule = (all_nine (nat_le 2 inode.nlink) (nat_le inode.size LARGEST_DIRECTORY)
       (nat_eq (inode.size % BLOCK_BYTES) 0) (nat_lt 0 inode.parent) (nat_lt inode.parent g.inodes)
       (names_first (min (inode.size / BLOCK_BYTES) DIRECT_INDEXES) inode.direct)
       (cond (nat_lt DIRECT_INDEXES (inode.size / BLOCK_BYTES)) (not (nat_eq inode.indirect 0))
-      (nat_eq inode.indirect 0)) (is_none inode.verifier) tests.2).6
+      (nat_eq inode.indirect 0)) (nat_eq inode.double 0) (is_none inode.verifier) tests.2).6
 
   no_far : span ≤ DIRECT_INDEXES → nat_eq inode.indirect 0 ≡ true
   no_far few = sym (ap (λ t. cond t (not (nat_eq inode.indirect 0)) (nat_eq inode.indirect 0))
@@ -274,8 +279,7 @@ module _ (snap : Snap) (base : Image) (tree : Tree) (n : ℕ) (inode : Inode) (n
   ]
 
   pub placed_far : is_data_block_or_none g inode.indirect ≡ true
-  placed_far = (all_two (list_all (is_data_block_or_none g) inode.direct)
-      (is_data_block_or_none g inode.indirect) tests.1).1
+  placed_far = (maps g inode sound).1
 
   was_body : node.body ≡ directory_in g.inodes content inode
   was_body = body_there snap base tree n inode node grows.is.has grows.was
@@ -317,11 +321,11 @@ module _ (snap : Snap) (base : Image) (tree : Tree) (n : ℕ) (inode : Inode) (n
       - (k + cond (nat_lt DIRECT_INDEXES k) 1 0)) at
 
   module _ (b : ℕ) (direct : List ℕ) (far : ℕ) (after : Image) (gained : List ℕ)
-      (fills : Fills g base inode offset block b direct far after gained)
+      (fills : Fills g base inode offset block b direct far inode.double after gained)
       (long_after : (q : ℕ) → length (after q) ≡ BLOCK_BYTES)
       (far_is : cond (nat_lt DIRECT_INDEXES (span + 1)) (not (nat_eq far 0)) (nat_eq far 0) ≡ true) where
     abbrev pub new : Inode
-    new = mapping inode (grown_size inode.size offset block) direct far
+    new = mapping inode (grown_size inode.size offset block) direct far inode.double
 
     new_span : span_of new ≡ span + 1
     new_span = let size = size_is in omega (arith, size)
@@ -509,10 +513,11 @@ module _ (snap : Snap) (base : Image) (tree : Tree) (n : ℕ) (inode : Inode) (n
     rules : IsDirectory g after new
     rules = record {
       mapped = record {
+        pointers = fills.pointers_placed;
         numbers = ap (list_all (is_data_block_or_none g)) fills.now
             ∙ all_still (is_data_block_or_none g) numbers (offset / BLOCK_BYTES) b dir.mapped.numbers
             (or_data g b fills.lies);
-        used = ap (λ l. nat_eq far 0 || list_any is_some (drop (length direct) l)) fills.now ∙ fills.used;
+        used = fills.used;
       };
       spans = spans_now;
       slots = All-from_get_or (λ k. IsOk (read_slot g.inodes (slot_bytes after new k))) (slots_of new) 0
@@ -551,23 +556,30 @@ module _ (snap : Snap) (base : Image) (tree : Tree) (n : ℕ) (inode : Inode) (n
         count = fills.count;
         direct = fills.fit;
         indirect = fills.far_fits;
+        double = fills.double_fits;
       };
       good = subst (λ kind. is_sound_kind g kind new ≡ true) (sym grows.is.kind)
-          (λ i. tests.0 i && (fills.placed i && fills.far_placed i)
-          && (eight.0 i && small i && whole i && eight.3 i && eight.4 i && direct_first i && far_first i && eight.7 i));
+          (λ i. tests.0 i && (fills.placed i && lie.0 i && lie.1 i && fills.has_double i)
+          && (nine.0 i && small i && whole i && nine.3 i && nine.4 i && direct_first i && far_first i && nine.7 i
+          && nine.8 i));
     }
       where
-        eight : (nat_le 2 inode.nlink ≡ true) × (nat_le inode.size LARGEST_DIRECTORY ≡ true)
+        nine : (nat_le 2 inode.nlink ≡ true) × (nat_le inode.size LARGEST_DIRECTORY ≡ true)
             × (nat_eq (inode.size % BLOCK_BYTES) 0 ≡ true) × (nat_lt 0 inode.parent ≡ true)
             × (nat_lt inode.parent g.inodes ≡ true)
             × (names_first (min (inode.size / BLOCK_BYTES) DIRECT_INDEXES) inode.direct ≡ true)
             × (cond (nat_lt DIRECT_INDEXES (inode.size / BLOCK_BYTES)) (not (nat_eq inode.indirect 0))
-            (nat_eq inode.indirect 0) ≡ true) × (is_none inode.verifier ≡ true)
-        eight = all_eight (nat_le 2 inode.nlink) (nat_le inode.size LARGEST_DIRECTORY)
+            (nat_eq inode.indirect 0) ≡ true) × (nat_eq inode.double 0 ≡ true)
+            × (is_none inode.verifier ≡ true)
+        nine = all_nine (nat_le 2 inode.nlink) (nat_le inode.size LARGEST_DIRECTORY)
             (nat_eq (inode.size % BLOCK_BYTES) 0) (nat_lt 0 inode.parent) (nat_lt inode.parent g.inodes)
             (names_first (min (inode.size / BLOCK_BYTES) DIRECT_INDEXES) inode.direct)
             (cond (nat_lt DIRECT_INDEXES (inode.size / BLOCK_BYTES)) (not (nat_eq inode.indirect 0))
-            (nat_eq inode.indirect 0)) (is_none inode.verifier) tests.2
+            (nat_eq inode.indirect 0)) (nat_eq inode.double 0) (is_none inode.verifier) tests.2
+
+        lie : (is_data_block_or_none g far ≡ true) × (is_data_block_or_none g inode.double ≡ true)
+            × (list_all (is_data_block_or_none g) (numbers_in after inode.double) ≡ true)
+        lie = pointers_pass after new (is_data_block_or_none g) fills.pointers_placed
 
         small : nat_le (grown_size inode.size offset block) LARGEST_DIRECTORY ≡ true
         small = let size = size_is in let few = fewer in
@@ -579,7 +591,9 @@ module _ (snap : Snap) (base : Image) (tree : Tree) (n : ℕ) (inode : Inode) (n
 
         direct_first : names_first (min (span_of new) DIRECT_INDEXES) direct ≡ true
         direct_first = ap (λ m. names_first (min (span_of new) m) direct) (sym fills.count)
-            ∙ names_direct direct (numbers_in after far) (span_of new) spans_now
+            ∙ names_direct direct (numbers_in after far ++ doubled_in after inode.double) (span_of new)
+            (subst (λ l. names_first (span_of new) l ≡ true)
+            (append_assoc direct (numbers_in after far) (doubled_in after inode.double)) spans_now)
 
         far_first : cond (nat_lt DIRECT_INDEXES (span_of new)) (not (nat_eq far 0)) (nat_eq far 0) ≡ true
         far_first = ap (λ k. cond (nat_lt DIRECT_INDEXES k) (not (nat_eq far 0)) (nat_eq far 0)) new_span ∙ far_is
@@ -607,7 +621,7 @@ module _ (snap : Snap) (base : Image) (tree : Tree) (n : ℕ) (inode : Inode) (n
 
     counted : (q : ℕ) → times q (owned_by after (Ok (Some new)))
         ≡ times q gained + times q (owned_by content (Ok (Some inode)))
-    counted q = ap (λ l. times q (filter is_some (far ∷ l))) fills.now ∙ fills.counted q
+    counted q = ap (λ l. times q (filter is_some (pointer_blocks after new ++ l))) fills.now ∙ fills.counted q
 
     node_now : node_with new (body_of g.inodes after inode.kind new) ≡ record node { body = new_body }
     node_now =

@@ -1,7 +1,8 @@
 -- Blocks of an image to which a directory's new block was written hold the tree with the name in it.
 use Rattle.std.proofs.Common.{◌≡◌, ℕ, ◌+◌, ◌-◌, ◌*◌, ◌/◌, ◌<◌, ◌≤◌, sym, ap, refl, subst, Bool, true, false, cond}
 use Rattle.std.proofs.Common.{List, [], ◌∷◌, length, set, replicate, nat_eq, nat_lt, not, Some, Ok, arith}
-use Rattle.limits.specs.declared.TheConstants.{BLOCK_BYTES, DIRECT_INDEXES, INDIRECT_INDEXES, SLOTS_PER_BLOCK}
+use Rattle.limits.specs.declared.TheConstants.{BLOCK_BYTES, DIRECT_INDEXES, FIRST_DOUBLE_INDEX, INDIRECT_INDEXES}
+use Rattle.limits.specs.declared.TheConstants.{SLOTS_PER_BLOCK}
 use Rattle.disk.specs.Crash.{Image}
 use Rattle.nfs_types.specs.Fits.{AreBytes}
 use Rattle.objects.specs.Spliced.{spliced}
@@ -83,18 +84,18 @@ module _ (snap : Snap) (base : Image) (tree : Tree) (n : ℕ) (inode : Inode) (n
       Holds g (with_inode g image n new) next × (inode_at g (with_inode g image n new) n ≡ Ok (Some new))
 
   abbrev as_grown : List ℕ → ℕ → Inode
-  as_grown direct far = mapping inode (grown_size inode.size offset block) direct far
+  as_grown direct far = mapping inode (grown_size inode.size offset block) direct far inode.double
 
-  sized : (direct : List ℕ) (far : ℕ) → as_grown direct far ≡ mapping inode size direct far
+  sized : (direct : List ℕ) (far : ℕ) → as_grown direct far ≡ mapping inode size direct far inode.double
   sized direct far =
-      ap (λ k. mapping inode k direct far) (grown.size_is snap base tree n inode node name number grows)
+      ap (λ k. mapping inode k direct far inode.double) (grown.size_is snap base tree n inode node name number grows)
 
   module _ (gained : List ℕ) (middle : Image) (taken : HasTaken g base tree gained middle)
       (long : (q : ℕ) → q < g.blocks → length (middle q) ≡ BLOCK_BYTES) (b : ℕ) (lies : is_data g b ≡ true)
       (direct : List ℕ) (far : ℕ)
       (far_is : cond (nat_lt DIRECT_INDEXES (span + 1)) (not (nat_eq far 0)) (nat_eq far 0) ≡ true) where
-    one : Fills g base inode offset block b direct far (put content b block) gained
-        → Grows (with_bytes middle b 0 block) (mapping inode size direct far)
+    one : Fills g base inode offset block b direct far inode.double (put content b block) gained
+        → Grows (with_bytes middle b 0 block) (mapping inode size direct far inode.double)
     one fills =
         let after = put content b block in
         let all = put_long content b block was_long count in
@@ -110,8 +111,8 @@ module _ (snap : Snap) (base : Image) (tree : Tree) (n : ℕ) (inode : Inode) (n
         )
 
     both : (named : List ℕ) → is_data g far ≡ true → length named ≡ BLOCK_BYTES → AreBytes named
-        → Fills g base inode offset block b direct far (put (put content far named) b block) gained
-        → Grows (with_bytes (with_bytes middle far 0 named) b 0 block) (mapping inode size direct far)
+        → Fills g base inode offset block b direct far inode.double (put (put content far named) b block) gained
+        → Grows (with_bytes (with_bytes middle far 0 named) b 0 block) (mapping inode size direct far inode.double)
     both named far_lies named_long named_each fills =
         let after = put (put content far named) b block in
         let all = put_long (put content far named) b block (put_long content far named was_long named_long) count in
@@ -130,9 +131,10 @@ module _ (snap : Snap) (base : Image) (tree : Tree) (n : ℕ) (inode : Inode) (n
 
   pub near_grows : (b : ℕ) (middle : Image) → HasTaken g base tree (b ∷ []) middle
       → ((q : ℕ) → q < g.blocks → length (middle q) ≡ BLOCK_BYTES) → span < DIRECT_INDEXES
-      → Grows (with_bytes middle b 0 block) (mapping inode size (set inode.direct span b) inode.indirect)
+      → Grows (with_bytes middle b 0 block) (mapping inode size (set inode.direct span b) inode.indirect inode.double)
   near_grows b middle taken long near =
-      subst (λ k. Grows (with_bytes middle b 0 block) (mapping inode size (set inode.direct k b) inode.indirect))
+      subst (λ k. Grows (with_bytes middle b 0 block)
+      (mapping inode size (set inode.direct k b) inode.indirect inode.double))
       at_index
       (one (b ∷ []) middle taken long b taken.were_free.0.lies (set inode.direct (offset / BLOCK_BYTES) b)
       inode.indirect (grown.far_near snap base tree n inode node name number grows near)
@@ -141,6 +143,12 @@ module _ (snap : Snap) (base : Image) (tree : Tree) (n : ℕ) (inode : Inode) (n
       (grown.none_there snap base tree n inode node name number grows)
       (grown.block_is snap base tree n inode node name number grows)
       (subst (λ k. k < DIRECT_INDEXES) (sym at_index) near)))
+
+  -- a directory spans no index that the double indirect block reaches
+  index_low : offset / BLOCK_BYTES < FIRST_DOUBLE_INDEX
+  index_low =
+      let few = grown.fewer snap base tree n inode node name number grows in
+      let at = at_index in omega (arith, few, at)
 
   place_small : DIRECT_INDEXES ≤ span → offset / BLOCK_BYTES - DIRECT_INDEXES < INDIRECT_INDEXES
   place_small past =
@@ -152,13 +160,14 @@ module _ (snap : Snap) (base : Image) (tree : Tree) (n : ℕ) (inode : Inode) (n
       → is_data g inode.indirect ≡ true
       → Grows (with_bytes (with_bytes middle inode.indirect 0
       (spliced (content inode.indirect) (4 * (span - DIRECT_INDEXES)) (four_bytes b))) b 0 block)
-      (mapping inode size inode.direct inode.indirect)
+      (mapping inode size inode.direct inode.indirect inode.double)
   far_grows b middle taken long past far_lies =
       let far = inode.indirect in
       let place = offset / BLOCK_BYTES - DIRECT_INDEXES in
       let some = not_zero g far far_lies in
       subst (λ k. Grows (with_bytes (with_bytes middle far 0
-      (spliced (content far) (4 * (k - DIRECT_INDEXES)) (four_bytes b))) b 0 block) (mapping inode size inode.direct far))
+      (spliced (content far) (4 * (k - DIRECT_INDEXES)) (four_bytes b))) b 0 block)
+      (mapping inode size inode.direct far inode.double))
       at_index
       (both (b ∷ []) middle taken long b taken.were_free.0.lies inode.direct far
       (grown.far_past snap base tree n inode node name number grows far past some)
@@ -169,20 +178,20 @@ module _ (snap : Snap) (base : Image) (tree : Tree) (n : ℕ) (inode : Inode) (n
       (grown.piece snap base tree n inode node name number grows) b block taken.were_free.0
       (grown.none_there snap base tree n inode node name number grows)
       (grown.block_is snap base tree n inode node name number grows)
-      (subst (λ k. DIRECT_INDEXES ≤ k) (sym at_index) past) some))
+      (subst (λ k. DIRECT_INDEXES ≤ k) (sym at_index) past) index_low some))
 
   pub first_grows : (far b : ℕ) (middle : Image) → HasTaken g base tree (far ∷ b ∷ []) middle
       → ((q : ℕ) → q < g.blocks → length (middle q) ≡ BLOCK_BYTES) → DIRECT_INDEXES ≤ span
       → nat_eq inode.indirect 0 ≡ true
       → Grows (with_bytes (with_bytes middle far 0
       (spliced (replicate BLOCK_BYTES 0) (4 * (span - DIRECT_INDEXES)) (four_bytes b))) b 0 block)
-      (mapping inode size inode.direct far)
+      (mapping inode size inode.direct far inode.double)
   first_grows far b middle taken long past none =
       let place = offset / BLOCK_BYTES - DIRECT_INDEXES in
       let far_lies = taken.were_free.0.lies in
       subst (λ k. Grows (with_bytes (with_bytes middle far 0
       (spliced (replicate BLOCK_BYTES 0) (4 * (k - DIRECT_INDEXES)) (four_bytes b))) b 0 block)
-      (mapping inode size inode.direct far)) at_index
+      (mapping inode size inode.direct far inode.double)) at_index
       (both (far ∷ b ∷ []) middle taken long b taken.were_free.1.0.lies inode.direct far
       (grown.far_past snap base tree n inode node name number grows far past (not_zero g far far_lies))
       (spliced (replicate BLOCK_BYTES 0) (4 * place) (four_bytes b)) far_lies
@@ -192,4 +201,4 @@ module _ (snap : Snap) (base : Image) (tree : Tree) (n : ℕ) (inode : Inode) (n
       (grown.piece snap base tree n inode node name number grows) b block taken.were_free.1.0
       (grown.none_there snap base tree n inode node name number grows)
       (grown.block_is snap base tree n inode node name number grows)
-      (subst (λ k. DIRECT_INDEXES ≤ k) (sym at_index) past) none far taken.were_free.0 taken.once))
+      (subst (λ k. DIRECT_INDEXES ≤ k) (sym at_index) past) index_low none far taken.were_free.0 taken.once))

@@ -9,6 +9,8 @@ use Rattle.std.specs.FinMap.{from_entries}
 use Rattle.std.specs.List.{list_all}
 use Rattle.std.specs.Ordering.{nat_cmp}
 use Rattle.std.proofs.lemmas.List.{get_or-take, length-take-le}
+use Rattle.std.proofs.lemmas.List.Elements.{filter-append}
+use Rattle.std.proofs.lemmas.List.Sums.{sum_by-append}
 use Rattle.limits.specs.declared.TheConstants.{BLOCK_BYTES, SLOTS_PER_BLOCK}
 use Rattle.disk.specs.Crash.{Image}
 use Rattle.nfs_types.specs.Fits.{AreBytes}
@@ -28,7 +30,7 @@ use Rattle.layout.specs.declared.inode.InodeKind.TheVariants as kinds
 use Rattle.layout.specs.declared.slot.Slot.{Slot}
 use Rattle.layout.specs.declared.slot.TheConstants.{SLOT_BYTES}
 use Rattle.layout.specs.Decode.{IsDirectory, IsFile, IsOfKind, body_of, file_of, inode_at}
-use Rattle.layout.specs.Decode.{entries_in, node_with, numbers_of, span_of}
+use Rattle.layout.specs.Decode.{entries_in, node_with, numbers_of, pointer_blocks, span_of}
 use Rattle.layout.specs.Holds.{Holds, PartsHold}
 use Rattle.layout.specs.Owners.{IsMarked, owned, owned_by}
 use Rattle.layout.specs.Parts.{Parts, content_in, parts_of, put, with_bytes}
@@ -52,7 +54,7 @@ use Rattle.dir_writes.specs.Slotting.{slotted, slotted_block}
 use Rattle.dir_writes.proofs.Lost.{IsOnce}
 use Rattle.dir_writes.proofs.SlotNames as slots
 use Rattle.dir_writes.proofs.SlotNames.{relaid, some_at}
-use Rattle.dir_writes.proofs.OnePlace.{at_head, elsewhere, held_by, no_fewer, nothing_else, once_there}
+use Rattle.dir_writes.proofs.OnePlace.{elsewhere, held_by, nothing_else, once_there}
 use Rattle.dir_writes.proofs.OnePlace.{one_index, own_part}
 
 take_none : (xs : List ℕ) → take 0 xs ≡ []
@@ -131,11 +133,20 @@ module _ (snap : Snap) (old : Image) (tree : Tree) (n : ℕ) (inode : Inode) (s 
   index : s / SLOTS_PER_BLOCK < length numbers
   index = let all = spans in omega (arith, less, all)
 
-  few : times b (some_of (inode.indirect ∷ numbers)) ≤ 1
+  abbrev pointers : List ℕ
+  pointers = pointer_blocks content inode
+
+  few : times b (some_of (pointers ++ numbers)) ≤ 1
   few =
       let own = subst (λ r. times b (owned_by content r) ≤ times b (owned g was)) table_is
       (own_part g was n b is.has.less) in
       let all = holds.parts.marked.once b in omega (arith, own, all)
+
+  -- of its blocks some are pointer blocks, and the others are those of its numbers
+  apart : times b (some_of (pointers ++ numbers)) ≡ times b (some_of pointers) + times b (some_of numbers)
+  apart =
+      ap (times b) (filter-append (λ k. not (nat_eq k 0)) pointers numbers)
+      ∙ sum_by-append (λ one. cond (nat_eq one b) 1 0) (some_of pointers) (some_of numbers)
 
   some_b : nat_eq b 0 ≡ false
   some_b =
@@ -152,10 +163,10 @@ module _ (snap : Snap) (old : Image) (tree : Tree) (n : ℕ) (inode : Inode) (s 
 
   owned_there : 1 ≤ times b (owned_by content (was.table n))
   owned_there =
-      let one = there in let more = no_fewer b inode.indirect numbers in
+      let one = there in let more = apart in
       subst (λ r. 1 ≤ times b (owned_by content r)) (sym table_is) (as_own (omega (arith, one, more)))
     where
-      as_own : 1 ≤ times b (some_of (inode.indirect ∷ numbers))
+      as_own : 1 ≤ times b (some_of (pointers ++ numbers))
           → 1 ≤ times b (owned_by content (Ok (Some inode)))
       as_own e = e
 
@@ -163,12 +174,13 @@ module _ (snap : Snap) (old : Image) (tree : Tree) (n : ℕ) (inode : Inode) (s 
   once = record {
     index = λ i j low high e f.
         one_index b numbers i j some_b
-        (let most = few in let more = no_fewer b inode.indirect numbers in omega (arith, most, more)) low high e f;
-    indirect = λ e.
-        let most = subst (λ k. times b (some_of (k ∷ numbers)) ≤ 1) e few in
-        let head = at_head b numbers some_b in
+        (let most = few in let more = apart in omega (arith, most, more)) low high e f;
+    pointer = λ i low e.
+        let most = few in
+        let more = apart in
+        let here = once_there b pointers i some_b low e in
         let one = there in
-        omega (arith, most, head, one);
+        omega (arith, most, more, here, one);
   }
 
   data_b : is_data g b ≡ true
@@ -232,7 +244,8 @@ module _ (snap : Snap) (old : Image) (tree : Tree) (n : ℕ) (inode : Inode) (s 
   owners : owned g new ≡ owned g was
   owners = same_owners g was new n one
       (ap (owned_by after) table_is
-      ∙ ap (λ ns. some_of (inode.indirect ∷ ns)) (slots.same_numbers g content inode s bytes read count reads long spans dir less once)
+      ∙ (λ i. some_of (slots.same_pointers g content inode s bytes read count reads long spans dir less once i
+      ++ slots.same_numbers g content inode s bytes read count reads long spans dir less once i))
       ∙ sym (ap (owned_by content) table_is))
 
   marked : IsMarked g new

@@ -1,10 +1,10 @@
 -- The names of a directory of which a slot got other bytes.
 use Rattle.std.proofs.Common.{◌≡◌, ℕ, zero, suc, ◌+◌, ◌*◌, ◌/◌, ◌<◌, ◌≤◌, inl, inr, sym, ap, ◌∙◌, refl, subst}
-use Rattle.std.proofs.Common.{Bool, true, false, cond, not, ◌||◌, List, [], ◌∷◌, ◌++◌, length, take, drop, get_or}
-use Rattle.std.proofs.Common.{replicate, nat_eq, IsOk, Option, Ok, arith}
+use Rattle.std.proofs.Common.{Bool, true, false, cond, not, List, [], ◌∷◌, length, take, drop, get_or}
+use Rattle.std.proofs.Common.{nat_eq, IsOk, Option, Ok, arith}
 use Rattle.std.specs.Cmp.Lexicographic.{slice_cmp}
 use Rattle.std.specs.FinMap as map
-use Rattle.std.specs.List.{cons_option, flat_map, list_all, list_any}
+use Rattle.std.specs.List.{cons_option, flat_map, list_all}
 use Rattle.std.specs.Ordering.{nat_cmp}
 use Rattle.std.proofs.lemmas.Bool.{cases_eq, eq-eqb}
 use Rattle.std.proofs.lemmas.List.{get_or-take, length-take-le}
@@ -16,15 +16,18 @@ use Rattle.layout.specs.declared.geometry.Geometry.{Geometry}
 use Rattle.layout.specs.declared.inode.Inode.{Inode}
 use Rattle.layout.specs.declared.slot.Slot.{Slot}
 use Rattle.layout.specs.declared.slot.TheConstants.{SLOT_BYTES}
-use Rattle.layout.specs.Decode.{IsDirectory, bytes_of, content_of, entries_in, entry_in, named_in, numbers_of}
+use Rattle.layout.specs.Decode.{IsDirectory, bytes_of, content_of, entries_in, entry_in, is_used_pointer, named_in}
+use Rattle.layout.specs.Decode.{numbers_of, pointer_blocks}
 use Rattle.layout.specs.Decode.{slot_bytes, slots_of, span_of}
 use Rattle.layout.specs.InodeForm.{is_data_block_or_none, names_first}
 use Rattle.layout.specs.SlotForm.{read_slot}
-use Rattle.layout.proofs.NumbersIn.{same_in}
+use Rattle.layout.proofs.ChangedNumbers as changed
+use Rattle.layout.proofs.ChangedNumbers.{ArePointersSame}
 use Rattle.layout.proofs.Written.{not_same}
 use Rattle.inode.proofs.AllTests.{all_two}
 use Rattle.dir.specs.Slots.{Lying, slot_at}
 use Rattle.dir.proofs.FoundIn.{entries}
+use Rattle.file_writes.proofs.Owned.{each_place, used_alike}
 use Rattle.dir_writes.specs.Clearing.{HasOnce, slot_block}
 use Rattle.dir_writes.specs.Slotting.{slotted}
 use Rattle.dir_writes.proofs.Lost.{IsOnce}
@@ -101,10 +104,17 @@ module _ (g : Geometry) (content : Image) (inode : Inode) (s : ℕ) (bytes : Lis
       once.index j (s / SLOTS_PER_BLOCK) (omega (arith, low, all, spans)) (omega (arith, first, spans))
       (sym (get_or-take (span_of inode) numbers j 0 (omega (arith, low, all))) ∙ e) refl
 
+  pointers_kept : ArePointersSame content after (pointer_blocks content inode)
+  pointers_kept =
+      each_place (λ number. nat_eq number 0 ≡ false → after number ≡ content number) (pointer_blocks content inode)
+      (λ i low mapped. other_block content spanned s b bytes count long b_is some within alone
+      (get_or (pointer_blocks content inode) i 0) (once.pointer i low))
+
   pub same_numbers : numbers_of after inode ≡ numbers
-  unfolding numbers_of
-  same_numbers = ap (λ l. inode.direct ++ l) (same_in after content inode.indirect
-      (λ mapped. other_block content spanned s b bytes count long b_is some within alone inode.indirect once.indirect))
+  same_numbers = (changed.same_numbers content after inode pointers_kept).0
+
+  pub same_pointers : pointer_blocks after inode ≡ pointer_blocks content inode
+  same_pointers = (changed.same_numbers content after inode pointers_kept).1
 
   -- ---- its slots
 
@@ -171,9 +181,11 @@ module _ (g : Geometry) (content : Image) (inode : Inode) (s : ℕ) (bytes : Lis
   pub rules : IsOnce (entries (relaid lies s read) 0 end) → IsDirectory g after inode
   rules is_once = record {
     mapped = record {
+      pointers = ap (list_all (is_data_block_or_none g)) same_pointers ∙ dir.mapped.pointers;
       numbers = ap (list_all (is_data_block_or_none g)) same_numbers ∙ dir.mapped.numbers;
-      used = ap (λ ns. nat_eq inode.indirect 0
-          || list_any (λ n. not (nat_eq n 0)) (drop (length inode.direct) ns)) same_numbers ∙ dir.mapped.used;
+      used = ap (list_all (is_used_pointer after)) same_pointers
+          ∙ used_alike content after (pointer_blocks content inode)
+          (changed.same_pointers content after (pointer_blocks content inode) pointers_kept) ∙ dir.mapped.used;
     };
     spans = ap (names_first (span_of inode)) same_numbers ∙ dir.spans;
     slots = All-from_get_or (λ k. IsOk (read_slot g.inodes (slot_bytes after inode k))) (slots_of inode) 0

@@ -5,7 +5,7 @@ use Rattle.disk.specs.Crash.{Image}
 use Rattle.objects.specs.Spliced.{spliced}
 use Rattle.layout.specs.declared.inode.Inode.{Inode}
 use Rattle.layout.specs.declared.slot.TheConstants.{SLOT_BYTES}
-use Rattle.layout.specs.Decode.{numbers_of}
+use Rattle.layout.specs.Decode.{numbers_of, pointer_blocks}
 use Rattle.layout.specs.declared.geometry.Geometry.{Geometry}
 use Rattle.layout.specs.Parts.{content_in, put, with_bytes}
 use Rattle.model.specs.Node.{Node}
@@ -27,7 +27,8 @@ pub record HasOnce (content : Image) (inode : Inode) (block : ℕ) : Type 0 wher
   pub index : (one other : ℕ) → one < length (numbers_of content inode) → other < length (numbers_of content inode)
       → get_or (numbers_of content inode) one 0 ≡ block → get_or (numbers_of content inode) other 0 ≡ block
       → one ≡ other
-  pub indirect : inode.indirect ≢ block
+  pub pointer : (one : ℕ) → one < length (pointer_blocks content inode)
+      → get_or (pointer_blocks content inode) one 0 ≢ block
 
 -- the file without the name
 abbrev pub without_name : List ℕ → Node → Node

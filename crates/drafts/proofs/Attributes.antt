@@ -13,7 +13,7 @@ use Rattle.layout.specs.declared.inode.Inode.{Inode}
 use Rattle.layout.specs.declared.inode.InodeKind.{InodeKind}
 use Rattle.layout.specs.declared.inode.InodeKind.TheVariants.{Regular, Directory, Link}
 use Rattle.layout.specs.Decode.{IsFile, IsOfKind, bytes_of, file_of, inode_at, named_in, node_with}
-use Rattle.layout.specs.Decode.{numbers_of}
+use Rattle.layout.specs.Decode.{numbers_of, pointer_blocks}
 use Rattle.layout.specs.Decode.{slot_bytes}
 use Rattle.layout.specs.Holds.{Holds, PartsHold}
 use Rattle.layout.specs.InodeForm.{SoundInode, inode_bytes}
@@ -38,17 +38,17 @@ module _ (g : Geometry) (content : Image) (inode looks : Inode) where
   new = attributed inode looks
 
   pub same_blocks : owned_by content (Ok (Some new)) ≡ owned_by content (Ok (Some inode))
-  unfolding numbers_of
+  unfolding numbers_of pointer_blocks
   same_blocks = refl
 
   pub rules : (kind : InodeKind) → IsOfKind g content kind inode → IsOfKind g content kind new
-  unfolding numbers_of bytes_of slot_bytes named_in
+  unfolding numbers_of pointer_blocks bytes_of slot_bytes named_in
   rules Regular is = record {
-    mapped = record { numbers = is.mapped.numbers; used = is.mapped.used };
+    mapped = record { pointers = is.mapped.pointers; numbers = is.mapped.numbers; used = is.mapped.used };
     zeros = is.zeros;
   }
   rules Directory is = record {
-    mapped = record { numbers = is.mapped.numbers; used = is.mapped.used };
+    mapped = record { pointers = is.mapped.pointers; numbers = is.mapped.numbers; used = is.mapped.used };
     spans = is.spans;
     slots = is.slots;
     once = is.once;

@@ -4,4 +4,10 @@ use Rattle.layout.specs.declared.inode.Inode.{Inode}
 -- the inode with the attributes of another
 abbrev pub attributed : Inode → Inode → Inode
 attributed inode looks =
-    record looks { kind = inode.kind; size = inode.size; direct = inode.direct; indirect = inode.indirect }
+    record looks {
+      kind = inode.kind;
+      size = inode.size;
+      direct = inode.direct;
+      indirect = inode.indirect;
+      double = inode.double;
+    }

@@ -91,4 +91,4 @@ fresh_block draft number = fresh number 0 BLOCK_BYTES draft
 
 -- with the blocks of the bitmaps these are no more blocks than a transaction changes
 abbrev pub MOST_SPENT : ℕ
-MOST_SPENT = 40
+MOST_SPENT = 80

@@ -26,6 +26,7 @@ pub fn attributed(inode: &Inode, looks: &Inode) -> Inode
     let direct = inode.direct;
     new.direct = direct;
     new.indirect = inode.indirect;
+    new.double = inode.double;
     new
 }
 

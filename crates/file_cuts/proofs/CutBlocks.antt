@@ -22,7 +22,8 @@ use Rattle.bitmap.specs.Bits.{AreOfBytes}
 use Rattle.file_writes.proofs.ImageWritten.{AreBlocks, block_parts, blocks_kept, inode_kept, inode_parts}
 use Rattle.inode_writes.specs.Frees.{Frees, without}
 use Rattle.file_cuts.specs.Cut.{with_numbers, with_zeros, zeroed}
-use Rattle.file_cuts.specs.CutBlocks.{HasNumbers, HasZeros, IsCut}
+use Rattle.file_cuts.specs.CutBlocks.{HasNumbers, HasPointers, HasZeros, IsCut, with_pointers}
+use Rattle.file_cuts.specs.declared.cutting.CutPointers.{CutPointers}
 
 -- ---- bytes
 
@@ -141,12 +142,29 @@ module _ (g : Geometry) (number : ℕ) (image new : Image) (bytes : List ℕ) (s
 
 -- ---- all of them
 
-pub all_cut : (g : Geometry) (n : ℕ) (inode : Inode) (last from : ℕ) (far gone : List ℕ)
+pub all_pointers : (g : Geometry) (cut : CutPointers) (first second third final : Image)
+    → HasNumbers g cut.far.pointer cut.far.numbers.items first second
+    → HasNumbers g cut.double.inners.part cut.double.inners.part_numbers.items second third
+    → HasNumbers g cut.double.pointer cut.double.inners.numbers.items third final
+    → HasPointers g cut first final
+all_pointers g cut first second third final far part double = record {
+  bytes = λ old. double.bytes (part.bytes (far.bytes old));
+  parts = double.parts
+      ∙ (λ i. record (part.parts i) {
+        content = with_numbers (part.parts i).content cut.double.pointer cut.double.inners.numbers.items;
+      })
+      ∙ (λ i. record (far.parts i) {
+        content = with_numbers (with_numbers (far.parts i).content cut.double.inners.part
+            cut.double.inners.part_numbers.items) cut.double.pointer cut.double.inners.numbers.items;
+      });
+}
+
+pub all_cut : (g : Geometry) (n : ℕ) (inode : Inode) (last from : ℕ) (cut : CutPointers)
     (first second third fourth final : Image) → n < g.inodes → SoundInode g inode → AreOfBytes g first
-    → HasZeros g last from first second → HasNumbers g inode.indirect far second third
-    → Frees g gone third fourth → ((q : ℕ) → q < g.blocks → length (fourth q) ≡ BLOCK_BYTES)
-    → final ≡ with_inode g fourth n inode → IsCut g n inode last from far gone first final
-all_cut g n inode last from far gone first second third fourth final less sound old zeros numbers frees long is =
+    → HasZeros g last from first second → HasPointers g cut second third
+    → Frees g cut.gone.items third fourth → ((q : ℕ) → q < g.blocks → length (fourth q) ≡ BLOCK_BYTES)
+    → final ≡ with_inode g fourth n inode → IsCut g n inode last from cut first final
+all_cut g n inode last from cut first second third fourth final less sound old zeros pointers frees long is =
     record {
       bytes = λ still q low. subst (λ (image : Image). AreBytes (image q)) (sym is)
           (inode_kept g fourth n inode are less sound q low).1;
@@ -155,16 +173,16 @@ all_cut g n inode last from far gone first second third fourth final less sound 
     }
   where
     are : AreBlocks g fourth
-    are q low = (long q low, frees.bytes (numbers.bytes (zeros.bytes old)) q low)
+    are q low = (long q low, frees.bytes (pointers.bytes (zeros.bytes old)) q low)
 
     before : parts_of g fourth ≡ record (parts_of g first) {
-      content = with_numbers (with_zeros (content_in g first) last from) inode.indirect far;
-      block_bits = without gone (parts_of g first).block_bits;
+      content = with_pointers (with_zeros (content_in g first) last from) cut;
+      block_bits = without cut.gone.items (parts_of g first).block_bits;
     }
     before =
         frees.parts
-        ∙ (λ i. record (numbers.parts i) { block_bits = without gone (numbers.parts i).block_bits })
+        ∙ (λ i. record (pointers.parts i) { block_bits = without cut.gone.items (pointers.parts i).block_bits })
         ∙ (λ i. record (zeros.parts i) {
-          content = with_numbers (zeros.parts i).content inode.indirect far;
-          block_bits = without gone (zeros.parts i).block_bits;
+          content = with_pointers (zeros.parts i).content cut;
+          block_bits = without cut.gone.items (zeros.parts i).block_bits;
         })

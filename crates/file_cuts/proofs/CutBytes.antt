@@ -6,13 +6,7 @@ use Rattle.std.proofs.lemmas.List.{take-append-le}
 use Rattle.std.proofs.Math.Seq.{take-append-add}
 use Rattle.limits.specs.declared.TheConstants.{BLOCK_BYTES}
 use Rattle.file_cuts.specs.Cut.{first_of, zeroed}
-
-pub more_zeros : (a b : ℕ) → replicate {A = ℕ} a 0 ++ replicate b 0 ≡ replicate (a + b) 0
-more_zeros zero b = ap (λ k. replicate {A = ℕ} k 0) (omega arith)
-more_zeros (suc a) b = ap (λ l. 0 ∷ l) (more_zeros a b) ∙ ap (λ k. replicate {A = ℕ} k 0) there
-  where
-    there : suc (a + b) ≡ suc a + b
-    there = omega arith
+use Rattle.file_cuts.proofs.FirstOnes.{more_zeros}
 
 module _ (f h : ℕ → List ℕ) (none : h 0 ≡ replicate BLOCK_BYTES 0)
     (long : (n : ℕ) → length (f n) ≡ BLOCK_BYTES) where

@@ -1,87 +1,43 @@
 -- A regular file of which the end was cut off, in its blocks.
-use Rattle.std.proofs.Common.{◌≡◌, ℕ, zero, suc, ◌+◌, ◌-◌, ◌*◌, ◌<◌, ◌≤◌, ◌^◌, inl, inr, sym, ap, ◌∙◌, refl, subst}
-use Rattle.std.proofs.Common.{Bool, true, false, cond, not, ◌&&◌, ◌||◌, List, [], ◌∷◌, ◌++◌, length, take, drop, get_or}
-use Rattle.std.proofs.Common.{replicate, nat_eq, nat_le, nat_lt, filter, count_by, append-nil, Some, Ok, Err, arith}
+use Rattle.std.proofs.Common.{◌≡◌, ℕ, zero, suc, ◌+◌, ◌-◌, ◌*◌, ◌<◌, ◌≤◌, inl, inr, sym, ap, ◌∙◌, refl, subst}
+use Rattle.std.proofs.Common.{Bool, true, false, cond, ◌&&◌, List, [], ◌∷◌, ◌++◌, length, take, drop, get_or}
+use Rattle.std.proofs.Common.{replicate, nat_eq, nat_le, nat_lt, append-nil, Some, Ok, arith}
 use Rattle.std.specs.FinSet.{retain}
-use Rattle.std.specs.Int.{w32, from_le_bytes}
-use Rattle.std.specs.List.{AllByRecursion, list_all, list_any}
+use Rattle.std.specs.List.{list_all}
 use Rattle.std.proofs.Math.Seq.{drop-append_seam}
 use Rattle.std.proofs.lemmas.Bool.{cases_lt, eq-eqb, le-leb, lt-ltb}
-use Rattle.std.proofs.lemmas.List.{drop-drop, get_or-drop, length-drop, length-take-le, take-append-drop, take_all}
-use Rattle.std.proofs.lemmas.List.{take-append-le}
-use Rattle.std.proofs.lemmas.Nat.{from_le_bytes-to_le_bytes_4}
-use Rattle.limits.specs.declared.TheConstants.{BLOCK_BYTES, DIRECT_INDEXES, FILE_INDEXES, INDIRECT_INDEXES}
-use Rattle.limits.specs.declared.TheConstants.{LARGEST_FILE}
+use Rattle.std.proofs.lemmas.List.{length-take-le, take_all, take-append-le}
+use Rattle.limits.specs.declared.TheConstants.{BLOCK_BYTES, DIRECT_INDEXES, FILE_INDEXES, LARGEST_FILE}
 use Rattle.disk.specs.Crash.{Image}
-use Rattle.model.specs.Cost.{cost, file_cost}
+use Rattle.model.specs.Cost.{cost}
 use Rattle.model.specs.Node as model
 use Rattle.model.specs.SetAttr.{mapped_of_size, resized, with_length}
 use Rattle.model.specs.Tree.{Tree}
-use Rattle.layout.specs.declared.fault.LayoutFault.TheVariants.{Range}
 use Rattle.layout.specs.declared.geometry.Geometry.{Geometry}
 use Rattle.layout.specs.declared.inode.Inode.{Inode}
-use Rattle.layout.specs.Decode.{IsOfKind, IsRegular, body_of, bytes_of, content_of, inode_at, mapped_of, numbers_of}
-use Rattle.layout.specs.Decode.{numbers_in, regular_in}
-use Rattle.layout.specs.Fields.{four_at, four_bytes, is_zeros, number_bytes, numbers_at}
+use Rattle.layout.specs.Decode.{IsMapped, IsOfKind, IsRegular, body_of, bytes_of, content_of, mapped_of, numbers_of}
+use Rattle.layout.specs.Decode.{regular_in}
+use Rattle.layout.specs.Fields.{is_zeros}
 use Rattle.layout.specs.InodeForm.{SoundInode, is_data_block_or_none, is_sound_file, is_sound_inode, is_sound_kind}
 use Rattle.layout.specs.InodeForm.{is_sound_map, is_sound_regular}
 use Rattle.layout.specs.Owners.{owned_by}
-use Rattle.layout.specs.Parts.{content_in, parts_of, put}
-use Rattle.layout.specs.Places.{is_data}
-use Rattle.layout.proofs.Mapped.{regular-cost}
-use Rattle.layout.proofs.NumbersIn.{in_length, none_at, none_in, some_in}
-use Rattle.layout.proofs.OnGrid.{data_within}
-use Rattle.layout.proofs.Written.{not_same}
-use Rattle.inode.proofs.AllTests.{all_three, all_two, same_number}
-use Rattle.inode.proofs.Placed.{behind}
-use Rattle.bitmap.proofs.Gained.{own_part}
+use Rattle.layout.specs.Parts.{content_in}
+use Rattle.layout.proofs.Used.{regular_held}
+use Rattle.inode.proofs.AllTests.{all_three, all_two}
 use Rattle.drafts.specs.Attributes.{attributed}
-use Rattle.drafts.proofs.Marks.{times}
-use Rattle.file_writes.specs.Filling.{HasRegular}
-use Rattle.file_writes.proofs.Cases.{at_least_once, front_once, front_twice, no_fewer, twice}
-use Rattle.file_writes.proofs.PieceWritten as whole
-use Rattle.file_cuts.specs.Cut.{count_before, cut_content, far_of, first_of, gone_of, is_far, is_some, last_of}
-use Rattle.file_cuts.specs.Cut.{left_in, numbered, with_zeros, zeroed}
-use Rattle.file_cuts.proofs.CutBytes.{cut_bytes, more_zeros}
-use Rattle.file_cuts.proofs.CutNumbers.{all_dropped, all_stay, all_taken, are_zeros, before, in_front, none_some}
-use Rattle.file_cuts.proofs.CutNumbers.{parted, past, same_length, still_mapped}
-
--- ---- numbers that were written are read
-
-abbrev AreSmall : List ℕ → Type 0
-AreSmall list = AllByRecursion (λ number. number < 2 ^ 32) list
-
-first_back : (n : ℕ) (list bytes : List ℕ) (from : ℕ) → n < 2 ^ 32 → drop from bytes ≡ number_bytes (n ∷ list)
-    → four_at from bytes ≡ n
-unfolding four_at four_bytes
-first_back n list bytes from small is = ap (from_le_bytes w32) is ∙ from_le_bytes-to_le_bytes_4 n small
-
-others_back : (n : ℕ) (list bytes : List ℕ) (from : ℕ) → drop from bytes ≡ number_bytes (n ∷ list)
-    → drop (from + 4) bytes ≡ number_bytes list
-unfolding four_bytes
-others_back n list bytes from is = sym (drop-drop 4 from bytes) ∙ ap (drop 4) is
-
-written_back : (list bytes : List ℕ) (from : ℕ) → AreSmall list → drop from bytes ≡ number_bytes list
-    → numbers_at (length list) from bytes ≡ list
-unfolding numbers_at
-written_back [] bytes from small is = refl
-written_back (n ∷ list) bytes from small is =
-    λ i. first_back n list bytes from small.0 is i
-    ∷ written_back list bytes (from + 4) small.1 (others_back n list bytes from is) i
-
--- ---- what is placed is small
-
-module _ (g : Geometry) where
-  small_one : (none : Bool) (b : ℕ) → nat_eq b 0 ≡ none → (none || is_data g b) ≡ true → b < 2 ^ 32
-  small_one true b none is = let same = same_number b 0 none in omega (arith, same)
-  small_one false b some is =
-      let low = (data_within g b is).1 in let most = g.lawful.0.1 in omega (arith, low, most)
-
-  pub small_all : (xs : List ℕ) → list_all (is_data_block_or_none g) xs ≡ true → AreSmall xs
-  small_all [] all = tt
-  small_all (x ∷ xs) all =
-      let both = all_two (is_data_block_or_none g x) (list_all (is_data_block_or_none g) xs) all in
-      (small_one (nat_eq x 0) x refl both.0, small_all xs both.1)
+use Rattle.file_writes.proofs.Owned.{numbers_apart, own_number}
+use Rattle.file_cuts.specs.Cut.{count_before, first_of, last_of, left_in, with_zeros, zeroed}
+use Rattle.file_cuts.specs.CutBlocks.{IsCutOf}
+use Rattle.file_cuts.specs.declared.cutting.CutPointers.{CutPointers}
+use Rattle.file_cuts.proofs.CutBytes.{cut_bytes}
+use Rattle.file_cuts.proofs.CutContent as cuts
+use Rattle.file_cuts.proofs.CutNumbers.{all_stay, before, past, still_mapped}
+use Rattle.file_cuts.proofs.CutOwned as owned
+use Rattle.file_cuts.proofs.FirstOnes.{more_zeros}
+use Rattle.file_cuts.proofs.InnersCut.{how_often}
+use Rattle.file_cuts.proofs.ReadBack.{small_all, small_one, zeros_else, zeros_here}
+use Rattle.file_cuts.proofs.RegularThere as file
+use Rattle.file_cuts.proofs.RegularThere.{IsRegularThere}
 
 zeros_taken : (s m : ℕ) → s ≤ m → take s (replicate {A = ℕ} m 0) ≡ replicate s 0
 zeros_taken zero m low = refl
@@ -99,7 +55,8 @@ are_zero zero = refl
 are_zero (suc n) = are_zero n
 
 module _ (g : Geometry) (image : Image) (tree : Tree) (n : ℕ) (inode : Inode) (size : ℕ)
-    (has : HasRegular g image tree n inode) (less : size < inode.size) where
+    (has : IsRegularThere g image tree n inode) (less : size < inode.size) (cut : CutPointers)
+    (is : IsCutOf (content_in g image) inode (count_before size) cut) where
   abbrev pub content : Image
   content = content_in g image
 
@@ -112,12 +69,6 @@ module _ (g : Geometry) (image : Image) (tree : Tree) (n : ℕ) (inode : Inode) 
   abbrev pub kept : List ℕ
   kept = first_of k numbers
 
-  abbrev pub after : Image
-  after = cut_content content inode size numbers
-
-  abbrev pub far : ℕ
-  far = far_of inode kept
-
   abbrev pub last : ℕ
   last = last_of k numbers
 
@@ -125,27 +76,22 @@ module _ (g : Geometry) (image : Image) (tree : Tree) (n : ℕ) (inode : Inode) 
   zs = with_zeros content last (left_in size)
 
   count : length numbers ≡ FILE_INDEXES
-  count = whole.count g image tree n inode has
+  count = file.count g image tree n inode has
 
   pub low : k ≤ length numbers
   low =
-      let many = count in let most = whole.size_fits g image tree n inode has in
+      let many = count in let most = file.size_fits g image tree n inode has in
       omega (arith, many, most, less)
 
-  few : (b : ℕ) → times b (owned_by content (Ok (Some inode))) ≤ 1
-  few b =
-      let part = own_part g (parts_of g image) n b has.less in
-      let once = has.holds.parts.marked.once b in
-      let its = ap (λ r. times b (owned_by content r))
-      (ap (λ t. cond t (inode_at g image n) (Err Range)) (lt-ltb n g.inodes has.less) ∙ has.read) in
-      omega (arith, part, once, its)
+  pub at_low : k - 1 < length numbers
+  at_low = let few = low in let many = count in omega (arith, few, many)
 
   -- ---- the last that stays
 
   last_is : (j : ℕ) → suc j ≡ k → last ≡ get_or numbers j 0
-  last_is j is =
-      let there : k - 1 ≡ j = omega (arith, is) in
-      ap (λ q. get_or kept q 0) there ∙ before numbers k low j (omega (arith, is))
+  last_is j same =
+      let there : k - 1 ≡ j = omega (arith, same) in
+      ap (λ q. get_or kept q 0) there ∙ before numbers k low j (omega (arith, same))
 
   some_last : nat_eq last 0 ≡ false → 0 < k
   some_last some = elim (cases_lt 0 k) [
@@ -155,99 +101,70 @@ module _ (g : Geometry) (image : Image) (tree : Tree) (n : ℕ) (inode : Inode) 
         let clash : true ≡ false = sym (eq-eqb last 0 zero_is) ∙ some in cc
   ]
 
+  pub last_there : nat_eq last 0 ≡ false → get_or numbers (k - 1) 0 ≡ last
+  last_there some =
+      let more = some_last some in
+      sym (last_is (k - 1) (omega (arith, more)))
+
+  abbrev pub after : Image
+  after = cuts.after g image tree n inode has k cut is last (left_in size) (k - 1) at_low last_there
+
   -- ---- the blocks
 
-  far_is : nat_eq far 0 ≡ false → far ≡ inode.indirect
-  far_is some = by_test (is_far kept) some
-    where
-      by_test : (t : Bool) → nat_eq (cond t inode.indirect 0) 0 ≡ false → cond t inode.indirect 0 ≡ inode.indirect
-      by_test true e = refl
-      by_test false e = cc
-
-  no_far : (b : ℕ) → (nat_eq far 0 ≡ false → b ≡ far → ⊥) → after b ≡ zs b
-  no_far b not = by_test (nat_eq far 0) refl
-    where
-      by_test : (t : Bool) → nat_eq far 0 ≡ t
-          → cond t zs (put zs far (number_bytes (drop DIRECT_INDEXES kept))) b ≡ zs b
-      by_test true e = refl
-      by_test false e =
-          ap (λ t. cond t (number_bytes (drop DIRECT_INDEXES kept)) (zs b)) (not_same b far (not e))
-
-  no_last : (b : ℕ) → (nat_eq last 0 ≡ false → b ≡ last → ⊥) → zs b ≡ content b
-  no_last b not = by_test (nat_eq last 0) refl
-    where
-      by_test : (t : Bool) → nat_eq last 0 ≡ t
-          → cond t content (put content last (zeroed (left_in size) (content last))) b ≡ content b
-      by_test true e = refl
-      by_test false e = ap (λ t. cond t (zeroed (left_in size) (content last)) (content b)) (not_same b last (not e))
-
-  at_last : nat_eq last 0 ≡ false → zs last ≡ zeroed (left_in size) (content last)
-  at_last some =
-      ap (λ t. cond t content (put content last (zeroed (left_in size) (content last))) last) some
-      ∙ ap (λ t. cond t (zeroed (left_in size) (content last)) (content last)) (eq-eqb last last refl)
-
-  at_far : nat_eq far 0 ≡ false → after far ≡ number_bytes (drop DIRECT_INDEXES kept)
-  at_far some =
-      ap (λ t. cond t zs (put zs far (number_bytes (drop DIRECT_INDEXES kept))) far) some
-      ∙ ap (λ t. cond t (number_bytes (drop DIRECT_INDEXES kept)) (zs far)) (eq-eqb far far refl)
-
   -- what it hasn't is as it was
-  pub outside : (b : ℕ) → times b (owned_by content (Ok (Some inode))) ≡ 0 → after b ≡ content b
-  outside b none = no_far b not_far ∙ no_last b not_last
+  pub outside : (b : ℕ) → how_often b (owned_by content (Ok (Some inode))) ≡ 0 → after b ≡ content b
+  outside b none =
+      cuts.unwritten g image tree n inode has k cut is last (left_in size) (k - 1) at_low last_there b
+      (λ some same. not_own b cut.far.pointer none same
+      (cuts.far_own g image tree n inode has k cut is some))
+      (λ some same. not_own b cut.double.inners.part none same
+      (cuts.part_own g image tree n inode has k cut is some))
+      (λ some same. not_own b cut.double.pointer none same
+      (cuts.double_own g image tree n inode has k cut is some))
+      ∙ zeros_else content last (left_in size) b
+      (λ some same. not_own b last none same
+      (let there = last_there some in
+      subst (λ q. 1 ≤ how_often q (owned_by content (Ok (Some inode)))) there
+      (own_number g image tree n inode (file.mapped g image tree n inode has) (k - 1) at_low
+      (ap (λ q. nat_eq q 0) there ∙ some))))
     where
-      not_far : nat_eq far 0 ≡ false → b ≡ far → ⊥
-      not_far some is =
-          let same = far_is some in
-          let one = front_once inode.indirect numbers (ap not (ap (λ x. nat_eq x 0) (sym same) ∙ some)) in
-          let there = ap (λ x. times x (owned_by content (Ok (Some inode)))) (is ∙ same) in
-          omega (arith, none, one, there)
-
-      not_last : nat_eq last 0 ≡ false → b ≡ last → ⊥
-      not_last some is =
-          let more = some_last some in
-          let many = low in
-          let at : get_or numbers (k - 1) 0 ≡ last = sym (last_is (k - 1) (omega (arith, more))) in
-          let one = at_least_once last numbers (k - 1) (omega (arith, more, many)) at (ap not some) in
-          let all = no_fewer last inode.indirect numbers in
-          let there = ap (λ x. times x (owned_by content (Ok (Some inode)))) is in
-          omega (arith, none, one, all, there)
+      not_own : (b q : ℕ) → how_often b (owned_by content (Ok (Some inode))) ≡ 0 → b ≡ q
+          → 1 ≤ how_often q (owned_by content (Ok (Some inode))) → ⊥
+      not_own b q none same some =
+          let there = ap (λ x. how_often x (owned_by content (Ok (Some inode)))) same in
+          absurd (omega (arith, none, there, some))
 
   module _ (j : ℕ) (inside : suc j ≤ k) (some : nat_eq (get_or numbers j 0) 0 ≡ false) where
     abbrev one : ℕ
     one = get_or numbers j 0
 
-    no_indirect : nat_eq far 0 ≡ false → one ≡ far → ⊥
-    no_indirect some_far is =
-        let same = far_is some_far in
-        let many = low in
-        let two = front_twice inode.indirect numbers j (omega (arith, inside, many)) (is ∙ same)
-        (ap not (ap (λ x. nat_eq x 0) (sym same) ∙ some_far)) in
-        let most = few inode.indirect in
-        omega (arith, two, most)
+    j_low : j < length numbers
+    j_low = let few = low in omega (arith, few, inside)
+
+    not_pointers : after one ≡ zs one
+    not_pointers =
+        cuts.number_unwritten g image tree n inode has k cut is last (left_in size) (k - 1) at_low last_there j
+        j_low some
 
     other_last : suc j < k → nat_eq last 0 ≡ false → one ≡ last → ⊥
-    other_last ahead some_of is =
-        let many = low in
-        let at : get_or numbers (k - 1) 0 ≡ one = sym (is ∙ last_is (k - 1) (omega (arith, ahead))) in
-        let two = twice one numbers j (k - 1) (λ e. omega (arith, e, ahead)) (omega (arith, inside, many))
-        (omega (arith, ahead, many)) refl at (ap not some) in
-        let all = no_fewer one inode.indirect numbers in
-        let most = few one in
-        omega (arith, two, all, most)
+    other_last ahead some_of same =
+        numbers_apart g image tree n inode (file.mapped g image tree n inode has) j (k - 1)
+        (λ e. omega (arith, e, ahead)) j_low at_low (same ∙ sym (last_there some_of))
+        (ap (λ q. nat_eq q 0) (last_there some_of) ∙ some_of)
 
     same_block : suc j < k → after one ≡ content one
-    same_block ahead = no_far one no_indirect ∙ no_last one (other_last ahead)
+    same_block ahead = not_pointers ∙ zeros_else content last (left_in size) one (other_last ahead)
 
     last_block : suc j ≡ k → after one ≡ zeroed (size - BLOCK_BYTES * j) (content one)
-    last_block is =
-        let same = last_is j is in
-        let left : left_in size ≡ size - BLOCK_BYTES * j = ap (λ q. size - BLOCK_BYTES * q) (count_is is) in
-        no_far one no_indirect ∙ ap zs (sym same)
-        ∙ at_last (ap (λ x. nat_eq x 0) same ∙ some)
+    last_block ends =
+        let same = last_is j ends in
+        let left : left_in size ≡ size - BLOCK_BYTES * j = ap (λ q. size - BLOCK_BYTES * q) (count_is ends) in
+        not_pointers ∙ ap zs (sym same)
+        ∙ zeros_here content last (left_in size) (ap (λ x. nat_eq x 0) same ∙ some)
         ∙ (λ i. zeroed (left i) (content (same i)))
       where
         count_is : suc j ≡ k → k - 1 ≡ j
-        count_is is = omega (arith, is)
+        count_is ends = omega (arith, ends)
 
   others : (j : ℕ) → suc j < k
       → content_of after (get_or numbers j 0) ≡ content_of content (get_or numbers j 0)
@@ -261,20 +178,20 @@ module _ (g : Geometry) (image : Image) (tree : Tree) (n : ℕ) (inode : Inode) 
 
   at_end : (j : ℕ) → suc j ≡ k → content_of after (get_or numbers j 0)
       ≡ zeroed (size - BLOCK_BYTES * j) (content_of content (get_or numbers j 0))
-  at_end j is = by_test (nat_eq (get_or numbers j 0) 0) refl
+  at_end j ends = by_test (nat_eq (get_or numbers j 0) 0) refl
     where
       by_test : (t : Bool) → nat_eq (get_or numbers j 0) 0 ≡ t
           → cond t (replicate BLOCK_BYTES 0) (after (get_or numbers j 0))
           ≡ zeroed (size - BLOCK_BYTES * j) (cond t (replicate BLOCK_BYTES 0) (content (get_or numbers j 0)))
-      by_test true e = zeroed_zeros (size - BLOCK_BYTES * j) (omega (arith, is))
-      by_test false e = last_block j (omega (arith, is)) e is
+      by_test true e = zeroed_zeros (size - BLOCK_BYTES * j) (omega (arith, ends))
+      by_test false e = last_block j (omega (arith, ends)) e ends
 
   one_long : (q : ℕ) → length (content_of content q) ≡ BLOCK_BYTES
   one_long q = by_test (nat_eq q 0)
     where
       by_test : (none : Bool) → length (cond none (replicate BLOCK_BYTES 0) (content q)) ≡ BLOCK_BYTES
       by_test true = refl
-      by_test false = whole.long_content g image tree n inode has q
+      by_test false = file.long_content g image tree n inode has q
 
   abbrev all : List ℕ
   all = bytes_of content numbers
@@ -287,142 +204,76 @@ module _ (g : Geometry) (image : Image) (tree : Tree) (n : ℕ) (inode : Inode) 
   -- ---- its numbers
 
   placed : list_all (is_data_block_or_none g) kept ≡ true
-  placed = all_stay (is_data_block_or_none g) k numbers (whole.rules g image tree n inode has).mapped.numbers refl
-
-  far_count : length (drop DIRECT_INDEXES kept) ≡ INDIRECT_INDEXES
-  far_count =
-      let left = length-drop DIRECT_INDEXES kept in
-      let same = same_length numbers k low in
-      let many = count in omega (arith, left, same, many)
-
-  no_far_numbers : nat_eq inode.indirect 0 ≡ true → (q : ℕ) → get_or numbers (DIRECT_INDEXES + q) 0 ≡ 0
-  unfolding numbers_of
-  no_far_numbers none q =
-      let eight = (whole.sound g image tree n inode has).fits.count in
-      behind inode.direct (numbers_in content inode.indirect) (DIRECT_INDEXES + q) (omega (arith, eight))
-      ∙ none_at content inode.indirect none (DIRECT_INDEXES + q - length inode.direct)
-
-  none_behind : nat_eq far 0 ≡ true → (q : ℕ) → get_or (drop DIRECT_INDEXES kept) q 0 ≡ 0
-  none_behind none q = by_test (is_far kept) refl none
-    where
-      by_test : (t : Bool) → is_far kept ≡ t → nat_eq (cond t inode.indirect 0) 0 ≡ true
-          → get_or (drop DIRECT_INDEXES kept) q 0 ≡ 0
-      by_test true is e =
-          get_or-drop DIRECT_INDEXES kept q 0
-          ∙ (elim (cases_lt (DIRECT_INDEXES + q) k) [
-            | inl ahead ↦ before numbers k low (DIRECT_INDEXES + q) ahead ∙ no_far_numbers e q
-            | inr behind ↦ past numbers k low (DIRECT_INDEXES + q) behind
-          ])
-      by_test false is e = none_some (drop DIRECT_INDEXES kept) is q
-
-  far_read : (t : Bool) → nat_eq far 0 ≡ t → numbers_in after far ≡ drop DIRECT_INDEXES kept
-  far_read true e =
-      none_in after far e
-      ∙ ap (λ m. replicate {A = ℕ} m 0) (in_length after far ∙ sym far_count)
-      ∙ sym (are_zeros (drop DIRECT_INDEXES kept) (λ q inside. none_behind e q))
-  far_read false e =
-      some_in after far e
-      ∙ ap (numbers_at INDIRECT_INDEXES 0) (at_far e)
-      ∙ ap (λ m. numbers_at m 0 (number_bytes (drop DIRECT_INDEXES kept))) (sym far_count)
-      ∙ written_back (drop DIRECT_INDEXES kept) (number_bytes (drop DIRECT_INDEXES kept)) 0
-      (small_all g (drop DIRECT_INDEXES kept)
-      (all_dropped (is_data_block_or_none g) DIRECT_INDEXES kept placed)) refl
+  placed = all_stay (is_data_block_or_none g) k numbers (file.rules g image tree n inode has).mapped.numbers refl
 
   module _ (looks : Inode) where
     abbrev pub shown : Inode
     shown = attributed inode looks
 
     abbrev pub new : Inode
-    new = numbered shown size kept
+    new = cuts.new g image tree n inode has k cut is last (left_in size) (k - 1) at_low last_there shown size
 
     pub numbers_now : numbers_of after new ≡ kept
-    unfolding numbers_of
-    numbers_now = ap (λ l. take DIRECT_INDEXES kept ++ l) (far_read (nat_eq far 0) refl)
-        ∙ take-append-drop DIRECT_INDEXES kept
+    numbers_now =
+        cuts.numbers_now g image tree n inode has k cut is last (left_in size) (k - 1) at_low last_there shown size
 
-    -- ---- what it owns
-
-    pub fewer : (b : ℕ) → times b (owned_by after (Ok (Some new))) + times b (gone_of inode k numbers)
-        ≡ times b (owned_by content (Ok (Some inode)))
-    fewer b =
-        let now = ap (λ l. times b (filter is_some (far ∷ l))) numbers_now in
-        let one = in_front b far kept in
-        let two = in_front b (cond (is_far kept) 0 inode.indirect) (drop k numbers) in
-        let three = in_front b inode.indirect numbers in
-        let parts = parted b k numbers in
-        let first = either (is_far kept) in
-        omega (arith, now, one, two, three, parts, first)
-      where
-        either : (t : Bool) → times b (filter is_some (cond t inode.indirect 0 ∷ []))
-            + times b (filter is_some (cond t 0 inode.indirect ∷ []))
-            ≡ times b (filter is_some (inode.indirect ∷ []))
-        either true = omega arith
-        either false = omega arith
+    pub fewer : (b : ℕ) → how_often b (owned_by after (Ok (Some new))) + how_often b cut.gone.items
+        ≡ how_often b (owned_by content (Ok (Some inode)))
+    fewer = owned.fewer g image tree n inode has k cut is last (left_in size) (k - 1) at_low last_there shown size
 
     -- ---- its rules
 
-    eight : length (take DIRECT_INDEXES kept) ≡ DIRECT_INDEXES
-    eight = length-take-le DIRECT_INDEXES kept
-        (let same = same_length numbers k low in let many = count in omega (arith, same, many))
+    eight : length cut.near.numbers.items ≡ DIRECT_INDEXES
+    eight = cuts.near_long g image tree n inode has k cut is
 
     abbrev whole_size : ℕ
     whole_size = BLOCK_BYTES * length numbers
 
     pub all_long : length all ≡ LARGEST_FILE
-    all_long = whole.bytes_count g image tree n inode has
+    all_long = file.bytes_count g image tree n inode has
 
     cut_long : length (take size all) ≡ size
     cut_long = length-take-le size all
-        (let every = all_long in let most = whole.size_fits g image tree n inode has in
+        (let every = all_long in let most = file.size_fits g image tree n inode has in
         omega (arith, every, most, less))
 
     bytes_are : bytes_of after (numbers_of after new) ≡ take size all ++ replicate (whole_size - size) 0
     bytes_are = ap (bytes_of after) numbers_now ∙ bytes_now
 
+    is_mapped : IsMapped g after new
+    is_mapped = record {
+      pointers = cuts.all_pointers_placed g image tree n inode has k cut is last (left_in size) (k - 1) at_low
+          last_there shown size;
+      numbers = ap (list_all (is_data_block_or_none g)) numbers_now ∙ placed;
+      used = cuts.pointers_used g image tree n inode has k cut is last (left_in size) (k - 1) at_low last_there
+          shown size;
+    }
+
     is_regular : IsRegular g after new
     is_regular = record {
-      mapped = record {
-        numbers = ap (list_all (is_data_block_or_none g)) numbers_now ∙ placed;
-        used = ap (λ l. nat_eq far 0 || list_any is_some (drop (length (take DIRECT_INDEXES kept)) l)) numbers_now
-            ∙ ap (λ m. nat_eq far 0 || list_any is_some (drop m kept)) eight ∙ by_test (is_far kept) refl;
-      };
+      mapped = is_mapped;
       zeros = ap (λ l. is_zeros (drop size l)) bytes_are
           ∙ ap (λ m. is_zeros (drop m (take size all ++ replicate (whole_size - size) 0))) (sym cut_long)
           ∙ ap is_zeros (drop-append_seam (take size all) (replicate (whole_size - size) 0))
           ∙ are_zero (whole_size - size);
     }
-      where
-        or_true : (a : Bool) → (a || true) ≡ true
-        or_true true = refl
-        or_true false = refl
-
-        by_test : (t : Bool) → is_far kept ≡ t → (nat_eq (cond t inode.indirect 0) 0 || is_far kept) ≡ true
-        by_test true is = ap (λ t. nat_eq inode.indirect 0 || t) is ∙ or_true (nat_eq inode.indirect 0)
-        by_test false is = refl
 
     pub rules : IsOfKind g after new.kind new
     rules = subst (λ kind. IsOfKind g after kind new) (sym has.regular) is_regular
 
     -- ---- it is sound
 
-    far_placed : is_data_block_or_none g inode.indirect ≡ true → is_data_block_or_none g far ≡ true
-    far_placed is = by_test (is_far kept)
-      where
-        by_test : (t : Bool) → is_data_block_or_none g (cond t inode.indirect 0) ≡ true
-        by_test true = is
-        by_test false = refl
-
     pub new_sound : SoundInode g shown → SoundInode g new
     unfolding is_sound_inode
     new_sound sound =
         let old = subst (λ kind. is_sound_kind g kind shown ≡ true) has.regular sound.good in
         let three = all_three (is_sound_file shown) (is_sound_map g shown) (is_sound_regular shown) old in
-        let map = all_two (list_all (is_data_block_or_none g) shown.direct)
-        (is_data_block_or_none g shown.indirect) three.1 in
         let two = all_two (nat_le shown.size LARGEST_FILE) (nat_eq shown.parent 0) three.2 in
-        let first = all_taken (is_data_block_or_none g) DIRECT_INDEXES kept placed in
-        let far_is_placed = far_placed map.1 in
-        let most = whole.size_fits g image tree n inode has in
+        let first = cuts.near_placed g image tree n inode has k cut is in
+        let far_is_placed = cuts.far_placed g image tree n inode has k cut is in
+        let double_is_placed = cuts.double_placed g image tree n inode has k cut is in
+        let allowed = cuts.double_allowed g image tree n inode has k cut is in
+        let most = file.size_fits g image tree n inode has in
         record {
           fits = record {
             mode = sound.fits.mode;
@@ -438,11 +289,12 @@ module _ (g : Geometry) (image : Image) (tree : Tree) (n : ℕ) (inode : Inode) 
             parent = sound.fits.parent;
             verifier = sound.fits.verifier;
             count = eight;
-            direct = small_all g (take DIRECT_INDEXES kept) first;
-            indirect = small_one g (nat_eq far 0) far refl far_is_placed;
+            direct = small_all g cut.near.numbers.items first;
+            indirect = small_one g (nat_eq cut.far.pointer 0) cut.far.pointer refl far_is_placed;
+            double = small_one g (nat_eq cut.double.pointer 0) cut.double.pointer refl double_is_placed;
           };
           good = subst (λ kind. is_sound_kind g kind new ≡ true) (sym has.regular)
-              (λ i. three.0 i && (first i && far_is_placed i)
+              (λ i. three.0 i && (first i && far_is_placed i && double_is_placed i && allowed i)
               && (le-leb size LARGEST_FILE (omega (arith, most, less)) i && two.1 i));
         }
 
@@ -457,7 +309,7 @@ module _ (g : Geometry) (image : Image) (tree : Tree) (n : ℕ) (inode : Inode) 
 
     old_long : length (take inode.size all) ≡ inode.size
     old_long = length-take-le inode.size all
-        (let every = all_long in let most = whole.size_fits g image tree n inode has in omega (arith, every, most))
+        (let every = all_long in let most = file.size_fits g image tree n inode has in omega (arith, every, most))
 
     cut_is : take size (bytes_of after (numbers_of after new)) ≡ resized size (take inode.size all)
     cut_is =
@@ -491,7 +343,8 @@ module _ (g : Geometry) (image : Image) (tree : Tree) (n : ℕ) (inode : Inode) 
         ≡ with_length (Some size) (body_of g.inodes content kind shown)) (sym has.regular) cut_body
 
     pub cost_now : cost (with_length (Some size) (body_of g.inodes content shown.kind shown))
-        ≡ count_by is_some kept + cond (is_far kept) 1 0
+        ≡ cut.near.count + cut.far.used + cut.double.used
     cost_now =
         sym (ap cost body_now) ∙ ap (λ kind. cost (body_of g.inodes after kind new)) has.regular
-        ∙ ap (λ l. file_cost (mapped_of l)) numbers_now ∙ regular-cost kept
+        ∙ regular_held g after new eight is_mapped
+        ∙ owned.counted g image tree n inode has k cut is last (left_in size) (k - 1) at_low last_there shown size

@@ -1,24 +1,22 @@
 -- The numbers of a file's blocks of which the first ones stay.
-use Rattle.std.proofs.Common.{◌≡◌, ℕ, zero, suc, ◌+◌, ◌-◌, ◌*◌, ◌<◌, ◌≤◌, inl, inr, sym, ap, ◌∙◌, refl, Bool, true, false}
-use Rattle.std.proofs.Common.{cond, not, ◌&&◌, ◌||◌, List, [], ◌∷◌, ◌++◌, length, take, drop, get_or, replicate, nat_eq, nat_lt}
-use Rattle.std.proofs.Common.{filter, length-append, arith}
+use Rattle.std.proofs.Common.{◌≡◌, ℕ, zero, suc, ◌-◌, ◌*◌, ◌<◌, ◌≤◌, inl, inr, sym, ap, ◌∙◌, refl, Bool, true, false}
+use Rattle.std.proofs.Common.{not, ◌&&◌, ◌||◌, List, [], ◌∷◌, ◌++◌, length, take, get_or, replicate, nat_eq, nat_lt}
+use Rattle.std.proofs.Common.{arith}
 use Rattle.std.specs.Cmp.{nat_cmp_total}
 use Rattle.std.specs.FinMap.{nat_cmp-IsAntisymmetric}
 use Rattle.std.specs.FinSet.{contains, contains-retain, retain, same_set}
 use Rattle.std.specs.List.{list_all, list_any}
 use Rattle.std.proofs.lemmas.Bool.{cases_lt, lt-ltb}
 use Rattle.std.proofs.lemmas.List.{ext_get_or, get_or-take}
-use Rattle.std.proofs.lemmas.List.{length-replicate, length-take-le, take-append-drop}
-use Rattle.std.proofs.lemmas.List.Elements.{filter-append}
-use Rattle.std.proofs.lemmas.List.Sums.{sum_by-append}
+use Rattle.std.proofs.lemmas.List.{length-replicate, length-take-le}
 use Rattle.limits.specs.declared.TheConstants.{BLOCK_BYTES}
 use Rattle.layout.specs.Decode.{mapped_of}
 use Rattle.layout.proofs.FreshFiles.{not_below}
 use Rattle.inode.proofs.AllTests.{all_two, same_number}
 use Rattle.inode.proofs.Placed.{behind, early}
-use Rattle.drafts.proofs.Marks.{times}
 use Rattle.file_writes.proofs.OneNumber.{is_mapped, none_mapped}
 use Rattle.file_cuts.specs.Cut.{count_before, first_of, is_some}
+use Rattle.file_cuts.proofs.FirstOnes.{first-length}
 
 zero_at : (m j : ℕ) → ◌≡◌ {A = ℕ} (get_or (replicate m 0) j 0) 0
 zero_at zero j = refl
@@ -30,14 +28,6 @@ zero_at (suc m) (suc j) = zero_at m j
 module _ (numbers : List ℕ) (k : ℕ) (low : k ≤ length numbers) where
   taken : length (take k numbers) ≡ k
   taken = length-take-le k numbers low
-
-  pub same_length : length (first_of k numbers) ≡ length numbers
-  same_length =
-      let both = length-append (take k numbers) (replicate {A = ℕ} (length numbers - k) 0) in
-      let first = taken in
-      let rest : length (replicate {A = ℕ} (length numbers - k) 0) ≡ length numbers - k =
-      length-replicate {A = ℕ} (length numbers - k) 0 in
-      omega (arith, both, first, rest, low)
 
   pub before : (q : ℕ) → q < k → get_or (first_of k numbers) q 0 ≡ get_or numbers q 0
   before q less =
@@ -75,37 +65,6 @@ all_padded p k m numbers all is =
 pub all_stay : (p : ℕ → Bool) (k : ℕ) (numbers : List ℕ) → list_all p numbers ≡ true → p 0 ≡ true
     → list_all p (first_of k numbers) ≡ true
 all_stay p k numbers all is = all_padded p k (length numbers - k) numbers all is
-
-pub all_dropped : (p : ℕ → Bool) (k : ℕ) (xs : List ℕ) → list_all p xs ≡ true → list_all p (drop k xs) ≡ true
-all_dropped p zero xs all = all
-all_dropped p (suc k) [] all = refl
-all_dropped p (suc k) (x ∷ xs) all = all_dropped p k xs (all_two (p x) (list_all p xs) all).1
-
--- ---- how often a block is among them
-
-abbrev some : List ℕ → List ℕ
-some numbers = filter is_some numbers
-
-no_zeros : (n : ℕ) → some (replicate n 0) ≡ []
-no_zeros zero = refl
-no_zeros (suc n) = no_zeros n
-
-times_both : (b : ℕ) (xs ys : List ℕ) → times b (some (xs ++ ys)) ≡ times b (some xs) + times b (some ys)
-times_both b xs ys =
-    ap (times b) (filter-append is_some xs ys)
-    ∙ sum_by-append (λ one. cond (nat_eq one b) 1 0) (some xs) (some ys)
-
-pub parted : (b k : ℕ) (numbers : List ℕ)
-    → times b (some (first_of k numbers)) + times b (some (drop k numbers)) ≡ times b (some numbers)
-parted b k numbers =
-    let kept = times_both b (take k numbers) (replicate (length numbers - k) 0) in
-    let none = ap (times b) (no_zeros (length numbers - k)) in
-    let all = times_both b (take k numbers) (drop k numbers) in
-    let whole = ap (λ l. times b (some l)) (take-append-drop k numbers) in
-    omega (arith, kept, none, all, whole)
-
-pub in_front : (b x : ℕ) (xs : List ℕ) → times b (some (x ∷ xs)) ≡ times b (some (x ∷ [])) + times b (some xs)
-in_front b x xs = times_both b (x ∷ []) xs
 
 -- ---- zeros
 
@@ -160,7 +119,7 @@ still_mapped numbers size low =
     k = count_before size
 
     long : length (first_of (count_before size) numbers) ≡ length numbers
-    long = same_length numbers (count_before size) low
+    long = first-length (count_before size) numbers
 
     at : (q : ℕ) → contains (mapped_of (first_of (count_before size) numbers)) q
         ≡ (contains (mapped_of numbers) q && nat_lt (q * BLOCK_BYTES) size)

@@ -1,7 +1,7 @@
 -- A regular file of which the size grew, up to which zeros lie already.
 use Rattle.std.proofs.Common.{◌≡◌, ℕ, zero, suc, ◌+◌, ◌-◌, ◌<◌, ◌≤◌, sym, ap, ◌∙◌, refl, subst, true, false}
-use Rattle.std.proofs.Common.{cond, ◌&&◌, ◌*◌, nat_lt, List, [], ◌∷◌, ◌++◌, length, take, drop, replicate, nat_eq, nat_le}
-use Rattle.std.proofs.Common.{Some, Ok, arith}
+use Rattle.std.proofs.Common.{cond, ◌&&◌, ◌*◌, nat_lt, List, [], ◌∷◌, ◌++◌, length, take, drop, replicate, nat_eq}
+use Rattle.std.proofs.Common.{nat_le, Some, Ok, arith}
 use Rattle.std.specs.FinSet.{retain}
 use Rattle.std.specs.List.{list_all}
 use Rattle.std.proofs.lemmas.Bool.{le-leb}
@@ -16,6 +16,7 @@ use Rattle.layout.specs.declared.inode.Inode.{Inode}
 use Rattle.layout.specs.declared.inode.InodeKind.{InodeKind}
 use Rattle.layout.specs.declared.inode.InodeKind.TheVariants as kinds
 use Rattle.layout.specs.Decode.{IsOfKind, IsRegular, body_of, bytes_of, inode_at, mapped_of, node_with, numbers_of}
+use Rattle.layout.specs.Decode.{pointer_blocks}
 use Rattle.layout.specs.Fields.{is_zeros}
 use Rattle.layout.specs.Holds.{Holds, PartsHold}
 use Rattle.layout.specs.InodeForm.{SoundInode, inode_bytes, is_sound_file, is_sound_inode, is_sound_map}
@@ -94,9 +95,9 @@ module _ (g : Geometry) (content : Image) (inode looks : Inode) (size : ℕ) whe
   same_numbers = refl
 
   grown_rules : inode.size ≤ size → IsRegular g content inode → IsRegular g content new
-  unfolding numbers_of
+  unfolding numbers_of pointer_blocks
   grown_rules more is = record {
-    mapped = record { numbers = is.mapped.numbers; used = is.mapped.used };
+    mapped = record { pointers = is.mapped.pointers; numbers = is.mapped.numbers; used = is.mapped.used };
     zeros = past_zeros (bytes_of content (numbers_of content inode)) inode.size size more is.zeros;
   }
 
@@ -128,8 +129,8 @@ module _ (g : Geometry) (content : Image) (inode looks : Inode) (size : ℕ) whe
 
       mapped : mapped_of (numbers_of content inode)
           ≡ mapped_of_size size (take inode.size all) (mapped_of (numbers_of content inode))
-      mapped = sym (ap (λ t. cond t (retain (mapped_of (numbers_of content inode)) (λ index. nat_lt (index * BLOCK_BYTES) size))
-          (mapped_of (numbers_of content inode)))
+      mapped = sym (ap (λ t. cond t (retain (mapped_of (numbers_of content inode))
+          (λ index. nat_lt (index * BLOCK_BYTES) size)) (mapped_of (numbers_of content inode)))
           (not_below size (length (take inode.size all)) (omega (arith, more, whole))))
 
   grown_cost : inode.size ≤ size
@@ -202,6 +203,7 @@ module _ (g : Geometry) (image : Image) (tree : Tree) (n : ℕ) (inode looks : I
       count = sound.fits.count;
       direct = sound.fits.direct;
       indirect = sound.fits.indirect;
+      double = sound.fits.double;
     };
     good = good;
   }
@@ -241,7 +243,7 @@ module _ (g : Geometry) (image : Image) (tree : Tree) (n : ℕ) (inode looks : I
 
   parts_hold : PartsHold g (record (parts_of g image) { table = put (parts_of g image).table n (Ok (Some grown)) })
       (with_node tree n (node_with grown (body_in g image grown)))
-  unfolding numbers_of
+  unfolding numbers_of pointer_blocks
   parts_hold = shrunk g image tree n inode grown content [] holds less read (λ b none. refl)
       (λ b. plus_none (times b (owned_by content (Ok (Some inode))))) rules
     where

@@ -1,8 +1,8 @@
 -- A regular file of which the end is cut off.
-use Rattle.std.specs.Prelude.{ℕ, ◌+◌, ◌-◌, ◌*◌, ◌/◌, Bool, not, cond, List, ◌∷◌, ◌++◌, length, take, drop}
-use Rattle.std.specs.Prelude.{replicate, get_or, filter, nat_eq}
+use Rattle.std.specs.Prelude.{◌≡◌, ℕ, ◌+◌, ◌-◌, ◌*◌, ◌/◌, Bool, not, cond, List, [], ◌∷◌, ◌++◌, length, take, drop}
+use Rattle.std.specs.Prelude.{replicate, get_or, filter, nat_eq, count_by}
 use Rattle.std.specs.List.{list_any}
-use Rattle.limits.specs.declared.TheConstants.{BLOCK_BYTES, DIRECT_INDEXES}
+use Rattle.limits.specs.declared.TheConstants.{BLOCK_BYTES}
 use Rattle.disk.specs.Crash.{Image}
 use Rattle.layout.specs.declared.inode.Inode.{Inode}
 use Rattle.layout.specs.Fields.{number_bytes}
@@ -20,23 +20,34 @@ count_before size = (size + (BLOCK_BYTES - 1)) / BLOCK_BYTES
 abbrev pub first_of : ℕ → List ℕ → List ℕ
 first_of count numbers = take count numbers ++ replicate (length numbers - count) 0
 
--- whether an index is mapped that an inode doesn't name directly
-abbrev pub is_far : List ℕ → Bool
-is_far numbers = list_any is_some (drop DIRECT_INDEXES numbers)
+-- one of them is that of a block
+abbrev pub has_some : List ℕ → Bool
+has_some numbers = list_any is_some numbers
 
--- the indirect block, where the numbers need one
-abbrev pub far_of : Inode → List ℕ → ℕ
-far_of inode numbers = cond (is_far numbers) inode.indirect 0
+-- a block that holds numbers stays where one of them does, and else is gone
+abbrev pub kept : ℕ → List ℕ → ℕ
+kept pointer stay = cond (has_some stay) pointer 0
+
+abbrev pub lost : ℕ → List ℕ → ℕ
+lost pointer stay = cond (has_some stay) 0 pointer
+
+-- as many blocks as this number is that of
+abbrev pub one_of : ℕ → ℕ
+one_of number = cond (is_some number) 1 0
+
+-- What stays of a block that holds numbers, of which the first so many stay: these, and the block where one of them is
+-- that of a block. All others are gone, and the block where none stays.
+pub record IsRowCut (pointer : ℕ) (numbers : List ℕ) (count : ℕ) (before : List ℕ) (now : ℕ) (stay : List ℕ)
+    (used : ℕ) (gone : List ℕ) : Type 0 where
+  pub numbers_are : stay ≡ first_of count numbers
+  pub pointer_is : now ≡ kept pointer stay
+  pub used_is : used ≡ one_of now + count_by is_some stay
+  pub gone_are : gone ≡ before ++ filter is_some (drop count numbers) ++ filter is_some (lost pointer stay ∷ [])
 
 -- the inode of this size with these numbers
-abbrev pub numbered : Inode → ℕ → List ℕ → Inode
-numbered inode size numbers =
-    record inode { size = size; direct = take DIRECT_INDEXES numbers; indirect = far_of inode numbers }
-
--- the blocks that it has no more
-abbrev pub gone_of : Inode → ℕ → List ℕ → List ℕ
-gone_of inode count numbers =
-    filter is_some (cond (is_far (first_of count numbers)) 0 inode.indirect ∷ drop count numbers)
+abbrev pub numbered : Inode → ℕ → List ℕ → ℕ → ℕ → Inode
+numbered inode size direct indirect double =
+    record inode { size = size; direct = direct; indirect = indirect; double = double }
 
 -- the block of the last index that stays, 0 if there is none, and how many of its bytes stay
 abbrev pub last_of : ℕ → List ℕ → ℕ
@@ -56,9 +67,3 @@ with_zeros content number from = cond (nat_eq number 0) content (put content num
 -- the blocks with these numbers in one of them, if it is one
 abbrev pub with_numbers : Image → ℕ → List ℕ → Image
 with_numbers content number numbers = cond (nat_eq number 0) content (put content number (number_bytes numbers))
-
--- the blocks of a file that was cut
-abbrev pub cut_content : Image → Inode → ℕ → List ℕ → Image
-cut_content content inode size numbers =
-    with_numbers (with_zeros content (last_of (count_before size) numbers) (left_in size))
-    (far_of inode (first_of (count_before size) numbers)) (drop DIRECT_INDEXES (first_of (count_before size) numbers))

@@ -1,3 +1,4 @@
 pub mod Sized
 pub mod Cut
 pub mod CutBlocks
+pub mod Doubles

@@ -1,31 +1,135 @@
 //! Files that are cut.
-ghost use Rattle.std.specs.Prelude.{◌≡◌, ◌+◌, ◌-◌, ◌*◌, ◌/◌, ◌<◌, ◌≤◌, ◌∷◌, ℕ, Some, true, cond, length, drop, get_or, filter, count_by, All, IfErr, IfOk, OnOk};
-ghost use Rattle.limits.specs.declared.TheConstants.{BLOCK_BYTES, DIRECT_INDEXES, FILE_INDEXES, INDIRECT_INDEXES, LARGEST_FILE};
+ghost use Rattle.std.specs.Prelude.{◌≡◌, ◌+◌, ◌<◌, ◌≤◌, ℕ, Some, true, length, All, IfErr, IfOk, OnOk};
+ghost use Rattle.limits.specs.declared.TheConstants.{BLOCK_BYTES, DIRECT_INDEXES, DOUBLE_INDEXES, FILE_INDEXES};
+ghost use Rattle.limits.specs.declared.TheConstants.{INDIRECT_INDEXES, LARGEST_FILE};
 ghost use Rattle.disk.specs.Crash.{Image};
 ghost use Rattle.layout.specs.declared.inode.InodeKind.TheVariants as kinds;
-ghost use Rattle.layout.specs.Decode.{node_with};
+ghost use Rattle.layout.specs.Decode.{node_with, numbers_of};
 ghost use Rattle.layout.specs.InodeForm.{SoundInode, is_data_block_or_none};
+ghost use Rattle.layout.specs.Parts.{content_in};
 ghost use Rattle.model.specs.SetAttr.{with_length};
 ghost use Rattle.model.specs.Tree.{Tree, with_node};
 ghost use Rattle.inode.specs.Over.{HasInode, IsPause, MayStop};
 ghost use Rattle.inode.specs.Shown.{body_in};
 ghost use Rattle.drafts.specs.Attributes.{attributed};
 ghost use Rattle.drafts.specs.Drafted.{IsDraft, Shows, image_of, spent};
-ghost use Rattle.file_cuts.specs.Cut.{count_before, is_far, is_some, left_in};
-ghost use Rattle.file_cuts.specs.CutBlocks.{IsCut};
+ghost use Rattle.bitmap.specs.Bits.{AreOfBytes};
+ghost use Rattle.file_cuts.specs.Cut.{count_before, last_of, left_in, numbered};
+ghost use Rattle.file_cuts.specs.CutBlocks.{FitsCut, HasPointers, IsCut, IsCutOf};
 ghost use Rattle.file_cuts.specs.Sized.{IsUse};
 
 use crate::blocks::{put_numbers, zero_from};
-use crate::numbers::{all_numbers, count_some, first_of, is_far, numbered, some_of};
+use crate::doubles::{Double, cut_double};
+use crate::numbers::{Kept, Row, cut_numbers, cut_row};
 use drafts::{Draft, attributed};
-use inode::Stop;
+use inode::{Snap, Stop, block_number, indirect_numbers};
 use inode_writes::free_all;
-use layout::{Geometry, Inode};
-use limits::{BLOCK_BYTES, DIRECT_INDEXES};
-use std::alloc::{AllocError, Global};
+use layout::Inode;
+use limits::{BLOCK_BYTES, DIRECT_INDEXES, FIRST_DOUBLE_INDEX};
+use std::alloc::Global;
 
-// Writes what a cut changes: zeros in the last block that stays, the numbers in the indirect block, and the
-// inode; and frees blocks.
+// What stays of a file's numbers of blocks: those that its inode names itself, its indirect block and its double
+// indirect block; and the blocks that it has no more.
+#[derive(Drop)]
+struct CutPointers {
+    near: Kept,
+    far: Row,
+    double: Double,
+    gone: Vec<u32>,
+}
+
+// How many blocks it uses.
+fn used_by(cut: &CutPointers) -> u32
+    requires near { cut.now.near.count ≤ DIRECT_INDEXES }
+    requires far { cut.now.far.used ≤ INDIRECT_INDEXES + 1 }
+    requires double { cut.now.double.used ≤ DOUBLE_INDEXES + INDIRECT_INDEXES + 1 }
+    ensures { result ≡ cut.now.near.count + cut.now.far.used + cut.now.double.used }
+{
+    cut.near.count + cut.far.used + cut.double.used
+}
+
+// Whether the number is that of a data block, or 0.
+fn is_placed(snap: &Snap, number: u32) -> bool
+    ensures { result ≡ is_data_block_or_none snap.now.geometry number }
+{
+    number == 0 || snap.geometry.is_data(number)
+}
+
+// Cuts a file's numbers of blocks: the first so many indexes stay.
+fn cut_all(alloc: Global, snap: &Snap, inode: &Inode, count: usize) -> Result<CutPointers, Stop>
+    ensures fits { IfOk result (λ cut. FitsCut snap.now.geometry cut) }
+    ensures ok { IfOk result (λ cut. (blocks : Image) (tree : Tree) (file : ℕ)
+        → HasInode snap.now blocks tree file inode.now
+        → IsCutOf (content_in snap.now.geometry blocks) inode.now count cut) }
+    ensures err { IfErr result (λ stop. MayStop snap.now stop) }
+    ensures pause { IfErr result (λ stop. (blocks : Image) (tree : Tree) (file : ℕ)
+        → HasInode snap.now blocks tree file inode.now → IsPause stop) }
+{
+    if !is_placed(snap, inode.indirect) {
+        return Err(Stop::Io);
+    }
+    if !is_placed(snap, inode.double) {
+        return Err(Stop::Io);
+    }
+    let indirect = indirect_numbers(alloc, snap, inode)?;
+    let mut gone = Vec::new(alloc);
+    let near = cut_numbers(alloc, &inode.direct, count, &mut gone)?;
+    let behind = count.saturating_sub(DIRECT_INDEXES);
+    let far = cut_row(alloc, inode.indirect, &indirect, behind, &mut gone)?;
+    let further = count.saturating_sub(FIRST_DOUBLE_INDEX);
+    let double = cut_double(alloc, snap, inode, further, &mut gone)?;
+    Ok(CutPointers {
+        near,
+        far,
+        double,
+        gone,
+    })
+}
+
+// The inode of this size with what stays of its numbers.
+fn numbered(inode: &Inode, size: u64, cut: &CutPointers) -> Inode
+    requires { length cut.now.near.numbers.items ≡ DIRECT_INDEXES }
+    ensures { result ≡ numbered inode.now size cut.now.near.numbers.items cut.now.far.pointer
+        cut.now.double.pointer }
+{
+    let mut new = *inode;
+    let mut direct = [0; DIRECT_INDEXES];
+    direct.copy_from_slice(&cut.near.numbers);
+    new.size = size;
+    new.direct = direct;
+    new.indirect = cut.far.pointer;
+    new.double = cut.double.pointer;
+    new
+}
+
+// Writes the numbers that stay in pointer blocks of which a part stays.
+fn write_pointers(alloc: Global, draft: &mut Draft, cut: &CutPointers) -> Result<(), Stop>
+    requires { FitsCut draft.old.there.geometry cut.now }
+    ensures shows { OnOk result ((blocks : Image) → Shows draft.old (image_of blocks draft.old)
+        → Shows draft.new (image_of blocks draft.new)) }
+    ensures numbers { OnOk result ((blocks : Image) → Shows draft.old (image_of blocks draft.old)
+        → AreOfBytes draft.old.there.geometry (image_of blocks draft.old)
+        → HasPointers draft.old.there.geometry cut.now (image_of blocks draft.old) (image_of blocks draft.new)) }
+    ensures seen { draft.new.seen ≡ draft.old.seen }
+    ensures geometry { draft.new.there.geometry ≡ draft.old.there.geometry }
+    ensures spent { spent draft.new ≤ spent draft.old + 3 }
+    ensures err { IfErr result (λ stop. MayStop draft.old.seen stop) }
+    ensures pause { IfErr result (λ stop. IsPause stop) }
+{
+    match put_numbers(alloc, draft, cut.far.pointer, &cut.far.numbers) {
+        Ok(()) => {}
+        Err(stop) => return Err(stop),
+    }
+    let inners = &cut.double.inners;
+    match put_numbers(alloc, draft, inners.part, &inners.part_numbers) {
+        Ok(()) => {}
+        Err(stop) => return Err(stop),
+    }
+    put_numbers(alloc, draft, cut.double.pointer, &inners.numbers)
+}
+
+// Writes what a cut changes: zeros in the last block that stays, the numbers in pointer blocks, and the inode; and
+// frees blocks.
 fn write_cut(
     alloc: Global,
     draft: &mut Draft,
@@ -33,35 +137,33 @@ fn write_cut(
     inode: &Inode,
     last: u32,
     from: usize,
-    far: &[u32],
-    gone: &[u32],
+    cut: &CutPointers,
 ) -> Result<(), Stop>
     requires less { number < draft.old.there.geometry.inodes }
     requires last { is_data_block_or_none draft.old.there.geometry last ≡ true }
-    requires indirect { is_data_block_or_none draft.old.there.geometry inode.now.indirect ≡ true }
-    requires far { length far.now ≡ INDIRECT_INDEXES }
+    requires fits { FitsCut draft.old.there.geometry cut.now }
     ensures shows { OnOk result ((blocks : Image) → Shows draft.old (image_of blocks draft.old)
         → Shows draft.new (image_of blocks draft.new)) }
     ensures cuts { OnOk result ((blocks : Image) (tree : Tree) → IsDraft draft.old blocks tree
         → SoundInode draft.old.there.geometry inode.now → from ≤ BLOCK_BYTES
-        → IsCut draft.old.there.geometry number inode.now last from far.now gone.now
+        → IsCut draft.old.there.geometry number inode.now last from cut.now
         (image_of blocks draft.old) (image_of blocks draft.new)) }
     ensures seen { draft.new.seen ≡ draft.old.seen }
     ensures geometry { draft.new.there.geometry ≡ draft.old.there.geometry }
-    ensures spent { spent draft.new ≤ spent draft.old + 3 }
+    ensures spent { spent draft.new ≤ spent draft.old + 5 }
     ensures err { IfErr result (λ stop. MayStop draft.old.seen stop) }
-    ensures pause { IfErr result (λ stop. All (λ one. one < draft.old.there.geometry.blocks) gone.now
+    ensures pause { IfErr result (λ stop. All (λ one. one < draft.old.there.geometry.blocks) cut.now.gone.items
         → IsPause stop) }
 {
     match zero_from(alloc, draft, last, from) {
         Ok(()) => {}
         Err(stop) => return Err(stop),
     }
-    match put_numbers(alloc, draft, inode.indirect, far) {
+    match write_pointers(alloc, draft, cut) {
         Ok(()) => {}
         Err(stop) => return Err(stop),
     }
-    match free_all(alloc, draft, gone) {
+    match free_all(alloc, draft, &cut.gone) {
         Ok(()) => {}
         Err(stop) => return Err(stop),
     }
@@ -90,53 +192,21 @@ fn left_in(size: u64) -> usize
     size as usize - BLOCK_BYTES * (count - 1)
 }
 
-// The last number of the first so many, 0 if these are none.
-fn last_of(numbers: &[u32], count: usize) -> u32
-    requires some { 0 < length numbers.now }
-    requires few { count ≤ length numbers.now }
-    ensures { result ≡ get_or numbers.now (count - 1) 0 }
+// The number of the block of the last of the first so many indexes, 0 if these are none.
+fn last_of(snap: &Snap, inode: &Inode, count: usize) -> Result<u32, Stop>
+    requires { count ≤ FILE_INDEXES }
+    ensures placed { IfOk result (λ number. is_data_block_or_none snap.now.geometry number ≡ true) }
+    ensures ok { IfOk result (λ number. (blocks : Image) (tree : Tree) (file : ℕ)
+        → HasInode snap.now blocks tree file inode.now
+        → number ≡ last_of count (numbers_of (content_in snap.now.geometry blocks) inode.now)) }
+    ensures err { IfErr result (λ stop. MayStop snap.now stop) }
+    ensures pause { IfErr result (λ stop. (blocks : Image) (tree : Tree) (file : ℕ)
+        → HasInode snap.now blocks tree file inode.now → IsPause stop) }
 {
     if count == 0 {
-        return numbers[0];
+        return Ok(0);
     }
-    numbers[count - 1]
-}
-
-// The blocks that a file of these numbers has no more, where only the first so many stay.
-fn gone_of(
-    alloc: Global,
-    inode: &Inode,
-    numbers: &[u32],
-    kept: &[u32],
-    count: usize,
-) -> Result<Vec<u32>, AllocError>
-    requires few { count ≤ length numbers.now }
-    requires len { length kept.now ≡ FILE_INDEXES }
-    ensures { IfOk result (λ gone. gone.items
-        ≡ filter is_some (cond (is_far kept.now) 0 inode.now.indirect ∷ drop count numbers.now)) }
-{
-    if is_far(kept) {
-        return some_of(alloc, 0, &numbers[count..]);
-    }
-    some_of(alloc, inode.indirect, &numbers[count..])
-}
-
-// Whether the number is that of a data block, or 0.
-fn is_placed(geometry: &Geometry, number: u32) -> bool
-    ensures { result ≡ is_data_block_or_none geometry.now number }
-{
-    number == 0 || geometry.is_data(number)
-}
-
-// How many blocks a file of these numbers uses.
-fn used_by(numbers: &[u32]) -> u32
-    requires { length numbers.now ≡ FILE_INDEXES }
-    ensures { result ≡ count_by is_some numbers.now + cond (is_far numbers.now) 1 0 }
-{
-    if is_far(numbers) {
-        return count_some(numbers) + 1;
-    }
-    count_some(numbers)
+    block_number(snap, inode, count - 1)
 }
 
 /// Cuts a regular file, whose attributes become these. Said is how many blocks it uses then.
@@ -162,7 +232,7 @@ pub(crate) fn cut(
         (with_length (Some size)
         (body_in draft.old.there.geometry (image_of blocks draft.old) (attributed inode.now looks.now)))))) }
     ensures seen { draft.new.seen ≡ draft.old.seen }
-    ensures spent { spent draft.new ≤ spent draft.old + 3 }
+    ensures spent { spent draft.new ≤ spent draft.old + 5 }
     ensures err { IfErr result (λ stop. MayStop draft.old.seen stop) }
     ensures pause { IfErr result (λ stop. (blocks : Image) (tree : Tree) → IsDraft draft.old blocks tree
         → HasInode draft.old.there (image_of blocks draft.old) tree number inode.now → IsPause stop) }
@@ -171,29 +241,18 @@ pub(crate) fn cut(
     if number >= geometry.inodes {
         return Err(Stop::Io);
     }
-    let numbers = match all_numbers(alloc, draft.there(), inode) {
-        Ok(numbers) => numbers,
+    let count = count_before(size);
+    let cut = match cut_all(alloc, draft.there(), inode, count) {
+        Ok(cut) => cut,
         Err(stop) => return Err(stop),
     };
-    let count = count_before(size);
-    let kept = first_of(alloc, &numbers, count)?;
-    let gone = gone_of(alloc, inode, &numbers, &kept, count)?;
-    let new = numbered(&attributed(inode, looks), size, &kept);
-    if !is_placed(&geometry, new.indirect) {
-        return Err(Stop::Io);
-    }
-    let last = last_of(&kept, count);
-    match write_cut(
-        alloc,
-        draft,
-        number,
-        &new,
-        last,
-        left_in(size),
-        &kept[DIRECT_INDEXES..],
-        &gone,
-    ) {
-        Ok(()) => Ok(used_by(&kept)),
+    let last = match last_of(draft.there(), inode, count) {
+        Ok(last) => last,
+        Err(stop) => return Err(stop),
+    };
+    let new = numbered(&attributed(inode, looks), size, &cut);
+    match write_cut(alloc, draft, number, &new, last, left_in(size), &cut) {
+        Ok(()) => Ok(used_by(&cut)),
         Err(stop) => Err(stop),
     }
 }

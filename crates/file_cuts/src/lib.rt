@@ -3,6 +3,7 @@
 
 mod blocks;
 mod cutting;
+mod doubles;
 mod numbers;
 mod sizing;
 

@@ -1,54 +1,13 @@
-//! The numbers of a file's blocks, and those that stay where it is cut.
-ghost use Rattle.std.specs.Prelude.{◌≡◌, ◌∷◌, ◌≤◌, ℕ, true, length, take, filter, count_by, IfErr, IfOk};
-ghost use Rattle.std.specs.List.{list_all, list_any};
-ghost use Rattle.limits.specs.declared.TheConstants.{DIRECT_INDEXES, FILE_INDEXES};
-ghost use Rattle.disk.specs.Crash.{Image};
-ghost use Rattle.layout.specs.Decode.{numbers_of};
-ghost use Rattle.layout.specs.InodeForm.{is_data_block_or_none};
-ghost use Rattle.layout.specs.Parts.{content_in};
-ghost use Rattle.model.specs.Tree.{Tree};
-ghost use Rattle.inode.specs.Over.{HasInode, IsPause, MayStop};
-ghost use Rattle.file_cuts.specs.Cut.{first_of, is_far, is_some, numbered};
+//! Numbers of blocks, and those that stay where their file is cut.
+ghost use Rattle.std.specs.Prelude.{◌≡◌, ◌+◌, ◌++◌, ◌∷◌, [], ◌≤◌, cond, length, drop, filter, count_by, nat_eq, IfOk};
+ghost use Rattle.std.specs.Prelude.{OnOk};
+ghost use Rattle.limits.specs.declared.TheConstants.{INDIRECT_INDEXES};
+ghost use Rattle.file_cuts.specs.Cut.{IsRowCut, first_of, is_some, one_of};
 
-use inode::{Snap, Stop, block_number};
-use layout::Inode;
-use limits::{DIRECT_INDEXES, FILE_INDEXES};
 use std::alloc::{AllocError, Global};
 
-/// The numbers of the blocks of all indexes of a file, 0 where no block is mapped. Only where it has an indirect
-/// block are there more than those of the direct indexes.
-pub(crate) fn all_numbers(alloc: Global, snap: &Snap, inode: &Inode) -> Result<Vec<u32>, Stop>
-    ensures len { IfOk result (λ numbers. length numbers.items ≡ FILE_INDEXES) }
-    ensures placed { IfOk result
-        (λ numbers. list_all (is_data_block_or_none snap.now.geometry) numbers.items ≡ true) }
-    ensures ok { IfOk result (λ numbers. (blocks : Image) (tree : Tree) (file : ℕ)
-        → HasInode snap.now blocks tree file inode.now
-        → numbers.items ≡ numbers_of (content_in snap.now.geometry blocks) inode.now) }
-    ensures err { IfErr result (λ stop. MayStop snap.now stop) }
-    ensures pause { IfErr result (λ stop. (blocks : Image) (tree : Tree) (file : ℕ)
-        → HasInode snap.now blocks tree file inode.now → IsPause stop) }
-{
-    let mut numbers = Vec::new(alloc);
-    let count = if inode.indirect == 0 {
-        DIRECT_INDEXES
-    } else {
-        FILE_INDEXES
-    };
-    'indexes: for index in 0..count {
-        match block_number(snap, inode, index) {
-            Ok(number) => match numbers.push(number) {
-                Ok(()) => {}
-                Err(_) => return Err(Stop::NoMemory),
-            },
-            Err(stop) => return Err(stop),
-        }
-    }
-    numbers.resize(FILE_INDEXES, 0)?;
-    Ok(numbers)
-}
-
-/// The numbers of which the first so many stay.
-pub(crate) fn first_of(alloc: Global, numbers: &[u32], count: usize) -> Result<Vec<u32>, AllocError>
+// The numbers of which the first so many stay.
+fn first_of(alloc: Global, numbers: &[u32], count: usize) -> Result<Vec<u32>, AllocError>
     requires { count ≤ length numbers.now }
     ensures len { IfOk result (λ first. length first.items ≡ length numbers.now) }
     ensures is { IfOk result (λ first. first.items ≡ first_of count numbers.now) }
@@ -58,30 +17,10 @@ pub(crate) fn first_of(alloc: Global, numbers: &[u32], count: usize) -> Result<V
     Ok(first)
 }
 
-// Whether one of the numbers is that of a block.
-fn has_some(numbers: &[u32]) -> bool
-    ensures { result ≡ list_any is_some numbers.now }
-{
-    for number in numbers {
-        if *number != 0 {
-            return true;
-        }
-    }
-    false
-}
-
-/// Whether an index is mapped that an inode doesn't name directly.
-pub(crate) fn is_far(numbers: &[u32]) -> bool
-    requires { length numbers.now ≡ FILE_INDEXES }
-    ensures { result ≡ is_far numbers.now }
-{
-    has_some(&numbers[DIRECT_INDEXES..])
-}
-
 /// How many of the numbers are those of blocks.
 pub(crate) fn count_some(numbers: &[u32]) -> u32
-    requires { length numbers.now ≤ FILE_INDEXES }
-    ensures few { result ≤ FILE_INDEXES }
+    requires { length numbers.now ≤ INDIRECT_INDEXES }
+    ensures few { result ≤ length numbers.now }
     ensures count { result ≡ count_by is_some numbers.now }
 {
     let mut count = 0;
@@ -93,37 +32,102 @@ pub(crate) fn count_some(numbers: &[u32]) -> u32
     count
 }
 
-/// Those of the numbers, and this one in front, that are those of blocks.
-pub(crate) fn some_of(alloc: Global, first: u32, numbers: &[u32]) -> Result<Vec<u32>, AllocError>
-    ensures { IfOk result (λ some. some.items ≡ filter is_some (first ∷ numbers.now)) }
+// Adds those of the numbers that are those of blocks.
+fn add_some(alloc: Global, numbers: &[u32], gone: &mut Vec<u32>) -> Result<(), AllocError>
+    ensures { OnOk result (gone.new.items ≡ gone.old.items ++ filter is_some numbers.now) }
 {
-    let mut some = Vec::new(alloc);
-    some.push(first)?;
-    some.extend_from_slice(numbers)?;
+    let mut some = Vec::from_slice(alloc, numbers)?;
     some.retain(|number| *number != 0);
-    Ok(some)
+    gone.extend_from_slice(&some)?;
+    Ok(())
 }
 
-// The numbers that an inode names itself.
-fn direct_of(numbers: &[u32]) -> [u32; DIRECT_INDEXES]
-    requires { DIRECT_INDEXES ≤ length numbers.now }
-    ensures { result ≡ take DIRECT_INDEXES numbers.now }
-{
-    let mut direct = [0; DIRECT_INDEXES];
-    direct.copy_from_slice(&numbers[..DIRECT_INDEXES]);
-    direct
+/// What stays of some numbers of a file's: these, and how many of them are those of blocks.
+#[derive(Drop)]
+pub(crate) struct Kept {
+    pub numbers: Vec<u32>,
+    pub count: u32,
 }
 
-/// The inode of this size with these numbers.
-pub(crate) fn numbered(inode: &Inode, size: u64, numbers: &[u32]) -> Inode
-    requires { length numbers.now ≡ FILE_INDEXES }
-    ensures { result ≡ numbered inode.now size numbers.now }
+/// Cuts numbers: the first so many stay. What is gone is added to that.
+pub(crate) fn cut_numbers(
+    alloc: Global,
+    numbers: &[u32],
+    count: usize,
+    gone: &mut Vec<u32>,
+) -> Result<Kept, AllocError>
+    requires { length numbers.now ≤ INDIRECT_INDEXES }
+    ensures numbers { IfOk result (λ kept. kept.numbers.items ≡ first_of count numbers.now) }
+    ensures len { IfOk result (λ kept. length kept.numbers.items ≡ length numbers.now) }
+    ensures few { IfOk result (λ kept. kept.count ≤ length numbers.now) }
+    ensures count { IfOk result (λ kept. kept.count ≡ count_by is_some kept.numbers.items) }
+    ensures gone { IfOk result (λ _. gone.new.items ≡ gone.old.items ++ filter is_some (drop count numbers.now)) }
 {
-    let mut new = *inode;
-    new.size = size;
-    new.direct = direct_of(numbers);
-    if !is_far(numbers) {
-        new.indirect = 0;
+    let most = count.min(numbers.len());
+    add_some(alloc, &numbers[most..], gone)?;
+    let kept = first_of(alloc, numbers, most)?;
+    let some = count_some(&kept);
+    Ok(Kept {
+        numbers: kept,
+        count: some,
+    })
+}
+
+/// Keeps a block that holds numbers where so many of these are left: it is gone where none is. Said is its number, 0
+/// where it is gone.
+pub(crate) fn keep_pointer(pointer: u32, left: u32, gone: &mut Vec<u32>) -> Result<u32, AllocError>
+    ensures is { IfOk result (λ kept. kept ≡ cond (nat_eq left 0) 0 pointer) }
+    ensures gone { IfOk result
+        (λ _. gone.new.items ≡ gone.old.items ++ filter is_some (cond (nat_eq left 0) pointer 0 ∷ [])) }
+{
+    if left > 0 {
+        return Ok(pointer);
     }
-    new
+    if pointer != 0 {
+        gone.push(pointer)?;
+    }
+    Ok(0)
+}
+
+/// How many blocks this number is that of: one or none.
+pub(crate) fn one_of(number: u32) -> u32
+    ensures few { result ≤ 1 }
+    ensures is { result ≡ one_of number }
+{
+    if number == 0 {
+        return 0;
+    }
+    1
+}
+
+/// What stays of a pointer block: its number, 0 where none of its numbers is left or there was none; the numbers in it;
+/// and how many blocks these are, with itself.
+#[derive(Drop)]
+pub(crate) struct Row {
+    pub pointer: u32,
+    pub numbers: Vec<u32>,
+    pub used: u32,
+}
+
+/// Cuts the numbers of a pointer block, of which the first so many stay. A block of which none stays is gone too.
+pub(crate) fn cut_row(
+    alloc: Global,
+    pointer: u32,
+    numbers: &[u32],
+    count: usize,
+    gone: &mut Vec<u32>,
+) -> Result<Row, AllocError>
+    requires { length numbers.now ≡ INDIRECT_INDEXES }
+    ensures is { IfOk result (λ row. IsRowCut pointer numbers.now count gone.old.items row.pointer row.numbers.items
+        row.used gone.new.items) }
+    ensures len { IfOk result (λ row. length row.numbers.items ≡ INDIRECT_INDEXES) }
+    ensures few { IfOk result (λ row. row.used ≤ INDIRECT_INDEXES + 1) }
+{
+    let kept = cut_numbers(alloc, numbers, count, gone)?;
+    let now = keep_pointer(pointer, kept.count, gone)?;
+    Ok(Row {
+        pointer: now,
+        numbers: kept.numbers,
+        used: one_of(now) + kept.count,
+    })
 }

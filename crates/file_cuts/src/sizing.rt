@@ -56,7 +56,7 @@ fn grow(
         (with_length (Some size)
         (body_in draft.old.there.geometry (image_of blocks draft.old) (attributed inode.now looks.now))) }
     ensures seen { draft.new.seen ≡ draft.old.seen }
-    ensures spent { spent draft.new ≤ spent draft.old + 3 }
+    ensures spent { spent draft.new ≤ spent draft.old + 5 }
     ensures err { IfErr result (λ stop. MayStop draft.old.seen stop) }
     ensures pause { IfErr result (λ stop. number < draft.old.there.geometry.inodes → IsPause stop) }
 {
@@ -85,7 +85,7 @@ fn keep(
         (with_length (Some size)
         (body_in draft.old.there.geometry (image_of blocks draft.old) (attributed inode.now looks.now)))))) }
     ensures seen { draft.new.seen ≡ draft.old.seen }
-    ensures spent { spent draft.new ≤ spent draft.old + 3 }
+    ensures spent { spent draft.new ≤ spent draft.old + 5 }
     ensures err { IfErr result (λ stop. MayStop draft.old.seen stop) }
     ensures pause { IfErr result (λ stop. (blocks : Image) (tree : Tree) → IsDraft draft.old blocks tree
         → HasInode draft.old.there (image_of blocks draft.old) tree number inode.now → IsPause stop) }
@@ -118,7 +118,7 @@ fn resize_there(
         (with_length (Some size)
         (body_in draft.old.there.geometry (image_of blocks draft.old) (attributed inode.now looks.now)))))) }
     ensures seen { draft.new.seen ≡ draft.old.seen }
-    ensures spent { spent draft.new ≤ spent draft.old + 3 }
+    ensures spent { spent draft.new ≤ spent draft.old + 5 }
     ensures err { IfErr result (λ stop. MayStop draft.old.seen stop) }
     ensures pause { IfErr result (λ stop. (blocks : Image) (tree : Tree) → IsDraft draft.old blocks tree
         → HasInode draft.old.there (image_of blocks draft.old) tree number inode.now → IsPause stop) }
@@ -164,7 +164,7 @@ pub fn resize(
         (with_length (Some size)
         (body_in draft.old.there.geometry (image_of blocks draft.old) (attributed inode looks.now)))))) }
     ensures seen { draft.new.seen ≡ draft.old.seen }
-    ensures spent { spent draft.new ≤ spent draft.old + 3 }
+    ensures spent { spent draft.new ≤ spent draft.old + 5 }
     ensures err { IfErr result (λ stop. MayStop draft.old.seen stop) }
     ensures pause { IfErr result (λ stop. (blocks : Image) (tree : Tree) → IsDraft draft.old blocks tree
         → IsPause stop) }

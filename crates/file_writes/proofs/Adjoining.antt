@@ -1,6 +1,6 @@
 -- Pieces that are written one behind another are one text that is written.
 use Rattle.std.proofs.Common.{◌≡◌, ℕ, zero, suc, ◌+◌, ◌-◌, ◌/◌, ◌%◌, ◌<◌, ◌≤◌, inl, inr, sym, ap, ◌∙◌, refl}
-use Rattle.std.proofs.Common.{Bool, true, false, cond, ◌||◌, List, [], ◌∷◌, ◌++◌, length, length-append, get_or, nat_le}
+use Rattle.std.proofs.Common.{Bool, true, false, cond, ◌||◌, List, [], ◌∷◌, ◌++◌, length, length-append, get_or}
 use Rattle.std.proofs.Common.{Option, Some, arith}
 use Rattle.std.specs.Cmp.{nat_cmp_total}
 use Rattle.std.specs.FinMap.{get-insert, insert, nat_cmp-IsAntisymmetric, same_map}
@@ -10,13 +10,14 @@ use Rattle.std.specs.List.{range_with_len}
 use Rattle.std.specs.Ordering.{eq_by_cmp, nat_cmp}
 use Rattle.std.proofs.lemmas.Bool.{cases_lt}
 use Rattle.std.proofs.lemmas.List.{ext_get_or, get_or-append_right, get_or_append_left}
-use Rattle.limits.specs.declared.TheConstants.{BLOCK_BYTES, DIRECT_INDEXES}
+use Rattle.limits.specs.declared.TheConstants.{BLOCK_BYTES}
 use Rattle.model.specs.Cost.{cost, file_cost}
 use Rattle.model.specs.Node as nodes
 use Rattle.model.specs.Node.{Body, Node}
 use Rattle.model.specs.Tree.{Tree, free, node_at, with_node}
+use Rattle.model.proofs.Costs.{more_cost}
 use Rattle.model.proofs.Maps.{sum_insert}
-use Rattle.model.proofs.Sets.{any_more, has}
+use Rattle.model.proofs.Sets.{has, itself}
 use Rattle.procedures.specs.Write.{mapped_with, overwritten, touched, with_text}
 use Rattle.procedures.proofs.Overwriting.{kept_before, kept_behind, length_overwritten, written_at}
 
@@ -85,28 +86,27 @@ or_more : (a b : Bool) → b ≡ true → (a || b) ≡ true
 or_more true b e = refl
 or_more false b e = e
 
-more_by : (a b : Bool) → (a ≡ true → b ≡ true) → cond a 1 0 ≤ cond b 1 0
-more_by true true h = omega arith
-more_by true false h = let never = h refl in cc
-more_by false true h = omega arith
-more_by false false h = omega arith
-
 grows : (b : Bool) (n : ℕ) → n ≤ cond b n (n + 1)
 grows true n = omega arith
 grows false n = omega arith
 
-one_more_index : (mapped : FinSet nat_cmp) (index : ℕ) → file_cost mapped ≤ file_cost (set.insert mapped index)
-one_more_index mapped index =
-    let size = len-insert nat_cmp_total mapped index in
-    let more : (q : ℕ) → has (items mapped) q ≡ true → has (items (set.insert mapped index)) q ≡ true = λ q e.
-    sym (contains-items (set.insert mapped index) q) ∙ contains-insert nat_cmp_total mapped index q
-    ∙ or_more (eq_by_cmp nat_cmp q index) (contains mapped q) (contains-items mapped q ∙ e) in
-    omega (
-      arith,
-      size,
-      grows (contains mapped index) (len mapped),
-      more_by _ _ (any_more (λ i. nat_le DIRECT_INDEXES i) (items mapped) (items (set.insert mapped index)) more),
-    )
+-- one index more, beside those that are there
+module _ (mapped : FinSet nat_cmp) (index : ℕ) where
+  has_one : (q : ℕ) → (eq_by_cmp nat_cmp q index || contains mapped q) ≡ true
+      → has (items (set.insert mapped index)) q ≡ true
+  has_one q e = sym (contains-items (set.insert mapped index) q) ∙ contains-insert nat_cmp_total mapped index q ∙ e
+
+  pub still_in : (q : ℕ) → has (items mapped) q ≡ true → has (items (set.insert mapped index)) q ≡ true
+  still_in q e = has_one q (or_more (eq_by_cmp nat_cmp q index) (contains mapped q) (contains-items mapped q ∙ e))
+
+  pub index_in : has (items (set.insert mapped index)) index ≡ true
+  index_in = has_one index (ap (λ t. t || contains mapped index) (itself index))
+
+  one_more_index : file_cost mapped ≤ file_cost (set.insert mapped index)
+  one_more_index =
+      let size = len-insert nat_cmp_total mapped index in
+      let wider = grows (contains mapped index) (len mapped) in
+      more_cost mapped (set.insert mapped index) still_in (omega (arith, size, wider))
 
 more_indexes : (indexes : List ℕ) (mapped : FinSet nat_cmp)
     → file_cost mapped ≤ file_cost (mapped_with indexes mapped)

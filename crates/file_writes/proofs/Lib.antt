@@ -2,7 +2,9 @@ pub mod OverBytes
 pub mod OneNumber
 pub mod FarNumbers
 pub mod PieceWritten
+pub mod Owned
 pub mod Cases
+pub mod DoubleCases
 pub mod ImageWritten
 pub mod Stored
 pub mod Once

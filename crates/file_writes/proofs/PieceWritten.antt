@@ -1,9 +1,9 @@
 -- A regular file in one of whose blocks a piece of bytes was written: the parts hold the tree with these bytes
 -- in the file.
 use Rattle.std.proofs.Common.{◌≡◌, ℕ, suc, ◌+◌, ◌-◌, ◌*◌, ◌/◌, ◌%◌, ◌<◌, ◌≤◌, sym, ap, ◌∙◌, refl, subst}
-use Rattle.std.proofs.Common.{Bool, true, false, cond, ◌&&◌, ◌||◌, not, List, [], ◌∷◌, length, get_or, take, drop}
-use Rattle.std.proofs.Common.{replicate, nat_eq, nat_le, filter, Some, Ok, arith}
-use Rattle.std.specs.List.{flat_map, list_all, list_any, range_with_len}
+use Rattle.std.proofs.Common.{Bool, true, false, cond, ◌&&◌, ◌||◌, not, List, [], ◌∷◌, ◌++◌, length, get_or, take}
+use Rattle.std.proofs.Common.{drop, replicate, nat_eq, nat_le, filter, Some, Ok, arith}
+use Rattle.std.specs.List.{flat_map, list_all, range_with_len}
 use Rattle.std.proofs.lemmas.Bool.Decides.{nat_tests}
 use Rattle.limits.specs.declared.TheConstants.{BLOCK_BYTES, FILE_INDEXES, LARGEST_FILE}
 use Rattle.disk.specs.Crash.{Image}
@@ -16,7 +16,7 @@ use Rattle.layout.specs.declared.geometry.Geometry.{Geometry}
 use Rattle.layout.specs.declared.inode.Inode.{Inode}
 use Rattle.layout.specs.declared.inode.InodeKind.TheVariants as kinds
 use Rattle.layout.specs.Decode.{IsOfKind, IsRegular, body_of, bytes_of, content_of, mapped_of, node_with}
-use Rattle.layout.specs.Decode.{numbers_of, regular_in}
+use Rattle.layout.specs.Decode.{numbers_in, numbers_of, pointer_blocks, regular_in}
 use Rattle.layout.specs.Fields.{is_zeros}
 use Rattle.layout.specs.Holds.{PartsHold}
 use Rattle.layout.specs.InodeForm.{SoundInode, is_data_block_or_none, is_sound_file, is_sound_inode}
@@ -26,6 +26,7 @@ use Rattle.layout.specs.Parts.{content_in}
 use Rattle.drafts.proofs.Marks.{times}
 use Rattle.layout.specs.Places.{is_data}
 use Rattle.layout.proofs.AllNumbers.{all-length}
+use Rattle.layout.proofs.FileNumbers.{pointers_pass}
 use Rattle.layout.proofs.OnGrid.{data_within}
 use Rattle.layout.proofs.Written.{not_same}
 use Rattle.inode.proofs.AllTests.{all_three, all_two, no_more}
@@ -75,7 +76,8 @@ module _ (g : Geometry) (base : Image) (tree : Tree) (n : ℕ) (inode : Inode)
   tests = all_three (is_sound_file inode) (is_sound_map g inode) (is_sound_regular inode) good
 
   pub size_fits : inode.size ≤ LARGEST_FILE
-  size_fits = no_more inode.size LARGEST_FILE (all_two (nat_le inode.size LARGEST_FILE) (nat_eq inode.parent 0) tests.2).0
+  size_fits = no_more inode.size LARGEST_FILE (all_two (nat_le inode.size LARGEST_FILE) (nat_eq inode.parent 0)
+      tests.2).0
 
   pub bytes_count : length (bytes_of content numbers) ≡ LARGEST_FILE
   bytes_count = let all = bytes-length content long_content numbers in let many = count in omega (arith, all, many)
@@ -87,13 +89,14 @@ module _ (g : Geometry) (base : Image) (tree : Tree) (n : ℕ) (inode : Inode)
       by_test true = refl
       by_test false = long_content q
 
-  module _ (offset : ℕ) (piece : List ℕ) (is : IsPiece offset piece) (b : ℕ) (direct : List ℕ) (far : ℕ)
-      (after : Image) (gained : List ℕ) (fills : Fills g base inode offset piece b direct far after gained) where
+  module _ (offset : ℕ) (piece : List ℕ) (is : IsPiece offset piece) (b : ℕ) (direct : List ℕ)
+      (far double : ℕ) (after : Image) (gained : List ℕ)
+      (fills : Fills g base inode offset piece b direct far double after gained) where
     abbrev index : ℕ
     index = offset / BLOCK_BYTES
 
     abbrev pub new : Inode
-    new = mapping inode (grown_size inode.size offset piece) direct far
+    new = mapping inode (grown_size inode.size offset piece) direct far double
 
     low : index < length numbers
     low = let many = count in let small = is.small in let some = is.some in omega (arith, many, small, some)
@@ -156,9 +159,10 @@ module _ (g : Geometry) (base : Image) (tree : Tree) (n : ℕ) (inode : Inode)
     rules_now : IsRegular g after new
     rules_now = record {
       mapped = record {
+        pointers = fills.pointers_placed;
         numbers = ap (list_all (is_data_block_or_none g)) fills.now
             ∙ all_still (is_data_block_or_none g) numbers index b rules.mapped.numbers (or_data g b fills.lies);
-        used = ap (λ l. nat_eq far 0 || list_any is_some (drop (length direct) l)) fills.now ∙ fills.used;
+        used = fills.used;
       };
       zeros = ap (λ l. is_zeros (drop (grown_size inode.size offset piece) l)) bytes_now
           ∙ zeros_behind (bytes_of content numbers) piece offset inode.size room few rules.zeros;
@@ -183,11 +187,17 @@ module _ (g : Geometry) (base : Image) (tree : Tree) (n : ℕ) (inode : Inode)
         count = fills.count;
         direct = fills.fit;
         indirect = fills.far_fits;
+        double = fills.double_fits;
       };
       good = subst (λ kind. is_sound_kind g kind new ≡ true) (sym has.regular)
-          (λ i. tests.0 i && (fills.placed i && fills.far_placed i) && (largest i && parent i));
+          (λ i. tests.0 i && (fills.placed i && named.0 i && named.1 i && fills.has_double i)
+          && (largest i && parent i));
     }
       where
+        named : (is_data_block_or_none g far ≡ true) × (is_data_block_or_none g double ≡ true)
+            × (list_all (is_data_block_or_none g) (numbers_in after double) ≡ true)
+        named = pointers_pass after new (is_data_block_or_none g) fills.pointers_placed
+
         largest : nat_le (grown_size inode.size offset piece) LARGEST_FILE ≡ true
         largest = let one = size_fits in let two = is.small in
             at_most (grown_size inode.size offset piece) LARGEST_FILE (omega (arith, one, two))
@@ -200,7 +210,7 @@ module _ (g : Geometry) (base : Image) (tree : Tree) (n : ℕ) (inode : Inode)
 
     counted : (q : ℕ) → times q (owned_by after (Ok (Some new)))
         ≡ times q gained + times q (owned_by content (Ok (Some inode)))
-    counted q = ap (λ l. times q (filter is_some (far ∷ l))) fills.now ∙ fills.counted q
+    counted q = ap (λ l. times q (filter is_some (pointer_blocks after new ++ l))) fills.now ∙ fills.counted q
 
     of_kind : IsOfKind g after new.kind new
     of_kind = subst (λ kind. IsOfKind g after kind new) (sym has.regular) rules_now

@@ -87,7 +87,11 @@ pub room_first : (tree : Tree) (node : Node) (offset len : ℕ) (text : List ℕ
     → cost (with_text offset (take len text) node.body) - cost node.body ≤ free tree
 room_first tree node offset len text some short room =
     let long = length-take-le len text short in
-    let less = costs_within offset (take len text) text node.body (omega (arith, long, some)) (omega (arith, long, short)) in
+    let less = costs_within offset (take len text) text node.body (omega (arith, long, some)) (omega (
+      arith,
+      long,
+      short,
+    )) in
     omega (arith, less, room)
 
 pub same_nodes : (tree : Tree) (n : ℕ) (a b : Node) → node_at tree n ≡ Some a → node_at tree n ≡ Some b → a ≡ b

@@ -1,4 +1,5 @@
--- Blocks of an image in which a file's block was written, its indirect block where one names it, and its inode.
+-- Blocks of an image in which a file's block was written, the pointer blocks that name it where some do, and the
+-- file's inode.
 use Rattle.std.proofs.Common.{◌≡◌, ℕ, ◌<◌, inl, inr, sym, ap, ◌∙◌, refl, subst, true, cond, List, length, replicate}
 use Rattle.std.proofs.Common.{Some, Ok, Err, arith}
 use Rattle.std.proofs.lemmas.Bool.{cases_lt, eq-eqb, lt-ltb}
@@ -27,7 +28,7 @@ use Rattle.file_writes.specs.Written.{IsWrite, node_written}
 use Rattle.file_writes.proofs.ImageWritten.{AreBlocks, block_parts, blocks_kept, inode_kept, inode_parts}
 use Rattle.file_writes.proofs.PieceWritten.{new_sound, piece_holds}
 
--- ---- bytes of an indirect block
+-- ---- bytes of a pointer block
 
 pub zeros_are : AreBytes (replicate BLOCK_BYTES 0)
 zeros_are index = elim (cases_lt index BLOCK_BYTES) [
@@ -49,9 +50,9 @@ module _ (g : Geometry) (base : Image) (tree : Tree) (n : ℕ) (inode : Inode) (
     (size : ℕ) (write : IsWrite g base tree n inode offset piece bytes size) (gained : List ℕ) (middle : Image)
     (taken : HasTaken g base tree gained middle)
     (long : (q : ℕ) → q < g.blocks → length (middle q) ≡ BLOCK_BYTES)
-    (count : length bytes ≡ BLOCK_BYTES) (b : ℕ) (direct : List ℕ) (far : ℕ) where
+    (count : length bytes ≡ BLOCK_BYTES) (b : ℕ) (direct : List ℕ) (far double : ℕ) where
   abbrev new : Inode
-  new = mapping inode (grown_size inode.size offset piece) direct far
+  new = mapping inode (grown_size inode.size offset piece) direct far double
 
   are : AreBlocks g middle
   are q low = (long q low, taken.bytes q low)
@@ -65,8 +66,8 @@ module _ (g : Geometry) (base : Image) (tree : Tree) (n : ℕ) (inode : Inode) (
 
   -- with this size in the inode
   abbrev pub Stores : Image → ℕ → Type 0
-  Stores image k = Next (with_inode g image n (mapping inode k direct far))
-      × Reads (with_inode g image n (mapping inode k direct far)) (mapping inode k direct far)
+  Stores image k = Next (with_inode g image n (mapping inode k direct far double))
+      × Reads (with_inode g image n (mapping inode k direct far double)) (mapping inode k direct far double)
 
   sized : (image : Image) → Stores image (grown_size inode.size offset piece) → Stores image size
   sized image stores = subst (Stores image) (sym write.size_is) stores
@@ -77,80 +78,89 @@ module _ (g : Geometry) (base : Image) (tree : Tree) (n : ℕ) (inode : Inode) (
       ∙ (λ i. (inode_parts g image n new blocks write.has.less is i).table n)
       ∙ ap (λ b. cond b (Ok (Some new)) (table_of g image n)) (eq-eqb n n refl)
 
-  -- whatever blocks these are, that have the marks, the file's blocks and its inode
-  all_parts : (image : Image) (content : Image) → parts_of g image
+  -- blocks that have the marks, and in the data blocks this content
+  abbrev HasContent : Image → Image → Type 0
+  HasContent image content = parts_of g image
       ≡ record (parts_of g base) { content = content; block_bits = marking gained (parts_of g base).block_bits }
-      → SoundInode g new → AreBlocks g image
-      → parts_of g (with_inode g image n new) ≡ grown g base n new content gained
-  all_parts image content is sound blocks =
-      inode_parts g image n new blocks write.has.less sound
-      ∙ (λ i. record (is i) { table = put (is i).table n (Ok (Some new)) })
 
-  module _ (fills : Fills g base inode offset piece b direct far (put (content_in g base) b bytes) gained) where
-    one_part : parts_of g (with_bytes middle b 0 bytes)
-        ≡ record (parts_of g base) {
-          content = put (content_in g base) b bytes;
-          block_bits = marking gained (parts_of g base).block_bits;
-        }
-    one_part = block_parts g middle b bytes are fills.lies count
-        ∙ (λ i. record (taken.parts i) { content = put (taken.parts i).content b bytes })
+  module _ (image content : Image) (part : HasContent image content) (kept : AreBlocks g image) where
+    -- with a block more
+    module _ (q : ℕ) (named : List ℕ) (lies : is_data g q ≡ true) (named_count : length named ≡ BLOCK_BYTES) where
+      more_part : HasContent (with_bytes image q 0 named) (put content q named)
+      more_part = block_parts g image q named kept lies named_count
+          ∙ (λ i. record (part i) { content = put (part i).content q named })
 
-    one_kept : AreBlocks g (with_bytes middle b 0 bytes)
-    one_kept = blocks_kept g middle b bytes are fills.lies count write.each
+      more_kept : AreBytes named → AreBlocks g (with_bytes image q 0 named)
+      more_kept each = blocks_kept g image q named kept lies named_count each
 
-    sound : SoundInode g new
-    sound = new_sound g base tree n inode write.has offset piece write.fits b direct far
-        (put (content_in g base) b bytes) gained fills
+    -- and with the file's inode, whatever blocks these are
+    module _ (fills : Fills g base inode offset piece b direct far double content gained) where
+      sound : SoundInode g new
+      sound = new_sound g base tree n inode write.has offset piece write.fits b direct far double content gained fills
 
-    pub stored : Stores (with_bytes middle b 0 bytes) size
-    stored = sized (with_bytes middle b 0 bytes) (
-      record {
-        bytes = inode_kept g (with_bytes middle b 0 bytes) n new one_kept write.has.less sound;
-        parts = subst (λ parts. PartsHold g parts (with_node tree n (node_written g base inode offset piece)))
-            (sym (all_parts (with_bytes middle b 0 bytes) (put (content_in g base) b bytes) one_part sound one_kept))
-            (piece_holds g base tree n inode write.has offset piece write.fits b direct far
-            (put (content_in g base) b bytes) gained fills);
-      },
-      read_again (with_bytes middle b 0 bytes) sound one_kept,
-    )
+      all_parts : parts_of g (with_inode g image n new) ≡ grown g base n new content gained
+      all_parts =
+          inode_parts g image n new kept write.has.less sound
+          ∙ (λ i. record (part i) { table = put (part i).table n (Ok (Some new)) })
 
-  module _ (named : List ℕ) (named_each : AreBytes named) (named_count : length named ≡ BLOCK_BYTES)
-      (far_lies : is_data g far ≡ true)
-      (fills : Fills g base inode offset piece b direct far (put (put (content_in g base) far named) b bytes) gained)
-    where
-      abbrev both : Image
-      both = put (put (content_in g base) far named) b bytes
-
-      first_part : parts_of g (with_bytes middle far 0 named)
-          ≡ record (parts_of g base) {
-            content = put (content_in g base) far named;
-            block_bits = marking gained (parts_of g base).block_bits;
-          }
-      first_part = block_parts g middle far named are far_lies named_count
-          ∙ (λ i. record (taken.parts i) { content = put (taken.parts i).content far named })
-
-      first_kept : AreBlocks g (with_bytes middle far 0 named)
-      first_kept = blocks_kept g middle far named are far_lies named_count named_each
-
-      both_parts : parts_of g (with_bytes (with_bytes middle far 0 named) b 0 bytes)
-          ≡ record (parts_of g base) { content = both; block_bits = marking gained (parts_of g base).block_bits }
-      both_parts = block_parts g (with_bytes middle far 0 named) b bytes first_kept fills.lies count
-          ∙ (λ i. record (first_part i) { content = put (first_part i).content b bytes })
-
-      both_kept : AreBlocks g (with_bytes (with_bytes middle far 0 named) b 0 bytes)
-      both_kept = blocks_kept g (with_bytes middle far 0 named) b bytes first_kept fills.lies count write.each
-
-      far_sound : SoundInode g new
-      far_sound = new_sound g base tree n inode write.has offset piece write.fits b direct far both gained fills
-
-      pub stored_far : Stores (with_bytes (with_bytes middle far 0 named) b 0 bytes) size
-      stored_far = sized (with_bytes (with_bytes middle far 0 named) b 0 bytes) (
+      all_stored : Stores image size
+      all_stored = sized image (
         record {
-          bytes = inode_kept g (with_bytes (with_bytes middle far 0 named) b 0 bytes) n new both_kept write.has.less
-              far_sound;
+          bytes = inode_kept g image n new kept write.has.less sound;
           parts = subst (λ parts. PartsHold g parts (with_node tree n (node_written g base inode offset piece)))
-              (sym (all_parts (with_bytes (with_bytes middle far 0 named) b 0 bytes) both both_parts far_sound both_kept))
-              (piece_holds g base tree n inode write.has offset piece write.fits b direct far both gained fills);
+              (sym all_parts)
+              (piece_holds g base tree n inode write.has offset piece write.fits b direct far double content gained
+              fills);
         },
-        read_again (with_bytes (with_bytes middle far 0 named) b 0 bytes) far_sound both_kept,
+        read_again image sound kept,
       )
+
+  -- the block alone
+  module _ (fills : Fills g base inode offset piece b direct far double (put (content_in g base) b bytes) gained) where
+    pub stored : Stores (with_bytes middle b 0 bytes) size
+    stored = all_stored (with_bytes middle b 0 bytes) (put (content_in g base) b bytes)
+        (more_part middle (content_in g base) taken.parts are b bytes fills.lies count)
+        (more_kept middle (content_in g base) taken.parts are b bytes fills.lies count write.each) fills
+
+  -- a pointer block too
+  module _ (holder : ℕ) (named : List ℕ) (named_each : AreBytes named) (named_count : length named ≡ BLOCK_BYTES)
+      (holder_lies : is_data g holder ≡ true) where
+    abbrev one_content : Image
+    one_content = put (content_in g base) holder named
+
+    abbrev one_image : Image
+    one_image = with_bytes middle holder 0 named
+
+    one_part : HasContent one_image one_content
+    one_part = more_part middle (content_in g base) taken.parts are holder named holder_lies named_count
+
+    one_kept : AreBlocks g one_image
+    one_kept = more_kept middle (content_in g base) taken.parts are holder named holder_lies named_count named_each
+
+    module _ (fills : Fills g base inode offset piece b direct far double (put one_content b bytes) gained) where
+      pub stored_far : Stores (with_bytes one_image b 0 bytes) size
+      stored_far = all_stored (with_bytes one_image b 0 bytes) (put one_content b bytes)
+          (more_part one_image one_content one_part one_kept b bytes fills.lies count)
+          (more_kept one_image one_content one_part one_kept b bytes fills.lies count write.each) fills
+
+    -- and another that it names
+    module _ (inner : ℕ) (inner_named : List ℕ) (inner_each : AreBytes inner_named)
+        (inner_count : length inner_named ≡ BLOCK_BYTES) (inner_lies : is_data g inner ≡ true)
+        (fills : Fills g base inode offset piece b direct far double
+        (put (put one_content inner inner_named) b bytes) gained) where
+      abbrev two_content : Image
+      two_content = put one_content inner inner_named
+
+      abbrev two_image : Image
+      two_image = with_bytes one_image inner 0 inner_named
+
+      two_part : HasContent two_image two_content
+      two_part = more_part one_image one_content one_part one_kept inner inner_named inner_lies inner_count
+
+      two_kept : AreBlocks g two_image
+      two_kept = more_kept one_image one_content one_part one_kept inner inner_named inner_lies inner_count inner_each
+
+      pub stored_double : Stores (with_bytes two_image b 0 bytes) size
+      stored_double = all_stored (with_bytes two_image b 0 bytes) (put two_content b bytes)
+          (more_part two_image two_content two_part two_kept b bytes fills.lies count)
+          (more_kept two_image two_content two_part two_kept b bytes fills.lies count write.each) fills

@@ -41,6 +41,7 @@ has_regular snap base tree n inode has is = record {
   less = has.less;
   read = has.there;
   regular = is;
+  newest = snap.newest;
 }
 
 pub has_inode : (draft : Drafted) (blocks : Image) (tree : Tree) (n : ℕ) (inode : Inode)
@@ -123,6 +124,7 @@ regular_of draft blocks tree n inode is names = record {
   less = names.less;
   read = names.read;
   regular = names.regular;
+  newest = draft.there.newest;
 }
 
 -- its node
@@ -147,16 +149,16 @@ pub moved_piece : (old new : Drafted) (blocks image : Image) (tree : Tree) (n : 
     (with_node tree n (node_written old.there.geometry (image_of blocks old) inode offset piece))
     × (inode_at old.there.geometry image n ≡ Ok (Some next))
     → PutsPiece old new blocks tree n inode made offset piece
-moved_piece old new blocks image tree n inode next made offset piece geometry is shows less regular same stores = record {
-  is = moved_draft old new blocks image
-      (with_node tree n (node_written old.there.geometry (image_of blocks old) inode offset piece)) geometry is shows
-      stores.0;
-  names = record {
-    less = subst (λ (g : Geometry). n < g.inodes) (sym geometry) less;
-    read = (λ i. inode_at (geometry i) (is i) n) ∙ stores.1 ∙ (λ i. Ok (Some (sym same i)));
-    regular = ap (λ (one : Inode). one.kind) same ∙ regular;
-  };
-}
+moved_piece old new blocks image tree n inode next made offset piece geometry is shows less regular same stores =
+    record {
+      is = let written = node_written old.there.geometry (image_of blocks old) inode offset piece in
+          moved_draft old new blocks image (with_node tree n written) geometry is shows stores.0;
+      names = record {
+        less = subst (λ (g : Geometry). n < g.inodes) (sym geometry) less;
+        read = (λ i. inode_at (geometry i) (is i) n) ∙ stores.1 ∙ (λ i. Ok (Some (sym same i)));
+        regular = ap (λ (one : Inode). one.kind) same ∙ regular;
+      };
+    }
 
 -- the file has the text
 pub piece_text : (old new : Drafted) (blocks : Image) (tree : Tree) (n : ℕ) (inode next : Inode) (offset : ℕ)

@@ -2,3 +2,4 @@ pub mod Filling
 pub mod Written
 pub mod Adding
 pub mod Spent
+pub mod Inner

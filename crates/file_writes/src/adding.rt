@@ -1,22 +1,23 @@
 //! What bytes that are written add to the blocks of a file.
 ghost use Rattle.std.specs.Prelude.{ℕ, ◌≡◌, ◌+◌, ◌-◌, ◌<◌, ◌≤◌, List, length, cond, nat_eq, IfErr, IfOk};
-ghost use Rattle.limits.specs.declared.TheConstants.{FILE_INDEXES, LARGEST_FILE};
+ghost use Rattle.limits.specs.declared.TheConstants.{FILE_INDEXES, INDIRECT_INDEXES, LARGEST_FILE};
 ghost use Rattle.disk.specs.Crash.{Image};
 ghost use Rattle.std.specs.List.{range_with_len};
 ghost use Rattle.model.specs.Cost.{cost, file_cost};
 ghost use Rattle.model.specs.Tree.{Tree};
 ghost use Rattle.procedures.specs.Write.{mapped_with, with_text};
-ghost use Rattle.layout.specs.Decode.{mapped_of, numbers_of};
+ghost use Rattle.layout.specs.Decode.{mapped_of, numbers_in, numbers_of};
 ghost use Rattle.layout.specs.Fields.{count_of};
 ghost use Rattle.layout.specs.Parts.{content_in};
 ghost use Rattle.inode.specs.Over.{HasInode, IsPause, MayStop};
 ghost use Rattle.inode.specs.Shown.{body_in};
-ghost use Rattle.file_writes.specs.Adding.{filled_up};
+ghost use Rattle.file_writes.specs.Adding.{filled_up, missing_between, new_indirect, new_pointers};
 ghost use Rattle.file_writes.specs.Filling.{HasRegular};
 
-use inode::{Snap, Stop, block_number};
+use crate::doubles::inner_of;
+use inode::{Snap, Stop, block_number, inner_number};
 use layout::{Inode, InodeKind};
-use limits::{BLOCK_BYTES, DIRECT_INDEXES};
+use limits::{BLOCK_BYTES, DIRECT_INDEXES, FIRST_DOUBLE_INDEX};
 
 // One for no block.
 fn one_if_none(number: u32) -> u32
@@ -48,6 +49,63 @@ fn missing(snap: &Snap, inode: &Inode, first: usize, count: usize) -> Result<u32
     Ok(missing)
 }
 
+// Whether bytes that are written from one index of a file to another add an indirect block to it.
+fn adds_indirect(inode: &Inode, first: usize, last: usize) -> u32
+    ensures few { result ≤ 1 }
+    ensures is { result ≡ new_indirect inode.now first last }
+{
+    if inode.indirect == 0 && first < FIRST_DOUBLE_INDEX && last >= DIRECT_INDEXES {
+        1
+    } else {
+        0
+    }
+}
+
+// How many of the inner blocks from one on up to another a file doesn't have.
+fn missing_inner(snap: &Snap, inode: &Inode, first: usize, count: usize) -> Result<u32, Stop>
+    requires { first + count ≤ INDIRECT_INDEXES }
+    ensures few { IfOk result (λ missing. missing ≤ count) }
+    ensures ok { IfOk result (λ missing. (blocks : Image) (tree : Tree) (file : ℕ)
+        → HasInode snap.now blocks tree file inode.now
+        → missing ≡ missing_between (numbers_in (content_in snap.now.geometry blocks) inode.now.double) first count) }
+    ensures err { IfErr result (λ stop. MayStop snap.now stop) }
+    ensures pause { IfErr result (λ stop. (blocks : Image) (tree : Tree) (file : ℕ)
+        → HasInode snap.now blocks tree file inode.now → IsPause stop) }
+{
+    let mut missing = 0;
+    'inner: for step in 0..count {
+        match inner_number(snap, inode, first + step) {
+            Ok(number) => missing += one_if_none(number),
+            Err(stop) => return Err(stop),
+        }
+    }
+    Ok(missing)
+}
+
+// How many pointer blocks bytes that are written from one index of a file to another add to it.
+fn new_pointers(snap: &Snap, inode: &Inode, first: usize, last: usize) -> Result<u32, Stop>
+    requires order { first ≤ last }
+    requires within { last < FILE_INDEXES }
+    ensures few { IfOk result (λ added. added ≤ INDIRECT_INDEXES + 2) }
+    ensures ok { IfOk result (λ added. (blocks : Image) (tree : Tree) (file : ℕ)
+        → HasInode snap.now blocks tree file inode.now
+        → added ≡ new_pointers (content_in snap.now.geometry blocks) inode.now first last) }
+    ensures err { IfErr result (λ stop. MayStop snap.now stop) }
+    ensures pause { IfErr result (λ stop. (blocks : Image) (tree : Tree) (file : ℕ)
+        → HasInode snap.now blocks tree file inode.now → IsPause stop) }
+{
+    let indirect = adds_indirect(inode, first, last);
+    if last < FIRST_DOUBLE_INDEX {
+        return Ok(indirect);
+    }
+    let least = inner_of(first.max(FIRST_DOUBLE_INDEX));
+    let count = inner_of(last) + 1 - least;
+    match missing_inner(snap, inode, least, count) {
+        Ok(missing) => Ok(indirect + one_if_none(inode.double) + missing),
+        Err(stop) => Err(stop),
+    }
+}
+
 // What bytes that are written from one index of a regular file to another add to its blocks.
 fn unmapped_between(snap: &Snap, inode: &Inode, first: usize, last: usize) -> Result<u32, Stop>
     requires order { first ≤ last }
@@ -65,13 +123,10 @@ fn unmapped_between(snap: &Snap, inode: &Inode, first: usize, last: usize) -> Re
         Ok(missing) => missing,
         Err(stop) => return Err(stop),
     };
-    if last < DIRECT_INDEXES {
-        return Ok(missing);
+    match new_pointers(snap, inode, first, last) {
+        Ok(pointers) => Ok(missing + pointers),
+        Err(stop) => Err(stop),
     }
-    if inode.indirect == 0 {
-        return Ok(missing + 1);
-    }
-    Ok(missing)
 }
 
 /// What so many bytes that are written to a file add to its blocks.

@@ -3,6 +3,7 @@
 
 mod adding;
 mod blocks;
+mod doubles;
 mod inodes;
 mod mapping;
 mod pieces;

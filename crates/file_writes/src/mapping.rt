@@ -1,6 +1,6 @@
 //! A block of a file with new bytes in it, where it lies or in a free one.
 ghost use Rattle.std.specs.Prelude.{ℕ, ◌≡◌, ◌+◌, ◌-◌, ◌/◌, ◌<◌, ◌≤◌, List, length, nat_eq, true, IfErr, IfOk, OnOk};
-ghost use Rattle.limits.specs.declared.TheConstants.{BLOCK_BYTES, DIRECT_INDEXES, FILE_INDEXES};
+ghost use Rattle.limits.specs.declared.TheConstants.{BLOCK_BYTES, DIRECT_INDEXES, FIRST_DOUBLE_INDEX};
 ghost use Rattle.disk.specs.Crash.{Image};
 ghost use Rattle.model.specs.Tree.{Tree, free};
 ghost use Rattle.layout.specs.Places.{is_data};
@@ -37,8 +37,8 @@ pub(crate) fn rewrite(
         → block ≡ number_at draft.old.there.geometry (image_of blocks draft.old) inode.old (offset / BLOCK_BYTES)
         → PutsPiece draft.old draft.new blocks tree number inode.old inode.new offset piece) }
     ensures seen { draft.new.seen ≡ draft.old.seen }
-    ensures once { spent draft.new + unspent draft.new number inode.new.indirect
-        ≤ spent draft.old + unspent draft.old number inode.old.indirect + 1 }
+    ensures once { spent draft.new + unspent draft.new number inode.new.indirect inode.new.double
+        ≤ spent draft.old + unspent draft.old number inode.old.indirect inode.old.double + 1 }
     ensures err { IfErr result (λ stop. MayStop draft.old.seen stop) }
     ensures pause { IfErr result (λ stop. number < draft.old.there.geometry.inodes → IsPause stop) }
 {
@@ -70,8 +70,8 @@ pub(crate) fn map_near(
     ensures room { IfOk result (λ done. (blocks : Image) (tree : Tree) → IsDraft draft.old blocks tree
         → 1 ≤ free tree → done ≡ true) }
     ensures seen { draft.new.seen ≡ draft.old.seen }
-    ensures once { spent draft.new + unspent draft.new number inode.new.indirect
-        ≤ spent draft.old + unspent draft.old number inode.old.indirect + 1 }
+    ensures once { spent draft.new + unspent draft.new number inode.new.indirect inode.new.double
+        ≤ spent draft.old + unspent draft.old number inode.old.indirect inode.old.double + 1 }
     ensures err { IfErr result (λ stop. MayStop draft.old.seen stop) }
     ensures pause { IfErr result (λ stop. (blocks : Image) (tree : Tree) → IsDraft draft.old blocks tree
         → number < draft.old.there.geometry.inodes → IsPause stop) }
@@ -103,7 +103,7 @@ pub(crate) fn map_far(
 ) -> Result<bool, Stop>
     requires far { is_data draft.old.there.geometry inode.old.indirect ≡ true }
     requires past { DIRECT_INDEXES ≤ index }
-    requires within { index < FILE_INDEXES }
+    requires within { index < FIRST_DOUBLE_INDEX }
     requires len { length bytes.items ≡ BLOCK_BYTES }
     ensures ok { IfOk result (λ done. done ≡ true
         → (blocks : Image) (tree : Tree) (offset : ℕ) (piece : List ℕ) → IsDraft draft.old blocks tree
@@ -115,8 +115,8 @@ pub(crate) fn map_far(
     ensures room { IfOk result (λ done. (blocks : Image) (tree : Tree) → IsDraft draft.old blocks tree
         → 1 ≤ free tree → done ≡ true) }
     ensures seen { draft.new.seen ≡ draft.old.seen }
-    ensures once { spent draft.new + unspent draft.new number inode.new.indirect
-        ≤ spent draft.old + unspent draft.old number inode.old.indirect + 1 }
+    ensures once { spent draft.new + unspent draft.new number inode.new.indirect inode.new.double
+        ≤ spent draft.old + unspent draft.old number inode.old.indirect inode.old.double + 1 }
     ensures err { IfErr result (λ stop. MayStop draft.old.seen stop) }
     ensures pause { IfErr result (λ stop. (blocks : Image) (tree : Tree) → IsDraft draft.old blocks tree
         → number < draft.old.there.geometry.inodes → IsPause stop) }
@@ -154,7 +154,7 @@ pub(crate) fn map_first(
 ) -> Result<bool, Stop>
     requires none { nat_eq inode.old.indirect 0 ≡ true }
     requires past { DIRECT_INDEXES ≤ index }
-    requires within { index < FILE_INDEXES }
+    requires within { index < FIRST_DOUBLE_INDEX }
     requires len { length bytes.items ≡ BLOCK_BYTES }
     ensures ok { IfOk result (λ done. done ≡ true
         → (blocks : Image) (tree : Tree) (offset : ℕ) (piece : List ℕ) → IsDraft draft.old blocks tree
@@ -166,8 +166,8 @@ pub(crate) fn map_first(
     ensures room { IfOk result (λ done. (blocks : Image) (tree : Tree) → IsDraft draft.old blocks tree
         → 2 ≤ free tree → done ≡ true) }
     ensures seen { draft.new.seen ≡ draft.old.seen }
-    ensures once { spent draft.new + unspent draft.new number inode.new.indirect
-        ≤ spent draft.old + unspent draft.old number inode.old.indirect + 1 }
+    ensures once { spent draft.new + unspent draft.new number inode.new.indirect inode.new.double
+        ≤ spent draft.old + unspent draft.old number inode.old.indirect inode.old.double + 1 }
     ensures err { IfErr result (λ stop. MayStop draft.old.seen stop) }
     ensures pause { IfErr result (λ stop. (blocks : Image) (tree : Tree) → IsDraft draft.old blocks tree
         → number < draft.old.there.geometry.inodes → IsPause stop) }

@@ -49,7 +49,7 @@ fn write_all(
         → node_at tree number ≡ Some node
         → cost (with_text offset text.now node.body) - cost node.body ≤ free tree → done ≡ true) }
     ensures seen { draft.new.seen ≡ draft.old.seen }
-    ensures spent { length text.now ≤ TRANSFER_BYTES → spent draft.new ≤ spent draft.old + 35 }
+    ensures spent { length text.now ≤ TRANSFER_BYTES → spent draft.new ≤ spent draft.old + 70 }
     ensures err { IfErr result (λ stop. MayStop draft.old.seen stop) }
     ensures pause { IfErr result (λ stop. (blocks : Image) (tree : Tree) → IsDraft draft.old blocks tree
         → NamesRegular draft.old blocks number inode.now → IsPause stop) }
@@ -92,7 +92,7 @@ pub fn write(
         → IsDraft draft.old blocks tree → node_at tree number ≡ Some node
         → cost (with_text offset text.now node.body) - cost node.body ≤ free tree → done ≡ true) }
     ensures seen { draft.new.seen ≡ draft.old.seen }
-    ensures spent { length text.now ≤ TRANSFER_BYTES → spent draft.new ≤ spent draft.old + 35 }
+    ensures spent { length text.now ≤ TRANSFER_BYTES → spent draft.new ≤ spent draft.old + 70 }
     ensures err { IfErr result (λ stop. MayStop draft.old.seen stop) }
     ensures pause { IfErr result (λ stop. (blocks : Image) (tree : Tree) → IsDraft draft.old blocks tree
         → IsPause stop) }

@@ -123,7 +123,7 @@ pub trait ChangingFiles: Files {
         requires small { offset + length text.now ≤ LARGEST_FILE }
         ensures err { IfErr result (λ stop. Self.may_stop (Self.source self.old) stop) }
         ensures source { Self.source self.new ≡ Self.source self.old }
-        ensures spent { length text.now ≤ TRANSFER_BYTES → spent self.new ≤ spent self.old + 36 }
+        ensures spent { length text.now ≤ TRANSFER_BYTES → spent self.new ≤ spent self.old + 71 }
         ensures pause { IfErr result (λ stop. (world : Self.World) (tree : Tree)
             → Self.stands self.old world tree → Self.is_pause stop) }
         ensures ok { IfOk result (λ next. (world : Self.World) (tree : Tree) (node : Node)
@@ -140,7 +140,7 @@ pub trait ChangingFiles: Files {
         requires { size ≤ LARGEST_FILE }
         ensures err { IfErr result (λ stop. Self.may_stop (Self.source self.old) stop) }
         ensures source { Self.source self.new ≡ Self.source self.old }
-        ensures spent { spent self.new ≤ spent self.old + 3 }
+        ensures spent { spent self.new ≤ spent self.old + 5 }
         ensures pause { IfErr result (λ stop. (world : Self.World) (tree : Tree)
             → Self.stands self.old world tree → Self.is_pause stop) }
         ensures ok { IfOk result (λ next. (world : Self.World) (tree : Tree) (node : Node)

@@ -1,6 +1,6 @@
 -- What is found in one file more.
 use Rattle.std.proofs.Common.{◌≡◌, ℕ, suc, ◌+◌, inl, inr, ◌⊎◌, sym, ap, ◌∙◌, refl, subst, Bool, true, false}
-use Rattle.std.proofs.Common.{List, [], ◌∷◌, ◌++◌, filter, get_or, Option, Some, None, Ok, arith}
+use Rattle.std.proofs.Common.{List, [], ◌∷◌, ◌++◌, get_or, Option, Some, None, Ok, arith}
 use Rattle.std.specs.List.{flat_map, range_with_len}
 use Rattle.std.proofs.lemmas.Bool.{cases_lt}
 use Rattle.std.proofs.lemmas.List.{append-nil}
@@ -8,12 +8,11 @@ use Rattle.std.proofs.lemmas.List.Concat.{flat_map-append}
 use Rattle.disk.specs.Crash.{Image}
 use Rattle.layout.specs.declared.geometry.Geometry.{Geometry}
 use Rattle.layout.specs.declared.inode.Inode.{Inode}
-use Rattle.layout.specs.Decode.{numbers_of}
 use Rattle.layout.specs.Owners.{owned_by}
 use Rattle.tallies.specs.Tally.{AreCounts, IsOwned, Owned}
 use Rattle.image_links.specs.declared.links.Links.{Links}
 use Rattle.image_files.proofs.SlotBlocks.{range_more}
-use Rattle.file_counts.specs.Adds.{AreNamed, for_directories, is_some, named_children}
+use Rattle.file_counts.specs.Adds.{AreNamed, for_directories, named_children}
 use Rattle.image_bodies.specs.declared.found.Found.{Found}
 use Rattle.image_bodies.specs.Bodies.{HasBlocks, IsAdded, IsFound, IsLookedAt, IsTidy, all_owned}
 use Rattle.image_bodies.specs.Bodies.{first_untidy, names_at}
@@ -54,15 +53,15 @@ module _ (g : Geometry) (content : Image) (table : List (Option Inode)) where
   }
 
   -- a file adds what was met and counted
-  pub file_added : (number : ℕ) (inode : Inode) (numbers : List ℕ) (old : Found) (owners : Owned) (links : Links)
-      (tidy : Bool) (untidy : Option ℕ) → numbers ≡ numbers_of content inode
-      → ((met : List ℕ) → IsOwned met old.owners → IsOwned (met ++ filter is_some (inode.indirect ∷ numbers)) owners)
+  pub file_added : (number : ℕ) (inode : Inode) (old : Found) (owners : Owned) (links : Links)
+      (tidy : Bool) (untidy : Option ℕ)
+      → ((met : List ℕ) → IsOwned met old.owners → IsOwned (met ++ owned_by content (Ok (Some inode))) owners)
       → IsLookedAt g content table number inode.kind inode old.links links tidy
       → untidy ≡ first_untidy old.untidy number tidy
       → IsAdded g content table number (Some inode) old
       (record { owners = owners; links = links; untidy = untidy })
-  file_added number inode numbers old owners links tidy untidy are owned looked is = record {
-    owned = λ met before. subst (λ l. IsOwned (met ++ filter is_some (inode.indirect ∷ l)) owners) are (owned met before);
+  file_added number inode old owners links tidy untidy owned looked is = record {
+    owned = owned;
     named = looked.named;
     tidy = λ none. let both = still_tidy old.untidy tidy (sym is ∙ none) in (both.0, looked.yes both.1);
     untidy = λ first some. elim (then_untidy old.untidy tidy first (sym is ∙ some)) [

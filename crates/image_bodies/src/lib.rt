@@ -2,6 +2,7 @@
 #![tactic(auto)]
 
 mod found;
+mod inner;
 mod looking;
 mod progress;
 

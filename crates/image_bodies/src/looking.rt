@@ -1,18 +1,20 @@
 //! The files of an image.
-ghost use Rattle.std.specs.Prelude.{◌≡◌, ◌<◌, ◌≤◌, ℕ, None, Some, get_or, length, true, IfOk, IsErrOf, OnOk};
+ghost use Rattle.std.specs.Prelude.{◌≡◌, ◌&&◌, ◌<◌, ◌≤◌, ℕ, None, Some, get_or, length, true, IfOk, IsErrOf, OnOk};
 ghost use Rattle.std.specs.List.{list_all};
-ghost use Rattle.limits.specs.declared.TheConstants.{FILE_INDEXES};
-ghost use Rattle.layout.specs.Decode.{numbers_of};
+ghost use Rattle.limits.specs.declared.TheConstants.{FIRST_DOUBLE_INDEX};
 ghost use Rattle.layout.specs.InodeForm.{SoundInode, is_data_block_or_none};
 ghost use Rattle.layout.specs.declared.inode.InodeKind.TheVariants.{Directory};
 ghost use Rattle.wal_law.specs.Recovery.{HasOnlyRead, IsUnspoiled};
 ghost use Rattle.image_parts.specs.Table.{CountsPart};
 ghost use Rattle.image_files.specs.Content.{content_on};
+ghost use Rattle.image_files.specs.Far.{near_of};
 ghost use Rattle.image_files.specs.Slots.{IsSpanned};
 ghost use Rattle.image_links.specs.Linked.{HasCounts};
 ghost use Rattle.image_bodies.specs.Bodies.{AreAsRead, FitsFound, HasBlocks, HasBlocksOf, IsAdded, IsFound};
 ghost use Rattle.image_bodies.specs.Bodies.{IsLookedAt, first_untidy};
+ghost use Rattle.image_bodies.specs.Inner.{is_zero_below};
 
+use crate::inner::{both, look_below};
 use crate::{Found, Progress};
 use disk::CrashDisk;
 use file_counts::{count_names, meet_blocks};
@@ -145,11 +147,13 @@ fn look_at_file<D: CrashDisk>(
 {
     let numbers = read_numbers(alloc, disk, overlay, geometry, inode)?;
     meet_blocks(&mut found.owners, inode.indirect, &numbers);
+    let owners = &mut found.owners;
+    let further = look_below(alloc, disk, overlay, geometry, inode, owners)?;
     let links = &mut found.links;
     let tidy = look_inside(
         alloc, disk, overlay, geometry, table, number, inode, &numbers, links,
     )?;
-    found.untidy = first_untidy(found.untidy, number, tidy);
+    found.untidy = first_untidy(found.untidy, number, both(tidy, further));
     Ok(())
 }
 
@@ -163,7 +167,8 @@ fn first_untidy(first: Option<u32>, number: u32, tidy: bool) -> Option<u32>
     }
 }
 
-// Looks at what lies in a file's blocks, which have these numbers, and tells whether it is tidy.
+// Looks at what lies in a file's blocks in front of its double indirect block, which have these numbers, and tells
+// whether it is tidy, if nothing lies past its size in those behind.
 #[tactic(auto, using(wal_law::proofs::OnlyRead::reads_then, wal_law::proofs::OnlyRead::no_read))]
 fn look_inside<D: CrashDisk>(
     alloc: Global,
@@ -180,7 +185,7 @@ fn look_inside<D: CrashDisk>(
     requires table { length table.now ≡ geometry.now.inodes }
     requires number { number < geometry.now.inodes }
     requires counts { HasCounts geometry.now.inodes links.old }
-    requires numbers { length numbers.now ≡ FILE_INDEXES }
+    requires numbers { length numbers.now ≡ FIRST_DOUBLE_INDEX }
     requires placed { list_all (is_data_block_or_none geometry.now) numbers.now ≡ true }
     ensures reads { HasOnlyRead (D.device disk.old) (D.device disk.new) }
     ensures failure { CountsPart (D.device disk.old) (D.device disk.new) result }
@@ -188,14 +193,14 @@ fn look_inside<D: CrashDisk>(
     ensures counts { IfOk result (λ _. HasCounts geometry.now.inodes links.new) }
     ensures looked { D.keeps_model disk.new → IsUnspoiled (D.device disk.old)
         → AreAsRead geometry.now (content_on geometry.now overlay.now (D.device disk.old)) table.now
-        → SoundInode geometry.now inode.now → numbers.now ≡ numbers_of
+        → SoundInode geometry.now inode.now → numbers.now ≡ near_of
         (content_on geometry.now overlay.now (D.device disk.old)) inode.now
         → IfOk result (λ tidy. IsLookedAt geometry.now
         (content_on geometry.now overlay.now (D.device disk.old)) table.now number inode.now.kind inode.now links.old links.new
-        tidy) }
+        (tidy && is_zero_below (content_on geometry.now overlay.now (D.device disk.old)) inode.now)) }
     ensures refused { D.keeps_model disk.new → IsUnspoiled (D.device disk.old)
         → AreAsRead geometry.now (content_on geometry.now overlay.now (D.device disk.old)) table.now
-        → SoundInode geometry.now inode.now → numbers.now ≡ numbers_of
+        → SoundInode geometry.now inode.now → numbers.now ≡ near_of
         (content_on geometry.now overlay.now (D.device disk.old)) inode.now
         → IsErrOf result PartFault.Range → HasBlocksOf geometry.now
         (content_on geometry.now overlay.now (D.device disk.old)) inode.now.kind inode.now → ⊥ }
@@ -231,7 +236,7 @@ fn look_at_slots<D: CrashDisk>(
     requires table { length table.now ≡ geometry.now.inodes }
     requires number { number < geometry.now.inodes }
     requires counts { HasCounts geometry.now.inodes links.old }
-    requires numbers { length numbers.now ≡ FILE_INDEXES }
+    requires numbers { length numbers.now ≡ FIRST_DOUBLE_INDEX }
     requires placed { list_all (is_data_block_or_none geometry.now) numbers.now ≡ true }
     ensures reads { HasOnlyRead (D.device disk.old) (D.device disk.new) }
     ensures failure { CountsPart (D.device disk.old) (D.device disk.new) result }
@@ -239,12 +244,13 @@ fn look_at_slots<D: CrashDisk>(
     ensures counts { IfOk result (λ _. HasCounts geometry.now.inodes links.new) }
     ensures looked { D.keeps_model disk.new → IsUnspoiled (D.device disk.old)
         → AreAsRead geometry.now (content_on geometry.now overlay.now (D.device disk.old)) table.now
-        → numbers.now ≡ numbers_of (content_on geometry.now overlay.now (D.device disk.old)) inode.now
+        → SoundInode geometry.now inode.now → inode.now.kind ≡ Directory
+        → numbers.now ≡ near_of (content_on geometry.now overlay.now (D.device disk.old)) inode.now
         → IfOk result (λ tidy. IsLookedAt geometry.now
         (content_on geometry.now overlay.now (D.device disk.old)) table.now number Directory inode.now links.old links.new tidy) }
     ensures refused { D.keeps_model disk.new → IsUnspoiled (D.device disk.old)
         → AreAsRead geometry.now (content_on geometry.now overlay.now (D.device disk.old)) table.now
-        → numbers.now ≡ numbers_of (content_on geometry.now overlay.now (D.device disk.old)) inode.now
+        → numbers.now ≡ near_of (content_on geometry.now overlay.now (D.device disk.old)) inode.now
         → IsErrOf result PartFault.Range
         → IsSpanned geometry.now.inodes
         (content_on geometry.now overlay.now (D.device disk.old)) inode.now numbers.now → ⊥ }

@@ -1,9 +1,7 @@
 -- A file is one by what was seen of its blocks, and back.
-use Rattle.std.proofs.Common.{◌≡◌, ℕ, ◌*◌, ◌/◌, ◌%◌, ◌≤◌, sym, ap, ◌∙◌, refl, subst, true, false, cond, not}
-use Rattle.std.proofs.Common.{◌&&◌, ◌||◌, All, IsOk, length, drop, get_or, min, is_none, nat_eq, nat_le, nat_lt, Some, Ok, arith}
-use Rattle.std.specs.List.{list_any}
+use Rattle.std.proofs.Common.{◌≡◌, ℕ, ◌*◌, refl, subst, true, All, IsOk, get_or, Some, Ok, arith}
 use Rattle.std.proofs.lemmas.List.FromFn.{get_or-range_with_len, length-range_with_len}
-use Rattle.limits.specs.declared.TheConstants.{BLOCK_BYTES, DIRECT_INDEXES, FILE_INDEXES, LARGEST_DIRECTORY, SLOTS_PER_BLOCK, TARGET_BYTES}
+use Rattle.limits.specs.declared.TheConstants.{SLOTS_PER_BLOCK}
 use Rattle.disk.specs.Crash.{Image}
 use Rattle.nfs_types.specs.Fits.{AreBytes}
 use Rattle.layout.specs.declared.geometry.Geometry.{Geometry}
@@ -11,53 +9,24 @@ use Rattle.layout.specs.declared.inode.Inode.{Inode}
 use Rattle.layout.specs.declared.inode.InodeKind.{InodeKind}
 use Rattle.layout.specs.declared.inode.InodeKind.TheVariants.{Directory, Link, Regular}
 use Rattle.layout.specs.Decode.{IsDirectory, IsFile, IsMapped, IsOfKind, numbers_of, slot_bytes, slots_of, span_of}
-use Rattle.layout.specs.InodeForm.{SoundInode, is_sound_directory, is_sound_file, is_sound_inode, is_sound_kind, is_sound_link, is_sound_map}
-use Rattle.layout.specs.InodeForm.{names_first}
+use Rattle.layout.specs.InodeForm.{SoundInode, is_sound_inode, is_sound_kind}
 use Rattle.layout.specs.SlotForm.{read_slot}
-use Rattle.layout.proofs.AllNumbers.{all-length, all_placed}
-use Rattle.inode.proofs.AllTests.{all_five, all_seven, all_three, all_two, no_more}
+use Rattle.layout.proofs.AllNumbers.{all-length, maps}
 use Rattle.image_files.specs.Slots.{IsSpanned}
+use Rattle.image_files.proofs.AllMapped.{all_mapped, near_mapped, no_below, no_row}
+use Rattle.image_law.proofs.SoundKinds.{few_spanned, no_double_of_link, no_indirect_of_link}
 use Rattle.image_law.specs.TreeOf.{HasNames}
 use Rattle.directory_law.proofs.Directory.{are_names, has_names, once}
 use Rattle.image_bodies.specs.Bodies.{HasBlocksOf, IsTidyOf}
 use Rattle.image_check.proofs.SlotBytes.{slots_are_bytes}
 
-none_is : (n : ℕ) → nat_eq n 0 ≡ true → nat_eq n 0 ≡ false → ⊥
-none_is n is not = let clash : true ≡ false = sym is ∙ not in cc
-
 module _ (g : Geometry) (content : Image) (inode : Inode) (sound : SoundInode g inode) where
-  -- ---- what a sound inode tells
-
-  few_blocks : is_sound_kind g Directory inode ≡ true → span_of inode ≤ FILE_INDEXES
-  few_blocks good =
-      let three = all_three (is_sound_file inode) (is_sound_map g inode) (is_sound_directory g inode) good in
-      let last = all_two (nat_le 2 inode.nlink && nat_le inode.size LARGEST_DIRECTORY
-      && nat_eq (inode.size % BLOCK_BYTES) 0 && nat_lt 0 inode.parent && nat_lt inode.parent g.inodes
-      && names_first (min (inode.size / BLOCK_BYTES) DIRECT_INDEXES) inode.direct
-      && (cond (nat_lt DIRECT_INDEXES (inode.size / BLOCK_BYTES)) (not (nat_eq inode.indirect 0))
-      (nat_eq inode.indirect 0))) (is_none inode.verifier) three.2 in
-      let rules = all_seven (nat_le 2 inode.nlink) (nat_le inode.size LARGEST_DIRECTORY)
-      (nat_eq (inode.size % BLOCK_BYTES) 0) (nat_lt 0 inode.parent) (nat_lt inode.parent g.inodes)
-      (names_first (min (inode.size / BLOCK_BYTES) DIRECT_INDEXES) inode.direct)
-      (cond (nat_lt DIRECT_INDEXES (inode.size / BLOCK_BYTES)) (not (nat_eq inode.indirect 0)) (nat_eq inode.indirect 0))
-      last.0 in
-      let few = no_more inode.size LARGEST_DIRECTORY rules.1 in
-      omega (arith, few)
-
-  no_far : is_sound_kind g Link inode ≡ true → nat_eq inode.indirect 0 ≡ true
-  no_far good =
-      let three = all_three (is_sound_file inode) (is_sound_map g inode) (is_sound_link inode) good in
-      let last = all_two (nat_le 1 inode.size && nat_le inode.size TARGET_BYTES && nat_eq inode.parent 0
-      && names_first 1 inode.direct && nat_eq inode.indirect 0) (is_none inode.verifier) three.2 in
-      (all_five (nat_le 1 inode.size) (nat_le inode.size TARGET_BYTES) (nat_eq inode.parent 0)
-      (names_first 1 inode.direct) (nat_eq inode.indirect 0) last.0).4
-
   link_mapped : is_sound_kind g Link inode ≡ true → IsMapped g content inode
-  link_mapped good = record {
-    numbers = all_placed g content inode sound (λ far. absurd (none_is inode.indirect (no_far good) far));
-    used = ap (λ b. b || list_any (λ number. not (nat_eq number 0)) (drop (length inode.direct) (numbers_of content inode)))
-        (no_far good);
-  }
+  link_mapped good =
+      all_mapped g content inode
+      (near_mapped g content inode (maps g inode sound).0
+      (no_row g content inode.indirect (no_indirect_of_link g inode good)))
+      (no_below g content inode.double (no_double_of_link g inode good))
 
   -- ---- a directory
 
@@ -75,7 +44,9 @@ module _ (g : Geometry) (content : Image) (inode : Inode) (sound : SoundInode g 
       → IsSpanned g.inodes content inode (numbers_of content inode)
   unfolding slot_bytes
   spanned_by good is = record {
-    few = let few = few_blocks good in let all = all-length content inode sound.fits.count in omega (arith, few, all);
+    few =
+        let few = few_spanned g inode good in
+        let all = all-length content inode sound.fits.count in omega (arith, few, all);
     first = is.spans;
     slots = λ index less.
         let count = length-range_with_len 0 (SLOTS_PER_BLOCK * span_of inode) in

@@ -11,8 +11,7 @@ use Rattle.layout.specs.declared.super_block.Super.{Super}
 use Rattle.layout.specs.Homes.{homes_of}
 use Rattle.layout.specs.Stands.{Stands}
 use Rattle.layout.specs.SuperForm.{IsSuper}
-use Rattle.layout.proofs.OneGeometry.{one_geometry}
-use Rattle.layout.proofs.Versions.{one_version}
+use Rattle.layout.proofs.OneGeometry.{of_one_block}
 use Rattle.wal_law.specs.declared.recovery.LogFault.{LogFault}
 use Rattle.wal_law.specs.declared.recovery.LogFault.TheVariants as log
 use Rattle.wal_law.specs.Overlay.{HasHomes, IsInRange, logged_in, over}
@@ -139,9 +138,7 @@ module _ (size : ℕ) (image : Image) where
     not_good : IsNoTree found.geometry found.boot (over image) → IsNotGood size image
     not_good not tree boot good =
         let same : good.super.geometry ≡ found.geometry =
-        one_geometry good.super.geometry found.geometry
-        (one_version good.super.geometry.version found.geometry.version)
-        (good.is_super.blocks ∙ sym is_super.blocks) (good.is_super.inodes ∙ sym is_super.inodes) in
+        of_one_block (image SUPER_BLOCK) good.super found good.is_super is_super in
         let boot_is : boot ≡ found.boot = sym good.boot_is ∙ good.is_super.boot ∙ sym is_super.boot in
         absurd (not tree
         (subst (λ (n : ℕ). Stands found.geometry (homes_of n (over image)) tree) (sym size_is)

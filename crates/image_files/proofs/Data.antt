@@ -1,5 +1,5 @@
 -- Numbers of data blocks, and what these have.
-use Rattle.std.proofs.Common.{◌≡◌, ℕ, zero, suc, ◌<◌, sym, ap, ◌∙◌, refl, Bool, true, false, cond, not, ◌&&◌}
+use Rattle.std.proofs.Common.{◌≡◌, ℕ, zero, suc, ◌<◌, sym, ap, ◌∙◌, refl, Bool, true, false, cond, not, ◌&&◌, ◌||◌}
 use Rattle.std.proofs.Common.{List, [], ◌∷◌, length, take, drop, get_or, replicate, nat_eq, nat_le, nat_lt, arith}
 use Rattle.std.specs.List.{list_all}
 use Rattle.std.proofs.lemmas.Bool.{ne_eqb}
@@ -46,6 +46,9 @@ module _ (g : Geometry) where
       let low = no_more (data_at g.blocks g.inodes) number
       (all_two (nat_le (data_at g.blocks g.inodes) number) (nat_lt number g.blocks) lies).0 in
       ne_eqb number 0 (λ is. omega (arith, low, is))
+
+  pub none_or_data : (number : ℕ) → is_data g number ≡ true → is_data_block_or_none g number ≡ true
+  none_or_data number lies = λ i. some_number number lies i || lies i
 
   pub is_there : (number : ℕ) → is_data_block_or_none g number ≡ true → nat_eq number 0 ≡ false
       → is_data g number ≡ true

@@ -1,6 +1,8 @@
+pub mod AllMapped
 pub mod AtHome
 pub mod Data
 pub mod Mapped
+pub mod Rows
 pub mod SlotBlocks
 pub mod Spanned
 pub mod TailBytes

@@ -61,7 +61,8 @@ module _ (content : Image) (long : (number : ℕ) → length (content number) �
   no_block number from none =
       ap (λ b. is_zeros (drop from (cond b (replicate BLOCK_BYTES 0) (content number)))) none ∙ zeros_are from BLOCK_BYTES
 
-  zeros_both : (size : ℕ) (xs ys : List ℕ) → is_zeros (drop size (bytes_of content (xs ++ ys)))
+  -- of two runs of blocks one behind another each is passed by its own
+  pub zeros_both : (size : ℕ) (xs ys : List ℕ) → is_zeros (drop size (bytes_of content (xs ++ ys)))
       ≡ (is_zeros (drop size (bytes_of content xs)) && is_zeros (drop (size - BLOCK_BYTES * length xs) (bytes_of content ys)))
   unfolding bytes_of
   zeros_both size xs ys =
@@ -75,6 +76,17 @@ module _ (content : Image) (long : (number : ℕ) → length (content number) �
   one_block : (number : ℕ) → bytes_of content (number ∷ []) ≡ content_of content number
   unfolding bytes_of
   one_block number = append-nil (content_of content number)
+
+  -- those of no blocks are zeros
+  pub zero_bytes : (size count : ℕ) → is_zeros (drop size (bytes_of content (replicate count 0))) ≡ true
+  unfolding bytes_of
+  zero_bytes size zero =
+      let none : ◌≡◌ {A = List ℕ} (drop size []) [] = drop_all size [] (omega arith) in ap is_zeros none
+  zero_bytes size (suc count) =
+      let here : is_zeros (drop size (bytes_of content (0 ∷ []))) ≡ true =
+      ap (λ l. is_zeros (drop size l)) (one_block 0) ∙ no_block 0 size refl in
+      let rest = zero_bytes (size - BLOCK_BYTES * length {A = ℕ} (0 ∷ [])) count in
+      zeros_both size (0 ∷ []) (replicate count 0) ∙ (λ i. here i && rest i)
 
   module _ (size : ℕ) (numbers : List ℕ) where
     pub none_yet : is_zeros (drop size (bytes_of content (take 0 numbers))) ≡ true

@@ -6,6 +6,6 @@ mod numbers;
 mod slots;
 mod tail;
 
-pub use numbers::read_numbers;
+pub use numbers::{read_numbers, read_pointers};
 pub use slots::read_directory;
 pub use tail::is_zero_past;

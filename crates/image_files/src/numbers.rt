@@ -1,15 +1,14 @@
 //! The numbers of a file's blocks.
 ghost use Rattle.std.specs.Prelude.{◌≡◌, ◌≤◌, ℕ, List, length, nat_eq, true, IfOk, IsErrOf};
 ghost use Rattle.std.specs.List.{list_all};
-ghost use Rattle.limits.specs.declared.TheConstants.{FILE_INDEXES};
-ghost use Rattle.layout.specs.Decode.{IsMapped, numbers_of};
+ghost use Rattle.limits.specs.declared.TheConstants.{FIRST_DOUBLE_INDEX};
 ghost use Rattle.layout.specs.InodeForm.{SoundInode, is_data_block_or_none};
 ghost use Rattle.layout.specs.Places.{is_data};
 ghost use Rattle.wal_law.specs.Recovery.{HasOnlyRead, IsUnspoiled, image_of};
 ghost use Rattle.overlays.specs.LaidOver.{laid_over};
 ghost use Rattle.image_parts.specs.Table.{CountsPart};
 ghost use Rattle.image_files.specs.Content.{content_on};
-ghost use Rattle.image_files.specs.Far.{AreFar};
+ghost use Rattle.image_files.specs.Far.{AreFar, IsNearMapped, near_of};
 
 use disk::{Block, BlockNo, CrashDisk};
 use image_parts::PartFault;
@@ -18,8 +17,9 @@ use limits::INDIRECT_INDEXES;
 use overlays::Overlay;
 use std::alloc::Global;
 
-/// The numbers of the blocks of all indexes of a file, 0 where no block is mapped. They are refused where one is that
-/// of no data block, or an indirect block has none.
+/// The numbers of the blocks of a file that lie in no inner block: those that its inode names itself, and those in its
+/// indirect block, 0 where no block is mapped. They are refused where one is that of no data block, or an indirect
+/// block has none.
 #[tactic(auto, using(wal_law::proofs::OnlyRead::reads_then, wal_law::proofs::OnlyRead::no_read))]
 pub fn read_numbers<D: CrashDisk>(
     alloc: Global,
@@ -32,17 +32,17 @@ pub fn read_numbers<D: CrashDisk>(
     ensures reads { HasOnlyRead (D.device disk.old) (D.device disk.new) }
     ensures failure { CountsPart (D.device disk.old) (D.device disk.new) result }
     ensures model { D.keeps_model disk.new → D.keeps_model disk.old }
-    ensures len { IfOk result (λ numbers. length numbers.items ≡ FILE_INDEXES) }
+    ensures len { IfOk result (λ numbers. length numbers.items ≡ FIRST_DOUBLE_INDEX) }
     ensures placed { IfOk result (λ numbers. list_all (is_data_block_or_none geometry.now) numbers.items ≡ true) }
     ensures indirect { IfOk result (λ _. is_data_block_or_none geometry.now inode.now.indirect ≡ true) }
     ensures numbers { D.keeps_model disk.new → IsUnspoiled (D.device disk.old) → IfOk result (λ numbers.
         (numbers.items
-        ≡ numbers_of (content_on geometry.now overlay.now (D.device disk.old)) inode.now)
-        × IsMapped geometry.now (content_on geometry.now overlay.now (D.device disk.old))
+        ≡ near_of (content_on geometry.now overlay.now (D.device disk.old)) inode.now)
+        × IsNearMapped geometry.now (content_on geometry.now overlay.now (D.device disk.old))
         inode.now) }
     ensures refused { D.keeps_model disk.new → IsUnspoiled (D.device disk.old) → SoundInode geometry.now inode.now
         → IsErrOf result PartFault.Range
-        → IsMapped geometry.now (content_on geometry.now overlay.now (D.device disk.old))
+        → IsNearMapped geometry.now (content_on geometry.now overlay.now (D.device disk.old))
         inode.now → ⊥ }
 {
     if !are_placed(geometry, &inode.direct) {
@@ -53,7 +53,7 @@ pub fn read_numbers<D: CrashDisk>(
         numbers.extend_from_slice(&[0; INDIRECT_INDEXES])?;
         return Ok(numbers);
     }
-    let far = read_far(alloc, disk, overlay, geometry, inode.indirect)?;
+    let far = read_pointers(alloc, disk, overlay, geometry, inode.indirect)?;
     numbers.extend_from_slice(far.as_slice())?;
     Ok(numbers)
 }
@@ -77,32 +77,33 @@ fn is_placed(geometry: &Geometry, number: u32) -> bool
     number == 0 || geometry.is_data(number)
 }
 
-// The numbers in an indirect block. They are refused where it isn't a data block, one is that of none, or all are 0.
+/// The numbers in a block that holds numbers. They are refused where it isn't a data block, one is that of none, or all
+/// are 0.
 #[tactic(auto, using(wal_law::proofs::OnlyRead::reads_then, wal_law::proofs::OnlyRead::no_read))]
-fn read_far<D: CrashDisk>(
+pub fn read_pointers<D: CrashDisk>(
     alloc: Global,
     disk: &mut D,
     overlay: &Overlay,
     geometry: &Geometry,
-    indirect: u32,
+    pointer: u32,
 ) -> Result<Numbers, PartFault>
     requires { geometry.now.blocks ≤ (D.device disk.old).size }
     ensures reads { HasOnlyRead (D.device disk.old) (D.device disk.new) }
     ensures failure { CountsPart (D.device disk.old) (D.device disk.new) result }
     ensures model { D.keeps_model disk.new → D.keeps_model disk.old }
-    ensures lies { IfOk result (λ _. is_data geometry.now indirect ≡ true) }
+    ensures lies { IfOk result (λ _. is_data geometry.now pointer ≡ true) }
     ensures placed { IfOk result (λ numbers. list_all (is_data_block_or_none geometry.now) numbers ≡ true) }
     ensures numbers { D.keeps_model disk.new → IsUnspoiled (D.device disk.old) → IfOk result
-        (AreFar geometry.now (laid_over overlay.now (image_of (D.device disk.old))) indirect) }
+        (AreFar geometry.now (laid_over overlay.now (image_of (D.device disk.old))) pointer) }
     ensures refused { D.keeps_model disk.new → IsUnspoiled (D.device disk.old) → IsErrOf result PartFault.Range
         → (numbers : List ℕ)
-        → AreFar geometry.now (laid_over overlay.now (image_of (D.device disk.old))) indirect numbers → ⊥ }
+        → AreFar geometry.now (laid_over overlay.now (image_of (D.device disk.old))) pointer numbers → ⊥ }
 {
-    if !geometry.is_data(indirect) {
+    if !geometry.is_data(pointer) {
         return Err(PartFault::Range);
     }
     let mut block = Block::zeros(alloc)?;
-    overlay.read(disk, BlockNo(indirect), &mut block)?;
+    overlay.read(disk, BlockNo(pointer), &mut block)?;
     let numbers = Numbers::read(alloc, geometry, block.as_slice())??;
     if are_none(numbers.as_slice()) {
         return Err(PartFault::Range);

@@ -1,7 +1,7 @@
 //! The slots of directories.
 ghost use Rattle.std.specs.Prelude.{◌≡◌, ◌*◌, ◌⊎◌, ◌≤◌, ℕ, length, take, nat_eq, true, IfErr, IfOk, IsErrOf, IsOk, OnOk};
 ghost use Rattle.std.specs.List.{list_all};
-ghost use Rattle.limits.specs.declared.TheConstants.{BLOCK_BYTES, FILE_INDEXES, SLOTS_PER_BLOCK};
+ghost use Rattle.limits.specs.declared.TheConstants.{BLOCK_BYTES, FIRST_DOUBLE_INDEX, SLOTS_PER_BLOCK};
 ghost use Rattle.layout.specs.Decode.{bytes_of, span_of};
 ghost use Rattle.layout.specs.InodeForm.{is_data_block_or_none};
 ghost use Rattle.layout.specs.Places.{is_data};
@@ -31,7 +31,7 @@ pub fn read_directory<D: CrashDisk>(
     numbers: &[u32],
 ) -> Result<Vec<Slot>, PartFault>
     requires size { geometry.now.blocks ≤ (D.device disk.old).size }
-    requires few { length numbers.now ≤ FILE_INDEXES }
+    requires few { length numbers.now ≤ FIRST_DOUBLE_INDEX }
     requires placed { list_all (is_data_block_or_none geometry.now) numbers.now ≡ true }
     ensures reads { HasOnlyRead (D.device disk.old) (D.device disk.new) }
     ensures failure { CountsPart (D.device disk.old) (D.device disk.new) result }

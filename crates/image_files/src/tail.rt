@@ -1,7 +1,7 @@
 //! The bytes past a file's size.
 ghost use Rattle.std.specs.Prelude.{◌≡◌, ◌≤◌, ℕ, length, drop, true, IfOk, IsErrOf};
 ghost use Rattle.std.specs.List.{list_all};
-ghost use Rattle.limits.specs.declared.TheConstants.{BLOCK_BYTES, FILE_INDEXES};
+ghost use Rattle.limits.specs.declared.TheConstants.{BLOCK_BYTES, FIRST_DOUBLE_INDEX};
 ghost use Rattle.layout.specs.Decode.{bytes_of, content_of};
 ghost use Rattle.layout.specs.Fields.{is_zeros};
 ghost use Rattle.layout.specs.InodeForm.{is_data_block_or_none};
@@ -27,7 +27,7 @@ pub fn is_zero_past<D: CrashDisk>(
     numbers: &[u32],
 ) -> Result<bool, PartFault>
     requires size { geometry.now.blocks ≤ (D.device disk.old).size }
-    requires few { length numbers.now ≤ FILE_INDEXES }
+    requires few { length numbers.now ≤ FIRST_DOUBLE_INDEX }
     requires placed { list_all (is_data_block_or_none geometry.now) numbers.now ≡ true }
     ensures reads { HasOnlyRead (D.device disk.old) (D.device disk.new) }
     ensures failure { CountsPart (D.device disk.old) (D.device disk.new) result }

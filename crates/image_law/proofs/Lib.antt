@@ -5,5 +5,6 @@ pub mod NamedInImage
 pub mod Nodes
 pub mod Reached
 pub mod Room
+pub mod SoundKinds
 pub mod Whole
 pub mod WholeBack

@@ -2,7 +2,8 @@
 -- in its slots are names.
 use Rattle.std.proofs.Common.{◌≡◌, ℕ, zero, suc, ◌+◌, ◌*◌, ◌/◌, ◌%◌, ◌<◌, ◌≤◌, inl, inr, sym, ap, ◌∙◌, refl, subst}
 use Rattle.std.proofs.Common.{Bool, true, false, cond, not, List, [], ◌∷◌, ◌++◌, length, take, get_or, replicate}
-use Rattle.std.proofs.Common.{◌&&◌, length-append, length-take, Option, Some, None, Result, Ok, Err, nat_eq, nat_le, nat_lt, min, is_none, arith}
+use Rattle.std.proofs.Common.{◌&&◌, length-append, length-take, Option, Some, None, Result, Ok, Err, nat_eq, nat_le}
+use Rattle.std.proofs.Common.{is_none, arith}
 use Rattle.std.specs.FinMap as map
 use Rattle.std.specs.FinSet as set
 use Rattle.std.specs.List.{flat_map}
@@ -10,7 +11,7 @@ use Rattle.std.specs.Cmp.Lexicographic.{nat_list_cmp_total}
 use Rattle.std.proofs.lemmas.Bool.{cases_lt}
 use Rattle.std.proofs.lemmas.List.{get_or-append-add, get_or-replicate, get_or-take, get_or_append_left, get_or_past}
 use Rattle.std.proofs.lemmas.List.{length-take-le}
-use Rattle.limits.specs.declared.TheConstants.{BLOCK_BYTES, DIRECT_INDEXES, FILE_INDEXES, LARGEST_DIRECTORY}
+use Rattle.limits.specs.declared.TheConstants.{BLOCK_BYTES, FILE_INDEXES}
 use Rattle.limits.specs.declared.TheConstants.{LARGEST_FILE, MODE_BITS, MOST_LINKS, MOST_SPAN, NANOSECONDS}
 use Rattle.limits.specs.declared.TheConstants.{SLOTS_PER_BLOCK, TARGET_BYTES}
 use Rattle.disk.specs.Crash.{Image}
@@ -26,16 +27,18 @@ use Rattle.layout.specs.declared.slot.Slot.{Slot}
 use Rattle.layout.specs.Decode.{body_of, bytes_of, content_of, entries_in, entry_in, mapped_of}
 use Rattle.layout.specs.Decode.{named_in, node_with, numbers_of, slot_bytes, span_of}
 use Rattle.layout.specs.InodeForm.{SoundInode, is_sound_directory, is_sound_file, is_sound_inode, is_sound_kind}
-use Rattle.layout.specs.InodeForm.{is_sound_link, is_sound_map, is_sound_regular, is_time, names_first}
+use Rattle.layout.specs.InodeForm.{is_sound_link, is_sound_map, is_sound_regular, is_time}
 use Rattle.layout.specs.SlotForm.{read_slot}
 use Rattle.layout.proofs.AllNumbers as all_numbers
 use Rattle.layout.proofs.Mapped.{is_some}
-use Rattle.inode.proofs.AllTests.{all_five, all_seven, all_three, all_two, is_less, no_more}
+use Rattle.inode.proofs.AllTests.{all_five, all_three, all_two, is_less, no_more}
 use Rattle.procedures.proofs.Entering.{names_apart}
 use Rattle.file_writes.proofs.OneNumber.{is_mapped, none_mapped}
 use Rattle.dir.proofs.Distinct.{found_in}
 use Rattle.dir.proofs.Members.{from_range, none_some, same}
 use Rattle.image_law.specs.TreeOf.{HasNames}
+use Rattle.image_law.proofs.SoundKinds.{few_spanned, no_verifier_of_directory, no_verifier_of_link, short_target}
+use Rattle.image_law.proofs.SoundKinds.{some_target}
 
 module _ (content : Image) (long : (n : ℕ) → length (content n) ≡ BLOCK_BYTES) (are : (n : ℕ) → AreBytes (content n)) where
   -- ---- the bytes of blocks
@@ -240,34 +243,18 @@ module _ (g : Geometry) (content : Image) (long : (n : ℕ) → length (content 
         three.0,
       )
   body Directory good names =
-      let three = all_three (is_sound_file inode) (is_sound_map g inode) (is_sound_directory g inode) good in
-      let last = all_two (nat_le 2 inode.nlink && nat_le inode.size LARGEST_DIRECTORY
-      && nat_eq (inode.size % BLOCK_BYTES) 0 && nat_lt 0 inode.parent && nat_lt inode.parent g.inodes
-      && names_first (min (inode.size / BLOCK_BYTES) DIRECT_INDEXES) inode.direct
-      && (cond (nat_lt DIRECT_INDEXES (inode.size / BLOCK_BYTES)) (not (nat_eq inode.indirect 0))
-      (nat_eq inode.indirect 0))) (is_none inode.verifier) three.2 in
-      let rules = all_seven (nat_le 2 inode.nlink) (nat_le inode.size LARGEST_DIRECTORY)
-      (nat_eq (inode.size % BLOCK_BYTES) 0) (nat_lt 0 inode.parent) (nat_lt inode.parent g.inodes)
-      (names_first (min (inode.size / BLOCK_BYTES) DIRECT_INDEXES) inode.direct)
-      (cond (nat_lt DIRECT_INDEXES (inode.size / BLOCK_BYTES)) (not (nat_eq inode.indirect 0)) (nat_eq inode.indirect 0))
-      last.0 in
-      let few = no_more inode.size LARGEST_DIRECTORY rules.1 in (
+      let few = few_spanned g inode good in (
         sound_entries g.inodes content inode (names refl) (omega (arith, few)),
-        is_none_is inode.verifier last.1,
-        three.0,
+        is_none_is inode.verifier (no_verifier_of_directory g inode good),
+        (all_three (is_sound_file inode) (is_sound_map g inode) (is_sound_directory g inode) good).0,
       )
   body Link good names =
-      let three = all_three (is_sound_file inode) (is_sound_map g inode) (is_sound_link inode) good in
-      let last = all_two (nat_le 1 inode.size && nat_le inode.size TARGET_BYTES && nat_eq inode.parent 0
-      && names_first 1 inode.direct && nat_eq inode.indirect 0) (is_none inode.verifier) three.2 in
-      let rules = all_five (nat_le 1 inode.size) (nat_le inode.size TARGET_BYTES) (nat_eq inode.parent 0)
-      (names_first 1 inode.direct) (nat_eq inode.indirect 0) last.0 in
       let direct = sound.fits.count in (
         sound_target content long are (take 1 inode.direct) inode.size
             (length-take-le 1 inode.direct (omega (arith, direct)))
-            (no_more 1 inode.size rules.0) (no_more inode.size TARGET_BYTES rules.1),
-        is_none_is inode.verifier last.1,
-        three.0,
+            (some_target g inode good) (short_target g inode good),
+        is_none_is inode.verifier (no_verifier_of_link g inode good),
+        (all_three (is_sound_file inode) (is_sound_map g inode) (is_sound_link inode) good).0,
       )
 
   pub sound_node : (inode.kind ≡ Directory → HasNames g content inode) → SoundNode (node_with inode (body_of g.inodes content inode.kind inode))

@@ -1,3 +1,4 @@
+pub mod Counted
 mod Files
 mod OfGood
 mod OfTable

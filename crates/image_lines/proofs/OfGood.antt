@@ -9,8 +9,7 @@ use Rattle.layout.specs.declared.super_block.Super.{Super}
 use Rattle.layout.specs.Homes.{homes_of}
 use Rattle.layout.specs.Stands.{Stands}
 use Rattle.layout.specs.SuperForm.{IsSuper}
-use Rattle.layout.proofs.OneGeometry.{one_geometry}
-use Rattle.layout.proofs.Versions.{one_version}
+use Rattle.layout.proofs.OneGeometry.{of_one_block}
 use Rattle.wal_law.specs.Overlay.{HasHomes, IsInRange, logged_in, over}
 use Rattle.wal_law.specs.Recovery.{HasOnlyRead, IsUnspoiled, image_of}
 use Rattle.wal_law.proofs.OnlyRead.{image_then}
@@ -71,9 +70,7 @@ module _ (before : Device) (tree : Tree) (boot : ℕ) (good : IsGoodImage before
       (sym good.size_is) good.stands))
     where
       same : found.geometry ≡ good.super.geometry
-      same = one_geometry found.geometry good.super.geometry
-          (one_version found.geometry.version good.super.geometry.version)
-          (is.blocks ∙ sym good.is_super.blocks) (is.inodes ∙ sym good.is_super.inodes)
+      same = of_one_block (image_of before SUPER_BLOCK) found good.super is good.is_super
 
   -- its log lies over it
   pub same_log : (first later : Device) → HasOnlyRead before first → HasOnlyRead before later

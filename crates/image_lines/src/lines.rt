@@ -1,15 +1,19 @@
 //! The lines of the files of a table.
 ghost use Rattle.std.specs.Prelude.{◌≡◌, ◌≤◌, ◌<◌, ℕ, None, get_or, length, IfOk, IsErrOf, OnOk};
-ghost use Rattle.limits.specs.declared.TheConstants.{MOST_INODES};
+ghost use Rattle.std.specs.List.{flat_map};
+ghost use Rattle.limits.specs.declared.TheConstants.{DOUBLE_INDEXES, INDIRECT_INDEXES, MOST_INODES};
+ghost use Rattle.layout.specs.Decode.{IsMapped, doubled_in, numbers_in, numbers_of};
 ghost use Rattle.layout.specs.Fields.{count_of};
+ghost use Rattle.layout.specs.InodeForm.{SoundInode};
 ghost use Rattle.wal_law.specs.Recovery.{HasOnlyRead, IsUnspoiled};
 ghost use Rattle.image_parts.specs.Table.{CountsPart};
 ghost use Rattle.image_files.specs.Content.{content_on};
+ghost use Rattle.image_files.specs.Far.{IsBelowMapped, IsRowMapped};
 ghost use Rattle.image_lines.specs.Lines.{IsCounted, IsCountedIfAny, blocks_in, lines_below, with_line};
 
 use crate::Line;
 use disk::CrashDisk;
-use image_files::read_numbers;
+use image_files::{read_numbers, read_pointers};
 use image_parts::PartFault;
 use layout::{Geometry, Inode, InodeKind};
 use limits::BLOCK_BYTES;
@@ -114,13 +118,115 @@ fn count_blocks<D: CrashDisk>(
         → ⊥ }
 {
     match inode.kind {
-        InodeKind::Regular => {
-            let numbers = read_numbers(alloc, disk, overlay, geometry, inode)?;
-            Ok(count(&numbers))
-        }
+        InodeKind::Regular => count_regular(alloc, disk, overlay, geometry, inode),
         InodeKind::Directory => Ok(inode.size / BLOCK_BYTES as u64),
         InodeKind::Link => Ok(1),
     }
+}
+
+// How many blocks the bytes of a regular file lie in.
+#[tactic(auto, using(wal_law::proofs::OnlyRead::reads_then, wal_law::proofs::OnlyRead::no_read))]
+fn count_regular<D: CrashDisk>(
+    alloc: Global,
+    disk: &mut D,
+    overlay: &Overlay,
+    geometry: &Geometry,
+    inode: &Inode,
+) -> Result<u64, PartFault>
+    requires { geometry.now.blocks ≤ (D.device disk.old).size }
+    ensures reads { HasOnlyRead (D.device disk.old) (D.device disk.new) }
+    ensures failure { CountsPart (D.device disk.old) (D.device disk.new) result }
+    ensures model { D.keeps_model disk.new → D.keeps_model disk.old }
+    ensures blocks { D.keeps_model disk.new → IsUnspoiled (D.device disk.old) → IfOk result (λ blocks.
+        blocks ≡ count_of (numbers_of (content_on geometry.now overlay.now (D.device disk.old)) inode.now)) }
+    ensures refused { D.keeps_model disk.new → IsUnspoiled (D.device disk.old) → IsErrOf result PartFault.Range
+        → SoundInode geometry.now inode.now
+        → IsMapped geometry.now (content_on geometry.now overlay.now (D.device disk.old)) inode.now → ⊥ }
+{
+    let numbers = read_numbers(alloc, disk, overlay, geometry, inode)?;
+    let further = count_below(alloc, disk, overlay, geometry, inode.double)?;
+    Ok(count(&numbers) + further)
+}
+
+// How many blocks a double indirect block reaches, if it is there.
+#[tactic(auto, using(wal_law::proofs::OnlyRead::reads_then, wal_law::proofs::OnlyRead::no_read))]
+fn count_below<D: CrashDisk>(
+    alloc: Global,
+    disk: &mut D,
+    overlay: &Overlay,
+    geometry: &Geometry,
+    double: u32,
+) -> Result<u64, PartFault>
+    requires { geometry.now.blocks ≤ (D.device disk.old).size }
+    ensures reads { HasOnlyRead (D.device disk.old) (D.device disk.new) }
+    ensures failure { CountsPart (D.device disk.old) (D.device disk.new) result }
+    ensures model { D.keeps_model disk.new → D.keeps_model disk.old }
+    ensures few { IfOk result (λ blocks. blocks ≤ DOUBLE_INDEXES) }
+    ensures blocks { D.keeps_model disk.new → IsUnspoiled (D.device disk.old) → IfOk result (λ blocks.
+        blocks ≡ count_of (doubled_in (content_on geometry.now overlay.now (D.device disk.old)) double)) }
+    ensures refused { D.keeps_model disk.new → IsUnspoiled (D.device disk.old) → IsErrOf result PartFault.Range
+        → IsBelowMapped geometry.now (content_on geometry.now overlay.now (D.device disk.old)) double → ⊥ }
+{
+    if double == 0 {
+        return Ok(0);
+    }
+    let inner = read_pointers(alloc, disk, overlay, geometry, double)?;
+    count_rows(alloc, disk, overlay, geometry, inner.as_slice())
+}
+
+// How many blocks inner blocks name, one after another.
+#[tactic(auto, using(wal_law::proofs::OnlyRead::reads_then, wal_law::proofs::OnlyRead::no_read))]
+fn count_rows<D: CrashDisk>(
+    alloc: Global,
+    disk: &mut D,
+    overlay: &Overlay,
+    geometry: &Geometry,
+    inner: &[u32],
+) -> Result<u64, PartFault>
+    requires size { geometry.now.blocks ≤ (D.device disk.old).size }
+    requires count { length inner.now ≡ INDIRECT_INDEXES }
+    ensures reads { HasOnlyRead (D.device disk.old) (D.device disk.new) }
+    ensures failure { CountsPart (D.device disk.old) (D.device disk.new) result }
+    ensures model { D.keeps_model disk.new → D.keeps_model disk.old }
+    ensures few { IfOk result (λ blocks. blocks ≤ DOUBLE_INDEXES) }
+    ensures blocks { D.keeps_model disk.new → IsUnspoiled (D.device disk.old) → IfOk result (λ blocks.
+        blocks ≡ count_of (flat_map (numbers_in (content_on geometry.now overlay.now (D.device disk.old))) inner.now)) }
+    ensures refused { D.keeps_model disk.new → IsUnspoiled (D.device disk.old) → IsErrOf result PartFault.Range
+        → ((i : ℕ) → i < length inner.now → IsRowMapped geometry.now
+        (content_on geometry.now overlay.now (D.device disk.old)) (get_or inner.now i 0)) → ⊥ }
+{
+    let mut blocks = 0;
+    'rows: for index in 0..inner.len() {
+        let row = count_row(alloc, disk, overlay, geometry, inner[index])?;
+        blocks += row;
+    }
+    Ok(blocks)
+}
+
+// How many blocks an inner block names, if it is there.
+#[tactic(auto, using(wal_law::proofs::OnlyRead::no_read))]
+fn count_row<D: CrashDisk>(
+    alloc: Global,
+    disk: &mut D,
+    overlay: &Overlay,
+    geometry: &Geometry,
+    pointer: u32,
+) -> Result<u64, PartFault>
+    requires { geometry.now.blocks ≤ (D.device disk.old).size }
+    ensures reads { HasOnlyRead (D.device disk.old) (D.device disk.new) }
+    ensures failure { CountsPart (D.device disk.old) (D.device disk.new) result }
+    ensures model { D.keeps_model disk.new → D.keeps_model disk.old }
+    ensures few { IfOk result (λ blocks. blocks ≤ INDIRECT_INDEXES) }
+    ensures blocks { D.keeps_model disk.new → IsUnspoiled (D.device disk.old) → IfOk result (λ blocks.
+        blocks ≡ count_of (numbers_in (content_on geometry.now overlay.now (D.device disk.old)) pointer)) }
+    ensures refused { D.keeps_model disk.new → IsUnspoiled (D.device disk.old) → IsErrOf result PartFault.Range
+        → IsRowMapped geometry.now (content_on geometry.now overlay.now (D.device disk.old)) pointer → ⊥ }
+{
+    if pointer == 0 {
+        return Ok(0);
+    }
+    let numbers = read_pointers(alloc, disk, overlay, geometry, pointer)?;
+    Ok(count(numbers.as_slice()))
 }
 
 // How many of these are numbers of blocks.

@@ -168,7 +168,7 @@ const ROWS: [Row; 7] = [
 
 #[test]
 fn a_fresh_image_is_looked_at(rt: HostRuntime) -> Result<(), Fail> {
-    let geometry = Geometry::new(FormatVersion::First, LEAST_BLOCKS, LEAST_INODES)?;
+    let geometry = Geometry::new(FormatVersion::Second, LEAST_BLOCKS, LEAST_INODES)?;
     for row in &ROWS {
         let mut disk = fresh(rt.alloc(), geometry)?;
         let overlay = Overlay::new(log_of(rt.alloc(), &disk, row.changes)?);
@@ -185,7 +185,7 @@ fn a_fresh_image_is_looked_at(rt: HostRuntime) -> Result<(), Fail> {
 
 #[test]
 fn a_read_that_fails_is_told(rt: HostRuntime) -> Result<(), Fail> {
-    let geometry = Geometry::new(FormatVersion::First, LEAST_BLOCKS, LEAST_INODES)?;
+    let geometry = Geometry::new(FormatVersion::Second, LEAST_BLOCKS, LEAST_INODES)?;
     // Of the calls of a look the first reads the table, the second and the third a bitmap.
     for call in 1..4 {
         let mut disk = fresh(rt.alloc(), geometry)?;
@@ -231,7 +231,7 @@ fn counts(alloc: Global, numbers: &[u32]) -> Result<Named, Fail>
 // Whether the files of a fresh image make a tree, where these numbers were named, and the directories of the others
 // named a directory.
 fn is_linked(alloc: Global, named: &[u32], naming: &[u32]) -> Result<bool, Fail> {
-    let geometry = Geometry::new(FormatVersion::First, LEAST_BLOCKS, LEAST_INODES)?;
+    let geometry = Geometry::new(FormatVersion::Second, LEAST_BLOCKS, LEAST_INODES)?;
     let mut disk = fresh(alloc, geometry)?;
     let overlay = Overlay::new(Vec::new(alloc));
     if disk.blocks() < geometry.blocks {

@@ -39,22 +39,26 @@ module _ (g : Geometry) (content : Image) (i : Inode) (k : ℕ)
       (nat_lt 0 i.parent) (nat_lt i.parent g.inodes)
       (names_first (min (i.size / BLOCK_BYTES) DIRECT_INDEXES) i.direct)
       (cond (nat_lt DIRECT_INDEXES (i.size / BLOCK_BYTES)) (not (nat_eq i.indirect 0)) (nat_eq i.indirect 0))
-      (all_two _ (is_none i.verifier) three.2).0 in
+      (all_two _ (nat_eq i.double 0) (all_two _ (is_none i.verifier) three.2).0).0 in
       record {
         kind = ap file_kind (sym is);
         size = directory_size i.size (same_number (i.size % BLOCK_BYTES) 0 rules.2);
         used = directory_counted g content i direct file.spans
             (no_more i.size LARGEST_DIRECTORY rules.1) rules.6
+            (all_two _ (nat_eq i.double 0) (all_two _ (is_none i.verifier) three.2).0).1
             ∙ sym used;
         parent = refl;
       }
   has_body Link is good file =
       let three = all_three (is_sound_file i) (is_sound_map g i) (is_sound_link i) good in
       let rules = all_five (nat_le 1 i.size) (nat_le i.size TARGET_BYTES) (nat_eq i.parent 0)
-      (names_first 1 i.direct) (nat_eq i.indirect 0) (all_two _ (is_none i.verifier) three.2).0 in
+      (names_first 1 i.direct) (nat_eq i.indirect 0)
+      (all_two _ (nat_eq i.double 0) (all_two _ (is_none i.verifier) three.2).0).0 in
       record {
         kind = ap file_kind (sym is);
         size = link_size content i direct long (no_more i.size TARGET_BYTES rules.1);
-        used = link_counted g content i direct rules.3 rules.4 ∙ sym used;
+        used = link_counted g content i direct rules.3 rules.4
+            (all_two _ (nat_eq i.double 0) (all_two _ (is_none i.verifier) three.2).0).1
+            ∙ sym used;
         parent = sym (same_number i.parent 0 rules.2);
       }

@@ -1,6 +1,6 @@
--- An indirect block that names what is no data block is in no blocks that hold the files of a tree.
-use Rattle.std.proofs.Common.{◌≡◌, ℕ, sym, ap, ◌∙◌, Bool, true, false, List, [], ◌∷◌}
-use Rattle.std.proofs.Common.{◌++◌, nat_eq, nat_le, is_none}
+-- A pointer block that names what is no data block is in no blocks that hold the files of a tree.
+use Rattle.std.proofs.Common.{◌≡◌, ℕ, sym, ap, ◌∙◌, refl, Bool, true, false, ◌||◌}
+use Rattle.std.proofs.Common.{nat_eq, nat_le, is_none}
 use Rattle.std.specs.List.{list_all}
 use Rattle.limits.specs.declared.TheConstants.{INDIRECT_INDEXES, TARGET_BYTES}
 use Rattle.disk.specs.Crash.{Image}
@@ -8,38 +8,61 @@ use Rattle.layout.specs.declared.geometry.Geometry.{Geometry}
 use Rattle.layout.specs.declared.inode.Inode.{Inode}
 use Rattle.layout.specs.declared.inode.InodeKind.{InodeKind}
 use Rattle.layout.specs.declared.inode.InodeKind.TheVariants.{Regular, Directory, Link}
-use Rattle.layout.specs.Decode.{numbers_in, numbers_of, IsMapped, IsOfKind}
+use Rattle.layout.specs.Decode.{IsOfKind, doubled_in, numbers_in, numbers_of, pointer_blocks}
 use Rattle.layout.specs.Fields.{numbers_at}
 use Rattle.layout.specs.InodeForm.{is_data_block_or_none, is_sound_kind, is_sound_file, is_sound_map}
 use Rattle.layout.specs.InodeForm.{is_sound_link, names_first}
+use Rattle.layout.specs.Version.{has_double}
+use Rattle.layout.proofs.FileNumbers.{near_pass, parts_pass, pass_near_pointers, pointers_pass}
 use Rattle.layout.proofs.NumbersIn.{some_in}
+use Rattle.layout.proofs.Respelled.{all_four}
 use Rattle.inode.proofs.AllTests.{all_three, all_five, all_two}
 
--- a test that all pass is passed by the last ones
-last_pass : (test : ℕ → Bool) (xs ys : List ℕ) → list_all test (xs ++ ys) ≡ true → list_all test ys ≡ true
-last_pass test [] ys e = e
-last_pass test (x ∷ xs) ys e = last_pass test xs ys (all_two (test x) (list_all test (xs ++ ys)) e).1
-
-module _ (g : Geometry) (content : Image) (inode : Inode) (some : nat_eq inode.indirect 0 ≡ false) where
-  abbrev far : List ℕ
-  far = numbers_at INDIRECT_INDEXES 0 (content inode.indirect)
-
+module _ (g : Geometry) (content : Image) (inode : Inode) where
   abbrev test : ℕ → Bool
   test = is_data_block_or_none g
 
-  mapped_far : IsMapped g content inode → list_all test far ≡ true
-  unfolding numbers_of
-  mapped_far mapped =
-      ap (list_all test) (sym (some_in content inode.indirect some))
-      ∙ last_pass test inode.direct (numbers_in content inode.indirect) mapped.numbers
-
-  pub far_pass : (kind : InodeKind) → is_sound_kind g kind inode ≡ true
-      → IsOfKind g content kind inode → list_all test far ≡ true
-  far_pass Regular good file = mapped_far file.mapped
-  far_pass Directory good file = mapped_far file.mapped
-  far_pass Link good file =
+  -- a link has no pointer blocks
+  link_places : is_sound_kind g Link inode ≡ true
+      → (list_all test inode.direct ≡ true) × (test inode.indirect ≡ true) × (nat_eq inode.indirect 0 ≡ true)
+      × (test inode.double ≡ true) × (nat_eq inode.double 0 ≡ true)
+  link_places good =
       let three = all_three (is_sound_file inode) (is_sound_map g inode) (is_sound_link inode) good in
+      let first = all_two _ (nat_eq inode.double 0) (all_two _ (is_none inode.verifier) three.2).0 in
       let rules = all_five (nat_le 1 inode.size) (nat_le inode.size TARGET_BYTES) (nat_eq inode.parent 0)
-      (names_first 1 inode.direct) (nat_eq inode.indirect 0)
-      (all_two _ (is_none inode.verifier) three.2).0 in
-      let clash : true ≡ false = sym rules.4 ∙ some in cc
+      (names_first 1 inode.direct) (nat_eq inode.indirect 0) first.0 in
+      let map = all_four (list_all test inode.direct) (test inode.indirect) (test inode.double)
+      (nat_eq inode.double 0 || has_double g.version) three.1 in
+      (map.0, map.1, rules.4, map.2, first.1)
+
+  -- all blocks of a file are data blocks
+  pub numbers_pass : (kind : InodeKind) → is_sound_kind g kind inode ≡ true → IsOfKind g content kind inode
+      → list_all test (numbers_of content inode) ≡ true
+  numbers_pass Regular good file = file.mapped.numbers
+  numbers_pass Directory good file = file.mapped.numbers
+  numbers_pass Link good file =
+      let places = link_places good in
+      near_pass content inode places.4 places.2 test refl places.0
+
+  pub pointer_blocks_pass : (kind : InodeKind) → is_sound_kind g kind inode ≡ true → IsOfKind g content kind inode
+      → list_all test (pointer_blocks content inode) ≡ true
+  pointer_blocks_pass Regular good file = file.mapped.pointers
+  pointer_blocks_pass Directory good file = file.mapped.pointers
+  pointer_blocks_pass Link good file =
+      let places = link_places good in
+      pass_near_pointers content inode places.4 test refl places.1 places.3
+
+  module _ (kind : InodeKind) (good : is_sound_kind g kind inode ≡ true) (file : IsOfKind g content kind inode) where
+    -- and so are those that its indirect block names
+    pub far_pass : nat_eq inode.indirect 0 ≡ false
+        → list_all test (numbers_at INDIRECT_INDEXES 0 (content inode.indirect)) ≡ true
+    far_pass some =
+        ap (list_all test) (sym (some_in content inode.indirect some))
+        ∙ (parts_pass content inode test (numbers_pass kind good file)).1
+
+    -- its inner blocks, and those that these name
+    pub inner_pass : list_all test (numbers_in content inode.double) ≡ true
+    inner_pass = (pointers_pass content inode test (pointer_blocks_pass kind good file)).2
+
+    pub doubled_passes : list_all test (doubled_in content inode.double) ≡ true
+    doubled_passes = (parts_pass content inode test (numbers_pass kind good file)).2

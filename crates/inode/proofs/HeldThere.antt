@@ -110,9 +110,9 @@ module _ (snap : Snap) (blocks : Image) (tree : Tree) (number : ℕ) (one : Inod
 
   pub far_placed : are_far_placed g blocks one.indirect
   far_placed some =
-      far_pass g (content_in g blocks) one some one.kind
+      far_pass g (content_in g blocks) one one.kind
       (is_sound g blocks tree number one has.over.holds has.less has.there)
-      (is_of_kind g blocks tree number one has.over.holds has.less has.there)
+      (is_of_kind g blocks tree number one has.over.holds has.less has.there) some
 
   pub is_shown : (used : ℕ) → used ≡ counted (content_in g blocks) one
       → IsShown one used (body_in g blocks one)

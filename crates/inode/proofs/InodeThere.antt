@@ -1,10 +1,10 @@
 -- What is known of an inode that was read in blocks that hold the files of a tree, and of its blocks.
-use Rattle.std.proofs.Common.{◌≡◌, ℕ, ◌+◌, ◌%◌, ◌<◌, sym, ap, ◌∙◌, refl, subst, Bool, true, false, cond}
+use Rattle.std.proofs.Common.{◌≡◌, ℕ, ◌%◌, ◌<◌, ap, ◌∙◌, refl, subst, Bool, true, false, cond}
 use Rattle.std.proofs.Common.{◌||◌, length, take, drop, replicate, nat_eq, nat_le, nat_lt, List, Some, Ok, Err}
 use Rattle.std.proofs.Common.{arith}
 use Rattle.std.specs.List.{list_all}
 use Rattle.std.proofs.lemmas.Bool.{lt-ltb}
-use Rattle.limits.specs.declared.TheConstants.{BLOCK_BYTES, INDIRECT_INDEXES, INODES_PER_BLOCK, INODE_BYTES}
+use Rattle.limits.specs.declared.TheConstants.{BLOCK_BYTES, INODES_PER_BLOCK, INODE_BYTES}
 use Rattle.disk.specs.Crash.{Image}
 use Rattle.nfs_types.specs.Fits.{AreBytes}
 use Rattle.model.specs.Tree.{Tree}
@@ -18,12 +18,11 @@ use Rattle.layout.specs.Geometry.{data_at}
 use Rattle.layout.specs.Places.{inode_block, inode_offset, is_data}
 use Rattle.layout.specs.Parts.{content_in}
 use Rattle.layout.specs.Holds.{Holds}
-use Rattle.layout.proofs.AllNumbers.{map_is}
+use Rattle.layout.specs.Version.{has_double}
+use Rattle.layout.proofs.AllNumbers as numbers
 use Rattle.layout.proofs.Fits.{read_fits, part-length}
 use Rattle.layout.proofs.WrittenBytes.{taken, dropped}
-use Rattle.inode.proofs.AllTests.{all_two, is_less, same_number}
-use Rattle.inode.proofs.UsedBlocks.{counted}
-use Rattle.layout.specs.Fields.{numbers_at, count_of}
+use Rattle.inode.proofs.AllTests.{all_two, is_less}
 
 filled : (is : Bool) (block : List ℕ) → (is ≡ true → length block ≡ BLOCK_BYTES)
     → length (cond is block (replicate BLOCK_BYTES 0)) ≡ BLOCK_BYTES
@@ -75,32 +74,6 @@ module _ (g : Geometry) (blocks : Image) (tree : Tree) (n : ℕ) (inode : Inode)
       (all_two (nat_le (data_at g.blocks g.inodes) number) (nat_lt number g.blocks) is).1)).0)
 
   pub maps : (list_all (is_data_block_or_none g) inode.direct ≡ true)
-      × (is_data_block_or_none g inode.indirect ≡ true)
-  maps = all_two (list_all (is_data_block_or_none g) inode.direct)
-      (is_data_block_or_none g inode.indirect)
-      (map_is g inode.kind inode is_sound)
-
-  pub indirect_is : nat_eq inode.indirect 0 ≡ false
-      → content_in g blocks inode.indirect ≡ blocks inode.indirect
-  indirect_is some =
-      ap (λ b. cond b (blocks inode.indirect) (replicate BLOCK_BYTES 0))
-      (data_of (nat_eq inode.indirect 0) (is_data g inode.indirect) some maps.1)
-
-  pub indirect_long : length (blocks inode.indirect) ≡ BLOCK_BYTES
-  indirect_long = by_test (nat_eq inode.indirect 0) refl
-    where
-      by_test : (none : Bool) → nat_eq inode.indirect 0 ≡ none → length (blocks inode.indirect) ≡ BLOCK_BYTES
-      by_test true e = let is = same_number inode.indirect 0 e in
-          (holds.bytes inode.indirect (omega (arith, is, on_disk))).0
-      by_test false e = ap (λ (l : List ℕ). length l) (sym (indirect_is e)) ∙ long inode.indirect
-
-  -- the same is counted in its data blocks
-  pub same_counted : counted blocks inode ≡ counted (content_in g blocks) inode
-  same_counted = ap (λ k. count_of inode.direct + k) (by_test (nat_eq inode.indirect 0) refl)
-    where
-      by_test : (none : Bool) → nat_eq inode.indirect 0 ≡ none
-          → cond none 0 (count_of (numbers_at INDIRECT_INDEXES 0 (blocks inode.indirect)) + 1)
-          ≡ cond none 0 (count_of (numbers_at INDIRECT_INDEXES 0 (content_in g blocks inode.indirect)) + 1)
-      by_test true e = refl
-      by_test false e = ap (λ block. count_of (numbers_at INDIRECT_INDEXES 0 block) + 1)
-          (sym (indirect_is e))
+      × (is_data_block_or_none g inode.indirect ≡ true) × (is_data_block_or_none g inode.double ≡ true)
+      × ((nat_eq inode.double 0 || has_double g.version) ≡ true)
+  maps = numbers.maps g inode is_read

@@ -1,4 +1,5 @@
 pub mod AllTests
+pub mod PointersThere
 pub mod UsedBlocks
 pub mod InodeThere
 pub mod ReadThere

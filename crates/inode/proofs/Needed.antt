@@ -4,23 +4,25 @@ use Rattle.limits.specs.declared.TheConstants.{BLOCK_BYTES}
 use Rattle.layout.specs.declared.inode.Inode.{Inode}
 use Rattle.inode.specs.declared.snap.Snap.{Snap}
 use Rattle.inode.specs.declared.stop.Stop.{Stop}
-use Rattle.inode.specs.Asked.{IsBlockAddr, IsIndirectFor, IsNeededAt, IsNeededBetween, IsNumberAt, IsStopFor}
+use Rattle.inode.specs.Asked.{IsBlockAddr, IsNeededAt, IsNeededBetween, IsNumberAt, IsPointerFor, IsStopFor}
 use Rattle.inode.specs.Asked.{MayStopFor}
-use Rattle.inode.specs.Asked.IsNeededAt.{indirect, mapped}
+use Rattle.inode.specs.Asked.IsNeededAt.{mapped, pointer}
 use Rattle.inode.proofs.Stops.{may_stop_more, stop_may, stop_more}
 
 module _ (snap : Snap) (inode : Inode) (index : ℕ) where
-  pub indirect_at : (why : Stop) → IsStopFor (IsIndirectFor inode index) why
+  pub indirect_at : (why : Stop) → IsStopFor (IsPointerFor snap.objects.items inode index) why
       → IsStopFor (IsNeededAt snap inode index) why
-  indirect_at = stop_more (IsIndirectFor inode index) (IsNeededAt snap inode index) (λ addr at. indirect at)
+  indirect_at = stop_more (IsPointerFor snap.objects.items inode index) (IsNeededAt snap inode index)
+      (λ addr at. pointer at)
 
   pub mapped_at : (number : ℕ) → IsNumberAt snap.objects.items inode index number → (why : Stop)
       → IsStopFor (IsBlockAddr number) why → IsStopFor (IsNeededAt snap inode index) why
   mapped_at number is = stop_more (IsBlockAddr number) (IsNeededAt snap inode index) (λ addr at. mapped number is at)
 
-  pub may_indirect_at : (why : Stop) → IsStopFor (IsIndirectFor inode index) why
+  pub may_indirect_at : (why : Stop) → IsStopFor (IsPointerFor snap.objects.items inode index) why
       → MayStopFor (IsNeededAt snap inode index) why
-  may_indirect_at = stop_may (IsIndirectFor inode index) (IsNeededAt snap inode index) (λ addr at. indirect at)
+  may_indirect_at = stop_may (IsPointerFor snap.objects.items inode index) (IsNeededAt snap inode index)
+      (λ addr at. pointer at)
 
   pub may_mapped_at : (number : ℕ) → IsNumberAt snap.objects.items inode index number → (why : Stop)
       → MayStopFor (IsBlockAddr number) why → MayStopFor (IsNeededAt snap inode index) why

@@ -176,7 +176,7 @@ module _ (snap : Snap) (blocks : Image) (tree : Tree) (file : ℕ) (inode : Inod
       let three = all_three (is_sound_file inode) (is_sound_map g inode) (is_sound_link inode) good in
       let rules = all_five (nat_le 1 inode.size) (nat_le inode.size TARGET_BYTES) (nat_eq inode.parent 0)
       (names_first 1 inode.direct) (nat_eq inode.indirect 0)
-      (all_two _ (is_none inode.verifier) three.2).0 in
+      (all_two _ (nat_eq inode.double 0) (all_two _ (is_none inode.verifier) three.2).0).0 in
       no_more inode.size TARGET_BYTES rules.1
   link_kind kinds.Directory is good = cc
   link_kind kinds.Regular is good = cc

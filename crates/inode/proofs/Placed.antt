@@ -1,27 +1,28 @@
 -- Where the blocks of a file that was read lie.
-use Rattle.std.proofs.Common.{◌≡◌, ℕ, zero, suc, ◌-◌, ◌<◌, ◌≤◌, sym, ap, ◌∙◌, refl, Bool, true, false, cond}
+use Rattle.std.proofs.Common.{◌≡◌, ℕ, zero, suc, ◌-◌, ◌/◌, ◌%◌, ◌<◌, ◌≤◌, sym, ap, ◌∙◌, refl, Bool, true, false, cond}
 use Rattle.std.proofs.Common.{List, [], ◌∷◌, ◌++◌, length, get_or, replicate, nat_eq, nat_le, nat_lt, arith}
 use Rattle.std.specs.List.{list_all}
-use Rattle.limits.specs.declared.TheConstants.{BLOCK_BYTES, DIRECT_INDEXES, INDIRECT_INDEXES}
+use Rattle.limits.specs.declared.TheConstants.{BLOCK_BYTES, DIRECT_INDEXES, FILE_INDEXES, FIRST_DOUBLE_INDEX}
+use Rattle.limits.specs.declared.TheConstants.{INDIRECT_INDEXES}
 use Rattle.disk.specs.Crash.{Image}
 use Rattle.objects.specs.declared.addr.Addr.{Addr}
 use Rattle.model.specs.Tree.{Tree}
 use Rattle.layout.specs.declared.geometry.Geometry.{Geometry}
 use Rattle.layout.specs.declared.inode.Inode.{Inode}
-use Rattle.layout.specs.Decode.{numbers_of}
+use Rattle.layout.specs.Decode.{numbers_in, numbers_of}
 use Rattle.layout.specs.Fields.{numbers_at}
 use Rattle.layout.specs.Geometry.{data_at}
 use Rattle.layout.specs.InodeForm.{is_data_block_or_none}
 use Rattle.layout.specs.Parts.{content_in}
 use Rattle.layout.specs.Places.{is_data}
-use Rattle.layout.proofs.AllNumbers as all
-use Rattle.layout.proofs.NumbersIn.{none_at, some_in}
+use Rattle.layout.proofs.FileNumbers as numbers
+use Rattle.layout.proofs.NumbersIn.{doubled_pass, none_at, none_pass, some_in}
 use Rattle.txn.specs.Window.{object_at}
 use Rattle.inode.specs.declared.snap.Snap.{Snap}
-use Rattle.inode.specs.Over.{HasInode, IsOver, far_at, number_at}
+use Rattle.inode.specs.Over.{AreInnerPlaced, HasInode, IsOver, are_far_placed, far_at, number_at}
 use Rattle.inode.proofs.AllTests.{all_two, is_less}
-use Rattle.inode.proofs.FarThere.{far_pass}
-use Rattle.inode.proofs.InodeThere.{is_of_kind, is_read, is_sound, maps}
+use Rattle.inode.proofs.FarThere.{doubled_passes, inner_pass, numbers_pass}
+use Rattle.inode.proofs.InodeThere.{is_of_kind, is_sound, maps}
 use Rattle.inode.proofs.ReadThere.{whole_there}
 
 -- a data block that was read is the content of its number
@@ -63,15 +64,16 @@ module _ (g : Geometry) (blocks : Image) (inode : Inode) (index : ℕ) (direct :
     content = content_in g blocks
 
     pub direct_at : index < DIRECT_INDEXES → get_or inode.direct index 0 ≡ number_at g blocks inode index
-    unfolding numbers_of
-    direct_at less = sym (early inode.direct _ index (omega (arith, less, direct)))
+    direct_at less = sym (numbers.direct_at content inode direct index less)
 
-    pub far_there : DIRECT_INDEXES ≤ index
+    pub far_there : DIRECT_INDEXES ≤ index → index < FIRST_DOUBLE_INDEX
         → far_at content inode.indirect (index - DIRECT_INDEXES) ≡ number_at g blocks inode index
-    unfolding numbers_of
-    far_there more =
-        ap (λ k. far_at content inode.indirect (index - k)) (sym direct)
-        ∙ sym (behind inode.direct _ index (omega (arith, more, direct)))
+    far_there more within = sym (numbers.indirect_at content inode direct index more within)
+
+    pub inner_there : FIRST_DOUBLE_INDEX ≤ index → index < FILE_INDEXES
+        → far_at content (far_at content inode.double ((index - FIRST_DOUBLE_INDEX) / INDIRECT_INDEXES))
+        ((index - FIRST_DOUBLE_INDEX) % INDIRECT_INDEXES) ≡ number_at g blocks inode index
+    inner_there more within = sym (numbers.inner_at content inode direct index more within)
 
 pub none_far : (content : Image) (indirect index : ℕ) → nat_eq indirect 0 ≡ true
     → 0 ≡ far_at content indirect index
@@ -84,6 +86,22 @@ some_far content indirect index bytes some is =
     ap (λ block. get_or (numbers_at INDIRECT_INDEXES 0 block) index 0) is
     ∙ sym (ap (λ l. get_or l index 0) (some_in content indirect some))
 
+-- each inner block is a data block, and so are those that it names
+module _ (g : Geometry) (blocks : Image) (double : ℕ) (are : AreInnerPlaced g blocks double) where
+  abbrev inner_at : ℕ → ℕ
+  inner_at inner = far_at (content_in g blocks) double inner
+
+  pub inner_data : (inner : ℕ) → is_data_block_or_none g (inner_at inner) ≡ true
+  inner_data inner = passes_at (is_data_block_or_none g) (numbers_in (content_in g blocks) double) inner refl are.inner
+
+  pub inner_far_placed : (inner : ℕ) → are_far_placed g blocks (inner_at inner)
+  inner_far_placed inner some =
+      ap (list_all (is_data_block_or_none g)) (sym (some_in (content_in g blocks) (inner_at inner) some))
+      ∙ passes_at (λ one. list_all (is_data_block_or_none g) (numbers_in (content_in g blocks) one))
+      (numbers_in (content_in g blocks) double) inner
+      (none_pass (content_in g blocks) 0 refl (is_data_block_or_none g) refl)
+      (sym (doubled_pass (content_in g blocks) double (is_data_block_or_none g)) ∙ are.named)
+
 module _ (snap : Snap) (blocks : Image) (tree : Tree) (number : ℕ) (inode : Inode)
     (has : HasInode snap blocks tree number inode) where
   abbrev g : Geometry
@@ -92,13 +110,30 @@ module _ (snap : Snap) (blocks : Image) (tree : Tree) (number : ℕ) (inode : In
   pub indirect_placed : is_data_block_or_none g inode.indirect ≡ true
   indirect_placed = (maps g blocks tree number inode has.over.holds has.less has.there).1
 
+  pub double_placed : is_data_block_or_none g inode.double ≡ true
+  double_placed = (maps g blocks tree number inode has.over.holds has.less has.there).2
+
   pub all_placed : list_all (is_data_block_or_none g) (numbers_of (content_in g blocks) inode) ≡ true
   all_placed =
-      all.all_placed g (content_in g blocks) inode
-      (is_read g blocks tree number inode has.over.holds has.less has.there)
-      (λ some. far_pass g (content_in g blocks) inode some inode.kind
+      numbers_pass g (content_in g blocks) inode inode.kind
       (is_sound g blocks tree number inode has.over.holds has.less has.there)
-      (is_of_kind g blocks tree number inode has.over.holds has.less has.there))
+      (is_of_kind g blocks tree number inode has.over.holds has.less has.there)
 
   pub placed_at : (index : ℕ) → is_data_block_or_none g (number_at g blocks inode index) ≡ true
   placed_at index = passes_at (is_data_block_or_none g) (numbers_of (content_in g blocks) inode) index refl all_placed
+
+  -- its inner blocks are data blocks, and so are those that they name
+  pub inner_placed : AreInnerPlaced g blocks inode.double
+  inner_placed = record {
+    inner = inner_pass g (content_in g blocks) inode inode.kind
+        (is_sound g blocks tree number inode has.over.holds has.less has.there)
+        (is_of_kind g blocks tree number inode has.over.holds has.less has.there);
+    named = doubled_passes g (content_in g blocks) inode inode.kind
+        (is_sound g blocks tree number inode has.over.holds has.less has.there)
+        (is_of_kind g blocks tree number inode has.over.holds has.less has.there);
+  }
+
+  pub double_far_placed : are_far_placed g blocks inode.double
+  double_far_placed some =
+      ap (list_all (is_data_block_or_none g)) (sym (some_in (content_in g blocks) inode.double some))
+      ∙ inner_placed.inner

@@ -1,6 +1,6 @@
 -- What a reading of a file asks for.
-use Rattle.std.specs.Prelude.{◌≡◌, ℕ, ◌-◌, ◌*◌, ◌/◌, ◌<◌, ◌≤◌, List, get_or}
-use Rattle.limits.specs.declared.TheConstants.{BLOCK_BYTES, DIRECT_INDEXES, INDIRECT_INDEXES}
+use Rattle.std.specs.Prelude.{◌≡◌, ℕ, ◌-◌, ◌*◌, ◌/◌, ◌%◌, ◌<◌, ◌≤◌, List, get_or, replicate}
+use Rattle.limits.specs.declared.TheConstants.{BLOCK_BYTES, DIRECT_INDEXES, FIRST_DOUBLE_INDEX, INDIRECT_INDEXES}
 use Rattle.objects.specs.declared.addr.Addr.{Addr}
 use Rattle.layout.specs.declared.inode.Inode.{Inode}
 use Rattle.layout.specs.Fields.{numbers_at}
@@ -36,26 +36,57 @@ pub record WasReadBlock (objects : List ObjectBytes) (number : ℕ) (bytes : Lis
   pub at : IsBlockAddr number addr
   pub read : WasRead objects addr bytes
 
--- the number at an index of an indirect block as it was read, 0 where there is none
-pub data IsFarNumber (objects : List ObjectBytes) (indirect index number : ℕ) : Type 0 where
-  none : indirect ≡ 0 → number ≡ 0 → IsFarNumber objects indirect index number
-  named : (bytes : List ℕ) → WasReadBlock objects indirect bytes
-      → number ≡ get_or (numbers_at INDIRECT_INDEXES 0 bytes) index 0 → IsFarNumber objects indirect index number
+-- the number at an index of a pointer block as it was read, 0 where there is none
+pub data IsFarNumber (objects : List ObjectBytes) (pointer index number : ℕ) : Type 0 where
+  none : pointer ≡ 0 → number ≡ 0 → IsFarNumber objects pointer index number
+  named : (bytes : List ℕ) → WasReadBlock objects pointer bytes
+      → number ≡ get_or (numbers_at INDIRECT_INDEXES 0 bytes) index 0 → IsFarNumber objects pointer index number
 
--- the number at an index of a file: as the inode names it, or its indirect block as it was read
+-- the numbers in a pointer block as it was read, zeros where there is none
+pub data AreFarNumbers (objects : List ObjectBytes) (pointer : ℕ) (numbers : List ℕ) : Type 0 where
+  zeros : pointer ≡ 0 → numbers ≡ replicate INDIRECT_INDEXES 0 → AreFarNumbers objects pointer numbers
+  spelled : (bytes : List ℕ) → WasReadBlock objects pointer bytes → numbers ≡ numbers_at INDIRECT_INDEXES 0 bytes
+      → AreFarNumbers objects pointer numbers
+
+-- the number of the inner block that reaches an index of a file, as the double indirect block was read, 0 where there is
+-- none
+abbrev pub IsInnerFor : List ObjectBytes → Inode → ℕ → ℕ → Type 0
+IsInnerFor objects inode index inner =
+    IsFarNumber objects inode.double ((index - FIRST_DOUBLE_INDEX) / INDIRECT_INDEXES) inner
+
+-- the number at an index of a file: as the inode names it, or its indirect block as it was read, or the inner block
+-- that reaches the index, as it was read
 pub data IsNumberAt (objects : List ObjectBytes) (inode : Inode) (index number : ℕ) : Type 0 where
   direct : index < DIRECT_INDEXES → number ≡ get_or inode.direct index 0 → IsNumberAt objects inode index number
-  far : DIRECT_INDEXES ≤ index → IsFarNumber objects inode.indirect (index - DIRECT_INDEXES) number
+  far : DIRECT_INDEXES ≤ index → index < FIRST_DOUBLE_INDEX
+      → IsFarNumber objects inode.indirect (index - DIRECT_INDEXES) number → IsNumberAt objects inode index number
+  doubled : FIRST_DOUBLE_INDEX ≤ index → (inner : ℕ) → IsInnerFor objects inode index inner
+      → IsFarNumber objects inner ((index - FIRST_DOUBLE_INDEX) % INDIRECT_INDEXES) number
       → IsNumberAt objects inode index number
 
--- the address is that of the indirect block, and it names the block at the index
-pub record IsIndirectFor (inode : Inode) (index : ℕ) (addr : Addr) : Type 0 where
-  pub far : DIRECT_INDEXES ≤ index
-  pub at : IsBlockAddr inode.indirect addr
+-- the address is that of a pointer block by which the number at an index is found: of the indirect block, or of the
+-- double indirect block, or, once that was read, of the inner block that it names
+pub data IsPointerFor (objects : List ObjectBytes) (inode : Inode) (index : ℕ) (addr : Addr) : Type 0 where
+  indirect : DIRECT_INDEXES ≤ index → index < FIRST_DOUBLE_INDEX → IsBlockAddr inode.indirect addr
+      → IsPointerFor objects inode index addr
+  double : FIRST_DOUBLE_INDEX ≤ index → IsBlockAddr inode.double addr → IsPointerFor objects inode index addr
+  inner : FIRST_DOUBLE_INDEX ≤ index → (number : ℕ) → IsInnerFor objects inode index number → IsBlockAddr number addr
+      → IsPointerFor objects inode index addr
 
--- the address is that of the block at an index of a file, or of the indirect block that names it
+-- the address is that of a double indirect block, or of an inner block that it names, as it was read
+pub data IsOfDouble (objects : List ObjectBytes) (double : ℕ) (addr : Addr) : Type 0 where
+  itself : IsBlockAddr double addr → IsOfDouble objects double addr
+  below : (place number : ℕ) → place < INDIRECT_INDEXES → IsFarNumber objects double place number
+      → IsBlockAddr number addr → IsOfDouble objects double addr
+
+-- the address is that of a pointer block of a file
+pub data IsPointerOf (objects : List ObjectBytes) (inode : Inode) (addr : Addr) : Type 0 where
+  of_indirect : IsBlockAddr inode.indirect addr → IsPointerOf objects inode addr
+  of_double : IsOfDouble objects inode.double addr → IsPointerOf objects inode addr
+
+-- the address is that of the block at an index of a file, or of a pointer block by which its number is found
 pub data IsNeededAt (snap : Snap) (inode : Inode) (index : ℕ) (addr : Addr) : Type 0 where
-  indirect : IsIndirectFor inode index addr → IsNeededAt snap inode index addr
+  pointer : IsPointerFor snap.objects.items inode index addr → IsNeededAt snap inode index addr
   mapped : (number : ℕ) → IsNumberAt snap.objects.items inode index number → IsBlockAddr number addr
       → IsNeededAt snap inode index addr
 

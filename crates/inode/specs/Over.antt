@@ -6,7 +6,7 @@ use Rattle.disk.specs.Crash.{Image}
 use Rattle.model.specs.Tree.{Tree}
 use Rattle.layout.specs.declared.geometry.Geometry.{Geometry}
 use Rattle.layout.specs.declared.inode.Inode.{Inode}
-use Rattle.layout.specs.Decode.{bytes_of, inode_at, numbers_in, numbers_of}
+use Rattle.layout.specs.Decode.{bytes_of, doubled_in, inode_at, numbers_in, numbers_of}
 use Rattle.layout.specs.Fields.{numbers_at}
 use Rattle.layout.specs.InodeForm.{is_data_block_or_none}
 use Rattle.layout.specs.Objects.{IsObject}
@@ -59,7 +59,12 @@ number_at g blocks inode index = get_or (numbers_of (content_in g blocks) inode)
 abbrev pub all_bytes : Geometry → Image → Inode → List ℕ
 all_bytes g blocks inode = bytes_of (content_in g blocks) (numbers_of (content_in g blocks) inode)
 
--- an indirect block, if there is one, has the numbers of data blocks alone
+-- a pointer block, if there is one, has the numbers of data blocks alone
 abbrev pub are_far_placed : Geometry → Image → ℕ → Type 0
 are_far_placed g blocks indirect = nat_eq indirect 0 ≡ false
     → list_all (is_data_block_or_none g) (numbers_at INDIRECT_INDEXES 0 (content_in g blocks indirect)) ≡ true
+
+-- the inner blocks of a double indirect block are data blocks, and so are those that they name
+pub record AreInnerPlaced (g : Geometry) (blocks : Image) (double : ℕ) : Type 0 where
+  pub inner : list_all (is_data_block_or_none g) (numbers_in (content_in g blocks) double) ≡ true
+  pub named : list_all (is_data_block_or_none g) (doubled_in (content_in g blocks) double) ≡ true

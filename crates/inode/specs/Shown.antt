@@ -1,5 +1,5 @@
 -- What an inode shows of what is in its file.
-use Rattle.std.specs.Prelude.{◌≡◌, ℕ}
+use Rattle.std.specs.Prelude.{◌≡◌, ℕ, ◌+◌, cond, nat_eq}
 use Rattle.nfs_types.specs.declared.attributes.FileKind.{FileKind}
 use Rattle.nfs_types.specs.declared.attributes.FileKind.TheVariants as kinds
 use Rattle.disk.specs.Crash.{Image}
@@ -13,7 +13,8 @@ use Rattle.layout.specs.declared.geometry.Geometry.{Geometry}
 use Rattle.layout.specs.declared.inode.Inode.{Inode}
 use Rattle.layout.specs.declared.inode.InodeKind.{InodeKind}
 use Rattle.layout.specs.declared.inode.InodeKind.TheVariants.{Regular, Directory, Link}
-use Rattle.layout.specs.Decode.{body_of, node_with}
+use Rattle.layout.specs.Decode.{body_of, doubled_in, node_with, numbers_in}
+use Rattle.layout.specs.Fields.{count_of}
 use Rattle.layout.specs.Parts.{content_in}
 use Rattle.inode.specs.declared.snap.Snap.{Snap}
 use Rattle.inode.specs.Over.{HasInode}
@@ -30,6 +31,11 @@ pub record IsShown (inode : Inode) (count : ℕ) (body : Body) : Type 0 where
   pub size : size_of body ≡ inode.size
   pub used : cost body ≡ count
   pub parent : parent_of body ≡ inode.parent
+
+-- how many blocks a double indirect block reaches, with itself and its inner blocks: none where there is none
+unfoldable pub double_held : Image → ℕ → ℕ
+double_held content double =
+    cond (nat_eq double 0) 0 (1 + count_of (numbers_in content double) + count_of (doubled_in content double))
 
 -- what is in the file of an inode
 abbrev pub body_in : Geometry → Image → Inode → Body

@@ -1,6 +1,6 @@
 //! The inode of a number, and what it shows.
 ghost use Rattle.std.specs.Prelude.{◌≡◌, ◌≤◌, ◌+◌, ℕ, cond, nat_eq, true, false, IfErr, IfOk};
-ghost use Rattle.limits.specs.declared.TheConstants.{FILE_INDEXES, INDIRECT_INDEXES};
+ghost use Rattle.limits.specs.declared.TheConstants.{DOUBLE_INDEXES, FILE_INDEXES, INDIRECT_INDEXES};
 ghost use Rattle.disk.specs.Crash.{Image};
 ghost use Rattle.std.specs.List.{list_all};
 ghost use Rattle.layout.specs.declared.inode.Inode.{Inode};
@@ -8,16 +8,17 @@ ghost use Rattle.layout.specs.Fields.{count_of, numbers_at};
 ghost use Rattle.layout.specs.InodeForm.{is_data_block_or_none};
 ghost use Rattle.layout.specs.Parts.{content_in};
 ghost use Rattle.model.specs.Tree.{Tree};
-ghost use Rattle.inode.specs.Asked.{IsBlockAddr, IsStopFor};
+ghost use Rattle.inode.specs.Asked.{IsBlockAddr, IsOfDouble, IsPointerOf, IsStopFor};
 ghost use Rattle.inode.specs.Read.{IsAskedInode};
-ghost use Rattle.inode.specs.Over.{HasInode, IsOver, IsPause, MayStop, are_far_placed};
-ghost use Rattle.inode.specs.Shown.{IsInodeOf, IsShown, body_in, file_kind};
+ghost use Rattle.inode.specs.Over.{AreInnerPlaced, HasInode, IsOver, IsPause, MayStop, are_far_placed};
+ghost use Rattle.inode.specs.Shown.{double_held, IsInodeOf, IsShown, body_in, file_kind};
 
 use crate::map::data_block;
 use crate::read::inode_of;
 use crate::snap::Snap;
 use crate::stop::Stop;
 use layout::{Inode, InodeKind, Numbers};
+use limits::INDIRECT_INDEXES;
 use nfs_types::FileKind;
 
 /// The kind of file that an inode is of.
@@ -46,8 +47,8 @@ pub fn held(snap: &Snap, number: u32) -> Result<Option<Inode>, Stop>
     inode_of(snap, number)
 }
 
-// How many blocks an indirect block maps, and itself: none where there is none.
-fn far_used(snap: &Snap, indirect: u32) -> Result<u32, Stop>
+/// How many blocks a pointer block maps, and itself: none where there is none.
+pub fn far_used(snap: &Snap, indirect: u32) -> Result<u32, Stop>
     ensures few { IfOk result (λ used. used ≤ INDIRECT_INDEXES + 1) }
     ensures ok { IfOk result (λ used. (blocks : Image) (tree : Tree) → IsOver snap.now blocks tree
         → used ≡ cond (nat_eq indirect 0) 0
@@ -71,19 +72,44 @@ fn far_used(snap: &Snap, indirect: u32) -> Result<u32, Stop>
     }
 }
 
+// How many blocks a double indirect block reaches, with itself and its inner blocks: none where there is none.
+fn double_used(snap: &Snap, double: u32) -> Result<u32, Stop>
+    ensures few { IfOk result (λ used. used ≤ DOUBLE_INDEXES + INDIRECT_INDEXES + 1) }
+    ensures ok { IfOk result (λ used. (blocks : Image) (tree : Tree) → IsOver snap.now blocks tree
+        → used ≡ double_held (content_in snap.now.geometry blocks) double) }
+    ensures err { IfErr result (λ stop. MayStop snap.now stop) }
+    ensures asks { IfErr result (λ stop. IsStopFor (IsOfDouble snap.now.objects.items double) stop) }
+    ensures pause { IfErr result (λ stop. (blocks : Image) (tree : Tree) → IsOver snap.now blocks tree
+        → is_data_block_or_none snap.now.geometry double ≡ true
+        → AreInnerPlaced snap.now.geometry blocks double → IsPause stop) }
+{
+    if double == 0 {
+        return Ok(0);
+    }
+    if !snap.geometry.is_data(double) {
+        return Err(Stop::Io);
+    }
+    let bytes = data_block(snap, double)?;
+    let mut used = 1;
+    'inner: for inner in 0..INDIRECT_INDEXES {
+        let far = far_used(snap, Numbers::at(bytes, inner))?;
+        used += far;
+    }
+    Ok(used)
+}
+
 /// How many blocks a file uses.
 pub fn used_of(snap: &Snap, inode: &Inode) -> Result<u32, Stop>
-    ensures few { IfOk result (λ used. used ≤ FILE_INDEXES + 1) }
+    ensures few { IfOk result (λ used. used ≤ FILE_INDEXES + INDIRECT_INDEXES + 2) }
     ensures ok { IfOk result (λ used. (blocks : Image) (tree : Tree) (file : ℕ)
         → HasInode snap.now blocks tree file inode.now
         → IsShown inode.now used (body_in snap.now.geometry blocks inode.now)) }
     ensures err { IfErr result (λ stop. MayStop snap.now stop) }
-    ensures asks { IfErr result (λ stop. IsStopFor (IsBlockAddr inode.now.indirect) stop) }
+    ensures asks { IfErr result (λ stop. IsStopFor (IsPointerOf snap.now.objects.items inode.now) stop) }
     ensures pause { IfErr result (λ stop. (blocks : Image) (tree : Tree) (file : ℕ)
         → HasInode snap.now blocks tree file inode.now → IsPause stop) }
 {
-    match far_used(snap, inode.indirect) {
-        Ok(far) => Ok(inode.directly_used() + far),
-        Err(stop) => Err(stop),
-    }
+    let far = far_used(snap, inode.indirect)?;
+    let further = double_used(snap, inode.double)?;
+    Ok(inode.directly_used() + far + further)
 }

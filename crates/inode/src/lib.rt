@@ -13,8 +13,10 @@ mod stop;
 
 pub use bytes::{ask_block, piece, target};
 pub use index::AddressIndex;
-pub use inodes::{file_kind, held, used_of};
-pub use map::{block_number, data_block};
+pub use inodes::{far_used, file_kind, held, used_of};
+pub use map::{
+    block_number, data_block, double_numbers, indirect_numbers, inner_number, pointer_numbers,
+};
 pub use read::{bytes_at, inode_of};
 pub use snap::Snap;
 pub use stop::Stop;

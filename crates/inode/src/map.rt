@@ -1,21 +1,25 @@
 //! Where the blocks of a file lie.
-ghost use Rattle.std.specs.Prelude.{◌≡◌, ◌<◌, ℕ, true, length, IfOk, IfErr};
-ghost use Rattle.limits.specs.declared.TheConstants.{BLOCK_BYTES, FILE_INDEXES, INDIRECT_INDEXES};
+ghost use Rattle.std.specs.Prelude.{◌≡◌, ◌<◌, ◌≤◌, ℕ, true, length, IfOk, IfErr};
+ghost use Rattle.std.specs.List.{list_all};
+ghost use Rattle.limits.specs.declared.TheConstants.{BLOCK_BYTES, FILE_INDEXES, FIRST_DOUBLE_INDEX, INDIRECT_INDEXES};
 ghost use Rattle.disk.specs.Crash.{Image};
 ghost use Rattle.model.specs.Tree.{Tree};
+ghost use Rattle.layout.specs.Decode.{numbers_in};
 ghost use Rattle.layout.specs.InodeForm.{is_data_block_or_none};
 ghost use Rattle.layout.specs.Parts.{content_in};
 ghost use Rattle.layout.specs.Places.{is_data};
-ghost use Rattle.inode.specs.Over.{HasInode, IsOver, IsPause, MayStop, far_at, number_at};
-ghost use Rattle.inode.specs.Asked.{IsBlockAddr, IsFarNumber, IsIndirectFor, IsNumberAt, IsStopFor, WasReadBlock};
+ghost use Rattle.inode.specs.Asked.{AreFarNumbers, IsBlockAddr, IsFarNumber, IsNumberAt, IsPointerFor, IsStopFor};
+ghost use Rattle.inode.specs.Asked.{MayStopFor, WasReadBlock};
+ghost use Rattle.inode.specs.Over.{HasInode, IsOver, IsPause, MayStop, are_far_placed, far_at, number_at};
 
 use crate::read::bytes_at;
 use crate::snap::Snap;
 use crate::stop::Stop;
 use disk::BlockNo;
 use layout::{Inode, Numbers};
-use limits::DIRECT_INDEXES;
+use limits::{DIRECT_INDEXES, FIRST_DOUBLE_INDEX, INDIRECT_INDEXES};
 use objects::Addr;
+use std::alloc::Global;
 
 /// The bytes of a data block, once they were read.
 pub fn data_block(snap: &Snap, number: u32) -> Result<&[u8], Stop>
@@ -31,7 +35,7 @@ pub fn data_block(snap: &Snap, number: u32) -> Result<&[u8], Stop>
     bytes_at(snap, Addr::whole(BlockNo(number)))
 }
 
-// The number at an index of an indirect block: 0 where there is none.
+// The number at an index of a pointer block: 0 where there is none.
 fn far_number(snap: &Snap, indirect: u32, index: usize) -> Result<u32, Stop>
     requires { index < INDIRECT_INDEXES }
     ensures ok { IfOk result (λ number. (blocks : Image) (tree : Tree) → IsOver snap.now blocks tree
@@ -51,6 +55,103 @@ fn far_number(snap: &Snap, indirect: u32, index: usize) -> Result<u32, Stop>
     Ok(Numbers::at(bytes, index))
 }
 
+/// The numbers in a pointer block, once it was read: zeros where there is none.
+pub fn pointer_numbers(alloc: Global, snap: &Snap, pointer: u32) -> Result<Vec<u32>, Stop>
+    ensures len { IfOk result (λ numbers. length numbers.items ≡ INDIRECT_INDEXES) }
+    ensures placed { IfOk result
+        (λ numbers. list_all (is_data_block_or_none snap.now.geometry) numbers.items ≡ true) }
+    ensures ok { IfOk result (λ numbers. (blocks : Image) (tree : Tree) → IsOver snap.now blocks tree
+        → numbers.items ≡ numbers_in (content_in snap.now.geometry blocks) pointer) }
+    ensures read { IfOk result (λ numbers. AreFarNumbers snap.now.objects.items pointer numbers.items) }
+    ensures err { IfErr result (λ stop. MayStop snap.now stop) }
+    ensures asks { IfErr result (λ stop. MayStopFor (IsBlockAddr pointer) stop) }
+    ensures pause { IfErr result (λ stop. (blocks : Image) (tree : Tree) → IsOver snap.now blocks tree
+        → is_data_block_or_none snap.now.geometry pointer ≡ true
+        → are_far_placed snap.now.geometry blocks pointer → IsPause stop) }
+{
+    if pointer == 0 {
+        let zeros = vec![in alloc; 0; INDIRECT_INDEXES]?;
+        return Ok(zeros);
+    }
+    if !snap.geometry.is_data(pointer) {
+        return Err(Stop::Io);
+    }
+    let bytes = data_block(snap, pointer)?;
+    match Numbers::read(alloc, &snap.geometry, bytes)? {
+        Ok(read) => {
+            let numbers = Vec::from_slice(alloc, read.as_slice())?;
+            Ok(numbers)
+        }
+        Err(_) => Err(Stop::Io),
+    }
+}
+
+/// The numbers in the indirect block of a file, once it was read: zeros where there is none.
+pub fn indirect_numbers(alloc: Global, snap: &Snap, inode: &Inode) -> Result<Vec<u32>, Stop>
+    ensures len { IfOk result (λ numbers. length numbers.items ≡ INDIRECT_INDEXES) }
+    ensures placed { IfOk result
+        (λ numbers. list_all (is_data_block_or_none snap.now.geometry) numbers.items ≡ true) }
+    ensures ok { IfOk result (λ numbers. (blocks : Image) (tree : Tree) (file : ℕ)
+        → HasInode snap.now blocks tree file inode.now
+        → numbers.items ≡ numbers_in (content_in snap.now.geometry blocks) inode.now.indirect) }
+    ensures read { IfOk result (λ numbers. AreFarNumbers snap.now.objects.items inode.now.indirect numbers.items) }
+    ensures err { IfErr result (λ stop. MayStop snap.now stop) }
+    ensures asks { IfErr result (λ stop. MayStopFor (IsBlockAddr inode.now.indirect) stop) }
+    ensures pause { IfErr result (λ stop. (blocks : Image) (tree : Tree) (file : ℕ)
+        → HasInode snap.now blocks tree file inode.now → IsPause stop) }
+{
+    pointer_numbers(alloc, snap, inode.indirect)
+}
+
+/// The numbers of the inner blocks of a file, once its double indirect block was read: zeros where there is none.
+pub fn double_numbers(alloc: Global, snap: &Snap, inode: &Inode) -> Result<Vec<u32>, Stop>
+    ensures len { IfOk result (λ numbers. length numbers.items ≡ INDIRECT_INDEXES) }
+    ensures placed { IfOk result
+        (λ numbers. list_all (is_data_block_or_none snap.now.geometry) numbers.items ≡ true) }
+    ensures ok { IfOk result (λ numbers. (blocks : Image) (tree : Tree) (file : ℕ)
+        → HasInode snap.now blocks tree file inode.now
+        → numbers.items ≡ numbers_in (content_in snap.now.geometry blocks) inode.now.double) }
+    ensures read { IfOk result (λ numbers. AreFarNumbers snap.now.objects.items inode.now.double numbers.items) }
+    ensures err { IfErr result (λ stop. MayStop snap.now stop) }
+    ensures asks { IfErr result (λ stop. MayStopFor (IsBlockAddr inode.now.double) stop) }
+    ensures pause { IfErr result (λ stop. (blocks : Image) (tree : Tree) (file : ℕ)
+        → HasInode snap.now blocks tree file inode.now → IsPause stop) }
+{
+    pointer_numbers(alloc, snap, inode.double)
+}
+
+/// The number of an inner block of a file, as it stands in its double indirect block: 0 where there is none.
+pub fn inner_number(snap: &Snap, inode: &Inode, inner: usize) -> Result<u32, Stop>
+    requires { inner < INDIRECT_INDEXES }
+    ensures ok { IfOk result (λ number. (blocks : Image) (tree : Tree) (file : ℕ)
+        → HasInode snap.now blocks tree file inode.now
+        → number ≡ far_at (content_in snap.now.geometry blocks) inode.now.double inner) }
+    ensures read { IfOk result (λ number. IsFarNumber snap.now.objects.items inode.now.double inner number) }
+    ensures err { IfErr result (λ stop. MayStop snap.now stop) }
+    ensures asks { IfErr result (λ stop. IsStopFor (IsBlockAddr inode.now.double) stop) }
+    ensures pause { IfErr result (λ stop. (blocks : Image) (tree : Tree) (file : ℕ)
+        → HasInode snap.now blocks tree file inode.now → IsPause stop) }
+{
+    far_number(snap, inode.double, inner)
+}
+
+// The number at an index of a file that an inner block names, as it stands there.
+fn double_number(snap: &Snap, inode: &Inode, index: usize) -> Result<u32, Stop>
+    requires past { FIRST_DOUBLE_INDEX ≤ index }
+    requires within { index < FILE_INDEXES }
+    ensures ok { IfOk result (λ number. (blocks : Image) (tree : Tree) (file : ℕ)
+        → HasInode snap.now blocks tree file inode.now → number ≡ number_at snap.now.geometry blocks inode.now index) }
+    ensures read { IfOk result (λ number. IsNumberAt snap.now.objects.items inode.now index number) }
+    ensures err { IfErr result (λ stop. MayStop snap.now stop) }
+    ensures asks { IfErr result (λ stop. IsStopFor (IsPointerFor snap.now.objects.items inode.now index) stop) }
+    ensures pause { IfErr result (λ stop. (blocks : Image) (tree : Tree) (file : ℕ)
+        → HasInode snap.now blocks tree file inode.now → IsPause stop) }
+{
+    let behind = index - FIRST_DOUBLE_INDEX;
+    let inner = inner_number(snap, inode, behind / INDIRECT_INDEXES)?;
+    far_number(snap, inner, behind % INDIRECT_INDEXES)
+}
+
 // The number at an index of a file, as it stands there.
 fn named_number(snap: &Snap, inode: &Inode, index: usize) -> Result<u32, Stop>
     requires { index < FILE_INDEXES }
@@ -58,14 +159,17 @@ fn named_number(snap: &Snap, inode: &Inode, index: usize) -> Result<u32, Stop>
         → HasInode snap.now blocks tree file inode.now → number ≡ number_at snap.now.geometry blocks inode.now index) }
     ensures read { IfOk result (λ number. IsNumberAt snap.now.objects.items inode.now index number) }
     ensures err { IfErr result (λ stop. MayStop snap.now stop) }
-    ensures asks { IfErr result (λ stop. IsStopFor (IsIndirectFor inode.now index) stop) }
-    ensures pause { IfErr result (λ stop. is_data_block_or_none snap.now.geometry inode.now.indirect ≡ true
-        → IsPause stop) }
+    ensures asks { IfErr result (λ stop. IsStopFor (IsPointerFor snap.now.objects.items inode.now index) stop) }
+    ensures pause { IfErr result (λ stop. (blocks : Image) (tree : Tree) (file : ℕ)
+        → HasInode snap.now blocks tree file inode.now → IsPause stop) }
 {
     if index < DIRECT_INDEXES {
         return Ok(inode.direct[index]);
     }
-    far_number(snap, inode.indirect, index - DIRECT_INDEXES)
+    if index < FIRST_DOUBLE_INDEX {
+        return far_number(snap, inode.indirect, index - DIRECT_INDEXES);
+    }
+    double_number(snap, inode, index)
 }
 
 // Whether the number is that of a data block, or 0.
@@ -83,7 +187,7 @@ pub fn block_number(snap: &Snap, inode: &Inode, index: usize) -> Result<u32, Sto
     ensures read { IfOk result (λ number. IsNumberAt snap.now.objects.items inode.now index number) }
     ensures data { IfOk result (λ number. is_data_block_or_none snap.now.geometry number ≡ true) }
     ensures err { IfErr result (λ stop. MayStop snap.now stop) }
-    ensures asks { IfErr result (λ stop. IsStopFor (IsIndirectFor inode.now index) stop) }
+    ensures asks { IfErr result (λ stop. IsStopFor (IsPointerFor snap.now.objects.items inode.now index) stop) }
     ensures pause { IfErr result (λ stop. (blocks : Image) (tree : Tree) (file : ℕ)
         → HasInode snap.now blocks tree file inode.now → IsPause stop) }
 {

@@ -1,4 +1,6 @@
 //! What has been read for a call so far.
+ghost use Rattle.std.specs.Prelude.{◌≡◌};
+ghost use Rattle.layout.specs.declared.version.FormatVersion.TheVariants.{Second};
 ghost use Rattle.inode.specs.Indexed.{IsIndexed};
 
 use crate::alone::{is_among, note};
@@ -10,9 +12,10 @@ use objects::{Addr, Mode, SharedBytes};
 use std::alloc::{AllocError, Global};
 use txn::Object;
 
-/// The geometry of the image, the mode in which a reading asks for what wasn't read yet, the objects that were read so far
-/// in their order, the addresses of those that were asked for alone, and the blocks that were claimed. Free blocks are
-/// looked for from a piece of their bitmap on: any does. Where there is an index it tells where each object stands.
+/// The geometry of the image, which has the newest version once it is open, the mode in which a reading asks for what wasn't
+/// read yet, the objects that were read so far in their order, the addresses of those that were asked for alone, and the blocks
+/// that were claimed. Free blocks are looked for from a piece of their bitmap on: any does. Where there is an index it tells
+/// where each object stands.
 #[derive(Drop)]
 pub struct Snap {
     pub geometry: Geometry,
@@ -23,6 +26,7 @@ pub struct Snap {
     pub from: u32,
     pub index: Option<AddressIndex>,
     pub ghost indexed: { IsIndexed index objects.items },
+    pub ghost newest: { geometry.version ≡ Second },
 }
 
 impl Snap {
@@ -33,6 +37,7 @@ impl Snap {
 
     /// Nothing was read yet. What is read is asked for in this mode.
     pub fn new(alloc: Global, geometry: Geometry, from: u32, asks: Mode) -> Snap
+        requires { geometry.version ≡ Second }
         ensures geometry { result.geometry ≡ geometry }
         ensures from { result.from ≡ from }
         ensures asks { result.asks ≡ asks }

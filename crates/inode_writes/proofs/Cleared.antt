@@ -1,6 +1,6 @@
 -- Blocks in which a file's blocks, its number and its inode became free, one after another.
 use Rattle.std.proofs.Common.{◌≡◌, ℕ, zero, suc, ◌<◌, inl, inr, sym, ap, ◌∙◌, refl, subst, false}
-use Rattle.std.proofs.Common.{List, [], ◌∷◌, ◌++◌, length, replicate, None, Ok, arith}
+use Rattle.std.proofs.Common.{List, [], ◌++◌, length, replicate, None, Ok, arith}
 use Rattle.std.proofs.lemmas.Bool.{cases_eq}
 use Rattle.limits.specs.declared.TheConstants.{BLOCK_BYTES, INODE_BYTES}
 use Rattle.disk.specs.Crash.{Image}
@@ -11,25 +11,22 @@ use Rattle.layout.specs.Parts.{parts_of, put, with_bytes}
 use Rattle.layout.specs.Places.{inode_block, inode_offset}
 use Rattle.layout.proofs.Written.{elsewhere, here, parts_written}
 use Rattle.layout.proofs.WrittenBytes.{spliced-bytes}
-use Rattle.bitmap.specs.Bits.{MarksBlock, MarksNumber}
+use Rattle.bitmap.specs.Bits.{MarksNumber}
 use Rattle.inode_writes.specs.Frees.{Clears, Frees, without}
-use Rattle.inode_writes.proofs.Without.{without_more}
+use Rattle.inode_writes.proofs.Without.{without_both}
 
 -- ---- blocks that become free
 
 pub frees_none : (g : Geometry) (image : Image) → Frees g [] image image
 frees_none g image = record { bytes = λ are. are; parts = refl }
 
-pub frees_more : (g : Geometry) (numbers : List ℕ) (number : ℕ) (old middle new : Image)
-    → Frees g numbers old middle → MarksBlock g number false middle new
-    → Frees g (numbers ++ number ∷ []) old new
-frees_more g numbers number old middle new frees marks = record {
-  bytes = λ are. marks.bytes (frees.bytes are);
-  parts = marks.parts
-      ∙ (λ i. record (frees.parts i) { block_bits = put (frees.parts i).block_bits number false })
-      ∙ (λ i. record (parts_of g old) {
-        block_bits = sym (without_more numbers number (parts_of g old).block_bits) i;
-      });
+pub frees_both : (g : Geometry) (xs ys : List ℕ) (old middle new : Image)
+    → Frees g xs old middle → Frees g ys middle new → Frees g (xs ++ ys) old new
+frees_both g xs ys old middle new first then = record {
+  bytes = λ are. then.bytes (first.bytes are);
+  parts = then.parts
+      ∙ (λ i. record (first.parts i) { block_bits = without ys (first.parts i).block_bits })
+      ∙ (λ i. record (parts_of g old) { block_bits = sym (without_both xs ys (parts_of g old).block_bits) i });
 }
 
 -- ---- and the inode

@@ -1,6 +1,6 @@
 pub mod Without
 pub mod Cleared
 pub mod Removed
-pub mod MoreBlocks
 pub mod Made
 pub mod Linked
+pub mod OwnedBlocks

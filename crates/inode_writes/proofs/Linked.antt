@@ -1,6 +1,6 @@
 -- The blocks with the block and the inode of a new link hold the tree with it.
 use Rattle.std.proofs.Common.{◌≡◌, ℕ, zero, suc, ◌+◌, ◌-◌, ◌<◌, ◌≤◌, sym, ap, ◌∙◌, refl, subst, Bool, true, false}
-use Rattle.std.proofs.Common.{cond, not, List, [], ◌∷◌, ◌++◌, length, take, drop, filter, replicate, nat_eq, nat_le}
+use Rattle.std.proofs.Common.{cond, not, List, [], ◌∷◌, ◌++◌, length, take, drop, replicate, nat_eq, nat_le}
 use Rattle.std.proofs.Common.{append-nil, Some, Ok, arith}
 use Rattle.std.proofs.Math.Seq.{drop-append_seam}
 use Rattle.std.proofs.lemmas.Bool.{eq-eqb}
@@ -18,14 +18,13 @@ use Rattle.layout.specs.declared.geometry.Geometry.{Geometry}
 use Rattle.layout.specs.declared.inode.Inode.{Inode}
 use Rattle.layout.specs.declared.inode.InodeKind.TheVariants as kinds
 use Rattle.layout.specs.Decode.{IsFile, IsLink, IsOfKind, body_of, bytes_of, content_of, file_of, node_with}
-use Rattle.layout.specs.Decode.{numbers_in, numbers_of}
 use Rattle.layout.specs.Fields.{is_zeros}
 use Rattle.layout.specs.Holds.{Holds, PartsHold}
 use Rattle.layout.specs.InodeForm.{SoundInode, inode_bytes}
 use Rattle.layout.specs.Owners.{is_used, owned_by}
 use Rattle.layout.specs.Parts.{Parts, content_in, parts_of, put, with_bytes, with_inode}
 use Rattle.layout.specs.Places.{inode_block, inode_offset}
-use Rattle.layout.proofs.NumbersIn.{none_left}
+use Rattle.layout.proofs.FileNumbers.{near_owned}
 use Rattle.layout.proofs.OnGrid.{data_within}
 use Rattle.layout.proofs.Spelled.{read_back, written-length}
 use Rattle.layout.proofs.Written.{not_same, parts_written}
@@ -36,7 +35,6 @@ use Rattle.bitmap.proofs.Gained.{Gains, gained_file}
 use Rattle.drafts.proofs.Marks.{times}
 use Rattle.drafts.proofs.OneFile.{blocks_still}
 use Rattle.drafts.proofs.OtherWrites.{data_written}
-use Rattle.inode_writes.specs.Frees.{is_some}
 use Rattle.inode_writes.specs.Linked.{IsLaid, filled, linked}
 use Rattle.inode_writes.proofs.Cleared.{on_disk}
 use Rattle.inode_writes.proofs.Made.{either_true, no_use}
@@ -69,13 +67,7 @@ module _ (content : Image) (inode : Inode) (target : List ℕ) (block : ℕ) (so
   new_content = put content block (filled target)
 
   pub owns_it : owned_by new_content (Ok (Some new_inode)) ≡ block ∷ []
-  unfolding numbers_of
-  owns_it =
-      ap {B = List ℕ} (λ t. cond (not t) (block ∷ no_far) no_far) some
-      ∙ ap (λ l. block ∷ l) (none_left new_content 0 refl)
-    where
-      no_far : List ℕ
-      no_far = filter is_some (numbers_in new_content 0)
+  owns_it = near_owned new_content new_inode refl refl ∙ ap {B = List ℕ} (λ t. cond (not t) (block ∷ []) []) some
 
   its_bytes : bytes_of new_content (take 1 new_inode.direct) ≡ filled target
   unfolding bytes_of

@@ -18,7 +18,7 @@ use Rattle.layout.specs.declared.geometry.Geometry.{Geometry}
 use Rattle.layout.specs.declared.inode.Inode.{Inode}
 use Rattle.layout.specs.declared.inode.InodeKind.{InodeKind}
 use Rattle.layout.specs.declared.inode.InodeKind.TheVariants.{Regular, Directory, Link}
-use Rattle.layout.specs.Decode.{IsFile, IsOfKind, bytes_of, content_of, file_of, named_in, node_with}
+use Rattle.layout.specs.Decode.{is_used_pointer, IsFile, IsOfKind, bytes_of, content_of, file_of, named_in, node_with}
 use Rattle.layout.specs.Decode.{numbers_of}
 use Rattle.layout.specs.Fields.{is_zeros}
 use Rattle.layout.specs.Holds.{Holds, PartsHold}
@@ -27,8 +27,8 @@ use Rattle.layout.specs.InodeForm.{is_sound_kind, is_sound_link, is_sound_map}
 use Rattle.layout.specs.Owners.{is_used, owned_by}
 use Rattle.layout.specs.Parts.{Parts, parts_of, put, with_inode}
 use Rattle.layout.specs.Places.{inode_block, inode_offset}
+use Rattle.layout.proofs.FileNumbers.{near_owned, near_pass, pass_near_pointers}
 use Rattle.layout.proofs.Frame.{ChangesOne}
-use Rattle.layout.proofs.NumbersIn.{none_left, none_pass}
 use Rattle.layout.proofs.Spelled.{read_back, written-length}
 use Rattle.layout.proofs.Written.{not_same, parts_written}
 use Rattle.layout.proofs.WrittenBytes.{inode_are}
@@ -77,22 +77,28 @@ bytes_zero content (n ∷ numbers) e =
 
 module _ (g : Geometry) (content : Image) (inode : Inode) where
   no_numbers : list_all (λ n. nat_eq n 0) (numbers_of content (emptied inode)) ≡ true
-  unfolding numbers_of
-  no_numbers = none_pass content 0 refl (λ n. nat_eq n 0) refl
+  no_numbers = near_pass content (emptied inode) refl refl (λ n. nat_eq n 0) refl refl
 
   pub owns_none : owned_by content (Ok (Some (emptied inode))) ≡ []
-  unfolding numbers_of
-  owns_none = none_left content 0 refl
+  owns_none = near_owned content (emptied inode) refl refl
 
   pub rules : (kind : InodeKind) → is_sound_kind g kind (emptied inode) ≡ true
       → IsOfKind g content kind (emptied inode)
-  unfolding numbers_of named_in
+  unfolding named_in
   rules Regular good = record {
-    mapped = record { numbers = none_pass content 0 refl (is_data_block_or_none g) refl; used = refl };
+    mapped = record {
+      pointers = pass_near_pointers content (emptied inode) refl (is_data_block_or_none g) refl refl refl;
+      numbers = near_pass content (emptied inode) refl refl (is_data_block_or_none g) refl refl;
+      used = pass_near_pointers content (emptied inode) refl (is_used_pointer content) refl refl refl;
+    };
     zeros = bytes_zero content (numbers_of content (emptied inode)) no_numbers;
   }
   rules Directory good = record {
-    mapped = record { numbers = none_pass content 0 refl (is_data_block_or_none g) refl; used = refl };
+    mapped = record {
+      pointers = pass_near_pointers content (emptied inode) refl (is_data_block_or_none g) refl refl refl;
+      numbers = near_pass content (emptied inode) refl refl (is_data_block_or_none g) refl refl;
+      used = pass_near_pointers content (emptied inode) refl (is_used_pointer content) refl refl refl;
+    };
     spans = no_numbers;
     slots = λ k d less. absurd (omega (arith, less));
     once = len-empty (slice_cmp nat_cmp) DirectoryEntry;

@@ -43,11 +43,10 @@ without_others (x ∷ xs) bits b none = elim (cases_eq x b) [
       ∙ ap (λ t. cond t false (bits b)) (not_same b x (λ same. not (sym same)))
 ]
 
--- one more number
-pub without_more : (numbers : List ℕ) (x : ℕ) (bits : ℕ → Bool)
-    → without (numbers ++ x ∷ []) bits ≡ put (without numbers bits) x false
-without_more [] x bits = refl
-without_more (y ∷ ys) x bits = without_more ys x (put bits y false)
+-- numbers, and then others
+pub without_both : (xs ys : List ℕ) (bits : ℕ → Bool) → without (xs ++ ys) bits ≡ without ys (without xs bits)
+without_both [] ys bits = refl
+without_both (x ∷ xs) ys bits = without_both xs ys (put bits x false)
 
 -- what holds of each number of a list holds of one that is in it
 pub held_by : (P : ℕ → Type 0) (xs : List ℕ) (b : ℕ) → AllByRecursion P xs → 1 ≤ times b xs → P b

@@ -5,4 +5,4 @@ use Rattle.layout.specs.declared.inode.Inode.{Inode}
 
 -- the inode with no bytes and no blocks
 abbrev pub emptied : Inode → Inode
-emptied inode = record inode { size = 0; direct = replicate DIRECT_INDEXES 0; indirect = 0 }
+emptied inode = record inode { size = 0; direct = replicate DIRECT_INDEXES 0; indirect = 0; double = 0 }

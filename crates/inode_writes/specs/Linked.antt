@@ -10,7 +10,7 @@ use Rattle.bitmap.specs.Bits.{MarksNumber}
 -- the inode with so many bytes in this block
 abbrev pub linked : Inode → ℕ → ℕ → Inode
 linked inode size block =
-    record inode { size = size; direct = block ∷ 0 ∷ 0 ∷ 0 ∷ 0 ∷ 0 ∷ 0 ∷ 0 ∷ []; indirect = 0 }
+    record inode { size = size; direct = block ∷ 0 ∷ 0 ∷ 0 ∷ 0 ∷ 0 ∷ 0 ∷ 0 ∷ []; indirect = 0; double = 0 }
 
 -- a block with these bytes, and zeros behind them
 abbrev pub filled : List ℕ → List ℕ

@@ -1,33 +1,36 @@
 //! Blocks that become free.
-ghost use Rattle.std.specs.Prelude.{ℕ, ◌≡◌, ◌<◌, ◌≤◌, false, All, IfErr, OnOk};
+ghost use Rattle.std.specs.Prelude.{◌≡◌, ◌<◌, ◌≤◌, All, length, take, get_or, IfErr, IfOk, OnOk};
 ghost use Rattle.disk.specs.Crash.{Image};
-ghost use Rattle.bitmap.specs.Bits.{MarksBlock};
 ghost use Rattle.inode.specs.Over.{IsPause, MayStop};
 ghost use Rattle.drafts.specs.Drafted.{Shows, image_of, spent};
 ghost use Rattle.inode_writes.specs.Frees.{Frees};
 
-use bitmap::mark_block;
+use bitmap::clear_blocks;
 use drafts::Draft;
 use inode::Stop;
 use std::alloc::Global;
 
-// Marks a block as free.
-fn free_one(alloc: Global, draft: &mut Draft, number: u32) -> Result<(), Stop>
+// Marks as free the first of these blocks, with as many of the next as can be marked at once. Said is how many these
+// are.
+fn free_next(alloc: Global, draft: &mut Draft, numbers: &[u32]) -> Result<usize, Stop>
+    requires { 0 < length numbers.now }
+    ensures some { IfOk result (λ count. 0 < count) }
+    ensures most { IfOk result (λ count. count ≤ length numbers.now) }
     ensures shows { OnOk result ((blocks : Image) → Shows draft.old (image_of blocks draft.old)
         → Shows draft.new (image_of blocks draft.new)) }
-    ensures marks { OnOk result ((blocks : Image) → Shows draft.old (image_of blocks draft.old)
-        → MarksBlock draft.old.there.geometry number false (image_of blocks draft.old)
+    ensures frees { IfOk result (λ count. (blocks : Image) → Shows draft.old (image_of blocks draft.old)
+        → Frees draft.old.there.geometry (take count numbers.now) (image_of blocks draft.old)
         (image_of blocks draft.new)) }
     ensures seen { draft.new.seen ≡ draft.old.seen }
     ensures geometry { draft.new.there.geometry ≡ draft.old.there.geometry }
     ensures spent { spent draft.new ≤ spent draft.old }
     ensures err { IfErr result (λ stop. MayStop draft.old.seen stop) }
-    ensures pause { IfErr result (λ stop. number < draft.old.there.geometry.blocks → IsPause stop) }
+    ensures pause { IfErr result (λ stop. get_or numbers.now 0 0 < draft.old.there.geometry.blocks → IsPause stop) }
 {
-    if number >= draft.there().geometry.blocks {
+    if numbers[0] >= draft.there().geometry.blocks {
         return Err(Stop::Io);
     }
-    mark_block(alloc, draft, number, false)
+    clear_blocks(alloc, draft, numbers)
 }
 
 /// Marks blocks as free.
@@ -43,9 +46,10 @@ pub fn free_all(alloc: Global, draft: &mut Draft, numbers: &[u32]) -> Result<(),
     ensures pause { IfErr result (λ stop. All (λ number. number < draft.old.there.geometry.blocks) numbers.now
         → IsPause stop) }
 {
-    for number in numbers {
-        match free_one(alloc, draft, *number) {
-            Ok(()) => {}
+    let mut at = 0;
+    'numbers: while at < numbers.len() {
+        match free_next(alloc, draft, &numbers[at..]) {
+            Ok(count) => at += count,
             Err(stop) => return Err(stop),
         }
     }

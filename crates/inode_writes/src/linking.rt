@@ -31,6 +31,7 @@ fn linked(inode: &Inode, size: usize, block: u32) -> Inode
     new.size = size as u64;
     new.direct = [block, 0, 0, 0, 0, 0, 0, 0];
     new.indirect = 0;
+    new.double = 0;
     new
 }
 

@@ -26,6 +26,7 @@ pub fn emptied(inode: &Inode) -> Inode
     new.size = 0;
     new.direct = none;
     new.indirect = 0;
+    new.double = 0;
     new
 }
 

@@ -1,31 +1,80 @@
 //! The blocks of a file.
-ghost use Rattle.std.specs.Prelude.{◌≡◌, ◌++◌, ◌∷◌, [], ℕ, filter, Some, Ok, IfErr, IfOk, OnOk};
-ghost use Rattle.limits.specs.declared.TheConstants.{FILE_INDEXES};
+ghost use Rattle.std.specs.Prelude.{◌≡◌, ◌++◌, ◌∷◌, ℕ, Some, Ok, true, filter, IfErr, IfOk, OnOk};
+ghost use Rattle.std.specs.List.{flat_map, list_all};
 ghost use Rattle.disk.specs.Crash.{Image};
+ghost use Rattle.layout.specs.Decode.{numbers_in};
+ghost use Rattle.layout.specs.InodeForm.{is_data_block_or_none};
 ghost use Rattle.layout.specs.Owners.{owned_by};
 ghost use Rattle.layout.specs.Parts.{content_in};
 ghost use Rattle.model.specs.Tree.{Tree};
-ghost use Rattle.inode.specs.Over.{HasInode, IsPause, MayStop};
-ghost use Rattle.inode_writes.specs.Frees.{is_some};
+ghost use Rattle.inode.specs.Over.{HasInode, IsOver, IsPause, MayStop, are_far_placed};
+ghost use Rattle.inode_writes.specs.Frees.{is_some, named_by};
 
-use inode::{Snap, Stop, block_number};
+use inode::{Snap, Stop, double_numbers, indirect_numbers, pointer_numbers};
 use layout::Inode;
-use limits::{DIRECT_INDEXES, FILE_INDEXES};
 use std::alloc::{AllocError, Global};
 
-// Adds a number, if it is that of a block.
-fn add(numbers: &mut Vec<u32>, number: u32) -> Result<(), AllocError>
-    ensures { OnOk result (numbers.new.items ≡ numbers.old.items ++ filter is_some (number ∷ [])) }
+// The blocks of a file that no inner block names: its pointer blocks, those that its inode names itself, and those that
+// its indirect block names.
+fn near_blocks(
+    alloc: Global,
+    inode: &Inode,
+    inner: &[u32],
+    far: &[u32],
+) -> Result<Vec<u32>, AllocError>
+    ensures { IfOk result (λ numbers. numbers.items ≡ filter is_some
+        (inode.now.indirect ∷ inode.now.double ∷ inner.now ++ inode.now.direct ++ far.now)) }
 {
-    if number == 0 {
+    let mut numbers = Vec::from_slice(alloc, &[inode.indirect, inode.double])?;
+    numbers.extend_from_slice(inner)?;
+    numbers.extend_from_slice(&inode.direct)?;
+    numbers.extend_from_slice(far)?;
+    numbers.retain(|number| *number != 0);
+    Ok(numbers)
+}
+
+// Adds the numbers of the blocks that an inner block of a file names, if it has this one.
+fn add_inner(alloc: Global, snap: &Snap, pointer: u32, numbers: &mut Vec<u32>) -> Result<(), Stop>
+    ensures ok { OnOk result ((blocks : Image) (tree : Tree) → IsOver snap.now blocks tree
+        → numbers.new.items ≡ numbers.old.items ++ named_by (content_in snap.now.geometry blocks) pointer) }
+    ensures err { IfErr result (λ stop. MayStop snap.now stop) }
+    ensures pause { IfErr result (λ stop. (blocks : Image) (tree : Tree) → IsOver snap.now blocks tree
+        → is_data_block_or_none snap.now.geometry pointer ≡ true
+        → are_far_placed snap.now.geometry blocks pointer → IsPause stop) }
+{
+    if pointer == 0 {
         return Ok(());
     }
-    numbers.push(number)?;
+    let mut named = pointer_numbers(alloc, snap, pointer)?;
+    named.retain(|number| *number != 0);
+    numbers.extend_from_slice(&named)?;
     Ok(())
 }
 
-/// The numbers of the blocks of a file: of the one that has numbers itself, and of those of its indexes. Only where it
-/// has that one are there more than the direct indexes.
+// The same of all inner blocks.
+fn add_below(
+    alloc: Global,
+    snap: &Snap,
+    pointers: &[u32],
+    numbers: &mut Vec<u32>,
+) -> Result<(), Stop>
+    requires { list_all (is_data_block_or_none snap.now.geometry) pointers.now ≡ true }
+    ensures ok { OnOk result ((blocks : Image) (tree : Tree) → IsOver snap.now blocks tree
+        → numbers.new.items
+        ≡ numbers.old.items ++ flat_map (named_by (content_in snap.now.geometry blocks)) pointers.now) }
+    ensures err { IfErr result (λ stop. MayStop snap.now stop) }
+    ensures pause { IfErr result (λ stop. (blocks : Image) (tree : Tree) → IsOver snap.now blocks tree
+        → list_all (λ pointer. list_all (is_data_block_or_none snap.now.geometry)
+        (numbers_in (content_in snap.now.geometry blocks) pointer)) pointers.now ≡ true → IsPause stop) }
+{
+    for pointer in pointers {
+        add_inner(alloc, snap, *pointer, numbers)?;
+    }
+    Ok(())
+}
+
+/// The numbers of the blocks of a file: of its pointer blocks, of those that its inode names itself, and of those that
+/// its pointer blocks name.
 pub(crate) fn blocks_of(alloc: Global, snap: &Snap, inode: &Inode) -> Result<Vec<u32>, Stop>
     ensures ok { IfOk result (λ numbers. (blocks : Image) (tree : Tree) (file : ℕ)
         → HasInode snap.now blocks tree file inode.now
@@ -34,18 +83,12 @@ pub(crate) fn blocks_of(alloc: Global, snap: &Snap, inode: &Inode) -> Result<Vec
     ensures pause { IfErr result (λ stop. (blocks : Image) (tree : Tree) (file : ℕ)
         → HasInode snap.now blocks tree file inode.now → IsPause stop) }
 {
-    let mut numbers = Vec::new(alloc);
-    add(&mut numbers, inode.indirect)?;
-    let count = if inode.indirect == 0 {
-        DIRECT_INDEXES
-    } else {
-        FILE_INDEXES
-    };
-    'indexes: for index in 0..count {
-        match block_number(snap, inode, index) {
-            Ok(number) => add(&mut numbers, number)?,
-            Err(stop) => return Err(stop),
-        }
+    let far = indirect_numbers(alloc, snap, inode)?;
+    if inode.double == 0 {
+        return Ok(near_blocks(alloc, inode, &[], &far)?);
     }
+    let inner = double_numbers(alloc, snap, inode)?;
+    let mut numbers = near_blocks(alloc, inode, &inner, &far)?;
+    add_below(alloc, snap, &inner, &mut numbers)?;
     Ok(numbers)
 }

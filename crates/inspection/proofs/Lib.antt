@@ -1,4 +1,3 @@
-pub mod Tests
 pub mod Seen
 pub mod NoTree
 pub mod Files

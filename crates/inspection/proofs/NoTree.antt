@@ -1,6 +1,6 @@
 -- Blocks in which the layout refuses something that was read hold the files of no tree.
 use Rattle.std.proofs.Common.{◌≡◌, ℕ, ◌+◌, ◌-◌, ◌*◌, ◌<◌, sym, ap, ◌∙◌, true, false, cond, take}
-use Rattle.std.proofs.Common.{drop, replicate, Ok, Err, IsOk, Result, nat_eq, arith}
+use Rattle.std.proofs.Common.{subst, get_or, drop, replicate, Ok, Err, IsOk, Result, nat_eq, arith}
 use Rattle.std.proofs.lemmas.Bool.Decides.{nat_tests}
 use Rattle.std.specs.List.{list_all}
 use Rattle.limits.specs.declared.TheConstants.{BLOCK_BYTES, DIRECT_INDEXES, INDIRECT_INDEXES, SLOTS_PER_BLOCK}
@@ -18,17 +18,17 @@ use Rattle.layout.specs.Places.{is_data}
 use Rattle.layout.specs.SlotForm.{read_slot}
 use Rattle.layout.proofs.OnGrid.{data_within}
 use Rattle.inode.specs.declared.snap.Snap.{Snap}
-use Rattle.inode.specs.Over.{HasInode, number_at}
+use Rattle.inode.specs.Over.{HasInode, are_far_placed, far_at, number_at}
 use Rattle.inode.specs.Read.{Saw}
-use Rattle.inode.proofs.FarThere.{far_pass}
-use Rattle.inode.proofs.InodeThere.{is_of_kind, is_sound}
+use Rattle.inode.proofs.HeldThere.{far_placed}
 use Rattle.inode.proofs.Pieces.{direct}
-use Rattle.inode.proofs.Placed.{direct_at, far_there, some_far}
+use Rattle.inode.proofs.Placed.{direct_at, double_far_placed, far_there, inner_far_placed, inner_placed, some_far}
 use Rattle.inode.proofs.ReadThere.{no_fault}
 use Rattle.dir.specs.Slots.{IsDirectoryOf, slot_at}
 use Rattle.dir.proofs.SlotBlocks as slots
-use Rattle.inspection.specs.Refused.{HasRefusedBlock, IsRefused, IsRefusedAt, Names}
-use Rattle.inspection.specs.Refused.{far, near, refused_block, refused_inode, refused_numbers, refused_slots}
+use Rattle.inspection.specs.Refused.{HasRefusedBlock, HasRefusedPointer, IsRefused, IsRefusedAt, IsRefusedPointer, Names}
+use Rattle.inspection.specs.Refused.{far, near, refused_block, refused_double, refused_indirect, refused_inner}
+use Rattle.inspection.specs.Refused.{refused_inode, refused_numbers, refused_slots}
 
 differs : (a b : ℕ) → (a ≡ b → ⊥) → nat_eq a b ≡ false
 differs a b other = grind (arith, nat_tests)
@@ -58,6 +58,7 @@ module _ (snap : Snap) (blocks : Image) (tree : Tree) (number : ℕ) (inode : In
       ∙ some_far content inode.indirect (index - DIRECT_INDEXES) (blocks inode.indirect)
       (some_data g inode.indirect read.lies) (content_is g blocks inode.indirect read.lies)
       ∙ far_there g blocks inode index (direct snap blocks tree number inode has) more
+      (omega (arith, within))
 
   no_fault_at : {A B : Type 0} (r : Result A B) (fault : B) → r ≡ Err fault → IsOk r → ⊥
   no_fault_at (Ok a) fault e ok = cc
@@ -79,14 +80,33 @@ module _ (snap : Snap) (blocks : Image) (tree : Tree) (number : ℕ) (inode : In
       (slots.none_refused snap blocks tree number inode is (SLOTS_PER_BLOCK * index + at.slot.slot)
       (omega (arith, low, less)))
 
-  no_block : HasRefusedBlock snap blocks inode → ⊥
-  no_block (refused_numbers read others) =
-      let pass = far_pass g content inode (some_data g inode.indirect read.lies) inode.kind
-      (is_sound g blocks tree number inode has.over.holds has.less has.there)
-      (is_of_kind g blocks tree number inode has.over.holds has.less has.there) in
+  -- a pointer block whose numbers are those of data blocks isn't refused
+  no_pointer : (pointer : ℕ) → are_far_placed g blocks pointer → IsRefusedPointer snap blocks pointer → ⊥
+  no_pointer pointer placed refused =
       let clash : true ≡ false =
       sym (ap (λ l. list_all (is_data_block_or_none g) (numbers_at INDIRECT_INDEXES 0 l))
-      (content_is g blocks inode.indirect read.lies) ∙ pass) ∙ others in cc
+      (content_is g blocks pointer refused.read.lies) ∙ placed (some_data g pointer refused.read.lies))
+      ∙ refused.names in cc
+
+  -- the number of an inner block, as its double indirect block has it
+  inner_named : (inner : ℕ) → is_data g inode.double ≡ true
+      → get_or (numbers_at INDIRECT_INDEXES 0 (blocks inode.double)) inner 0 ≡ far_at content inode.double inner
+  inner_named inner lies =
+      some_far content inode.double inner (blocks inode.double) (some_data g inode.double lies)
+      (content_is g blocks inode.double lies)
+
+  no_pointers : HasRefusedPointer snap blocks inode → ⊥
+  no_pointers (refused_indirect one) =
+      no_pointer inode.indirect (far_placed snap blocks tree number inode has) one
+  no_pointers (refused_double one) =
+      no_pointer inode.double (double_far_placed snap blocks tree number inode has) one
+  no_pointers (refused_inner below) =
+      no_pointer (far_at content inode.double below.inner)
+      (inner_far_placed g blocks inode.double (inner_placed snap blocks tree number inode has) below.inner)
+      (subst (IsRefusedPointer snap blocks) (inner_named below.inner below.read.lies) below.is)
+
+  no_block : HasRefusedBlock snap blocks inode → ⊥
+  no_block (refused_numbers pointer) = no_pointers pointer
   no_block (refused_slots kind index less at) = no_slot (record { has = has; kind = kind }) index less at
 
 pub no_refused : (snap : Snap) (blocks : Image) (tree : Tree) → Saw blocks snap → Holds snap.geometry blocks tree

@@ -60,12 +60,28 @@ pub record IsRefusedAt (snap : Snap) (blocks : Image) (inode : Inode) (index : �
   pub read : WasReadBlock snap blocks number
   pub slot : HasRefusedSlot snap.geometry.inodes (blocks number)
 
--- A block of a file was read that the layout refuses: its indirect block, which names what is no data block; or
+-- a pointer block was read, and names what is no data block
+pub record IsRefusedPointer (snap : Snap) (blocks : Image) (pointer : ℕ) : Type 0 where
+  pub read : WasReadBlock snap blocks pointer
+  pub names : list_all (is_data_block_or_none snap.geometry) (numbers_at INDIRECT_INDEXES 0 (blocks pointer)) ≡ false
+
+-- so it is with an inner block that a double indirect block names, which was read too
+pub record IsRefusedBelow (snap : Snap) (blocks : Image) (double : ℕ) : Type 0 where
+  pub read : WasReadBlock snap blocks double
+  pub inner : ℕ
+  pub less : inner < INDIRECT_INDEXES
+  pub is : IsRefusedPointer snap blocks (get_or (numbers_at INDIRECT_INDEXES 0 (blocks double)) inner 0)
+
+-- so it is with a pointer block of a file
+pub data HasRefusedPointer (snap : Snap) (blocks : Image) (inode : Inode) : Type 0 where
+  refused_indirect : IsRefusedPointer snap blocks inode.indirect → HasRefusedPointer snap blocks inode
+  refused_double : IsRefusedPointer snap blocks inode.double → HasRefusedPointer snap blocks inode
+  refused_inner : IsRefusedBelow snap blocks inode.double → HasRefusedPointer snap blocks inode
+
+-- A block of a file was read that the layout refuses: a pointer block, which names what is no data block; or
 -- a block of a directory.
 pub data HasRefusedBlock (snap : Snap) (blocks : Image) (inode : Inode) : Type 0 where
-  refused_numbers : WasReadBlock snap blocks inode.indirect
-      → list_all (is_data_block_or_none snap.geometry) (far_numbers blocks inode) ≡ false
-      → HasRefusedBlock snap blocks inode
+  refused_numbers : HasRefusedPointer snap blocks inode → HasRefusedBlock snap blocks inode
   refused_slots : inode.kind ≡ Directory → (index : ℕ) → index < span_of inode → IsRefusedAt snap blocks inode index
       → HasRefusedBlock snap blocks inode
 

@@ -1,5 +1,5 @@
 //! The blocks of a file, as far as they were read.
-ghost use Rattle.std.specs.Prelude.{ℕ, ◌≡◌, ◌<◌, length, true, false, IfNone, IfSome};
+ghost use Rattle.std.specs.Prelude.{ℕ, ◌≡◌, ◌<◌, ◌⊎◌, length, get_or, true, false, IfNone, IfSome};
 ghost use Rattle.std.specs.List.{list_all};
 ghost use Rattle.limits.specs.declared.TheConstants.{BLOCK_BYTES, INDIRECT_INDEXES, MOST_SPAN};
 ghost use Rattle.disk.specs.Crash.{Image};
@@ -7,13 +7,13 @@ ghost use Rattle.layout.specs.Decode.{span_of};
 ghost use Rattle.layout.specs.Fields.{numbers_at};
 ghost use Rattle.layout.specs.InodeForm.{is_data_block_or_none};
 ghost use Rattle.inode.specs.Read.{Saw};
-ghost use Rattle.inspection.specs.Refused.{AreRead, HasRefusedBlock, HasRefusedSlot, IsRefusedAt, Names};
-ghost use Rattle.inspection.specs.Refused.{WasReadBlock};
+ghost use Rattle.inspection.specs.Refused.{AreRead, HasRefusedBlock, HasRefusedPointer, HasRefusedSlot, IsRefusedAt};
+ghost use Rattle.inspection.specs.Refused.{IsRefusedBelow, IsRefusedPointer, Names, WasReadBlock};
 
 use disk::BlockNo;
 use inode::Snap;
 use layout::{Geometry, Inode, InodeKind, Numbers, Slot};
-use limits::{BLOCK_BYTES, DIRECT_INDEXES, MOST_SPAN, SLOTS_PER_BLOCK};
+use limits::{BLOCK_BYTES, DIRECT_INDEXES, INDIRECT_INDEXES, MOST_SPAN, SLOTS_PER_BLOCK};
 use objects::Addr;
 
 // The bytes of a data block, if it was read.
@@ -34,7 +34,7 @@ fn read_block(snap: &Snap, number: u32) -> Option<&[u8]>
     }
 }
 
-// Whether an indirect block names what is no data block.
+// Whether a pointer block names what is no data block.
 fn names_others(geometry: &Geometry, block: &[u8]) -> bool
     requires { length block.now ≡ BLOCK_BYTES }
     ensures some { result ≡ true
@@ -114,18 +114,69 @@ fn is_refused_directory(snap: &Snap, inode: &Inode) -> bool
     false
 }
 
-// Whether an indirect block was read, and names what is no data block.
-fn is_refused_far(snap: &Snap, inode: &Inode) -> bool
+// Whether a pointer block was read, and names what is no data block.
+fn is_refused_pointer(snap: &Snap, pointer: u32) -> bool
     ensures some { result ≡ true → (blocks : Image) → AreRead snap.now blocks
-        → HasRefusedBlock snap.now blocks inode.now }
-    ensures none { result ≡ false → (blocks : Image) → Saw blocks snap.now → WasReadBlock snap.now blocks inode.now.indirect
-        → list_all (is_data_block_or_none snap.now.geometry) (numbers_at INDIRECT_INDEXES 0 (blocks inode.now.indirect))
-        ≡ true }
+        → IsRefusedPointer snap.now blocks pointer }
+    ensures none { result ≡ false → (blocks : Image) → Saw blocks snap.now → IsRefusedPointer snap.now blocks pointer → ⊥ }
 {
-    match read_block(snap, inode.indirect) {
+    match read_block(snap, pointer) {
         Some(block) => names_others(&snap.geometry, block),
         None => false,
     }
+}
+
+// Whether a block has the number of a pointer block that was read and names what is no data block.
+fn names_refused(snap: &Snap, block: &[u8]) -> bool
+    requires { length block.now ≡ BLOCK_BYTES }
+    ensures some { result ≡ true → (blocks : Image) → AreRead snap.now blocks → (inner : ℕ) × (inner < INDIRECT_INDEXES)
+        × IsRefusedPointer snap.now blocks (get_or (numbers_at INDIRECT_INDEXES 0 block.now) inner 0) }
+    ensures none { result ≡ false → (blocks : Image) (inner : ℕ) → Saw blocks snap.now → inner < INDIRECT_INDEXES
+        → IsRefusedPointer snap.now blocks (get_or (numbers_at INDIRECT_INDEXES 0 block.now) inner 0) → ⊥ }
+{
+    'inners: for inner in 0..INDIRECT_INDEXES {
+        if is_refused_pointer(snap, Numbers::at(block, inner)) {
+            return true;
+        }
+    }
+    false
+}
+
+// Whether a double indirect block was read, and one of its inner blocks, which names what is no data block.
+fn is_refused_below(snap: &Snap, double: u32) -> bool
+    ensures some { result ≡ true → (blocks : Image) → AreRead snap.now blocks → IsRefusedBelow snap.now blocks double }
+    ensures none { result ≡ false → (blocks : Image) → Saw blocks snap.now → IsRefusedBelow snap.now blocks double → ⊥ }
+{
+    match read_block(snap, double) {
+        Some(block) => names_refused(snap, block),
+        None => false,
+    }
+}
+
+// Whether a double indirect block names what is no data block, or one of its inner blocks does.
+fn is_refused_double(snap: &Snap, double: u32) -> bool
+    ensures some { result ≡ true → (blocks : Image) → AreRead snap.now blocks
+        → IsRefusedPointer snap.now blocks double ⊎ IsRefusedBelow snap.now blocks double }
+    ensures none { result ≡ false → (blocks : Image) → Saw blocks snap.now
+        → IsRefusedPointer snap.now blocks double ⊎ IsRefusedBelow snap.now blocks double → ⊥ }
+{
+    if is_refused_pointer(snap, double) {
+        return true;
+    }
+    is_refused_below(snap, double)
+}
+
+// Whether a pointer block was read of a file that names what is no data block.
+fn is_refused_far(snap: &Snap, inode: &Inode) -> bool
+    ensures some { result ≡ true → (blocks : Image) → AreRead snap.now blocks
+        → HasRefusedPointer snap.now blocks inode.now }
+    ensures none { result ≡ false → (blocks : Image) → Saw blocks snap.now
+        → HasRefusedPointer snap.now blocks inode.now → ⊥ }
+{
+    if is_refused_pointer(snap, inode.indirect) {
+        return true;
+    }
+    is_refused_double(snap, inode.double)
 }
 
 /// Whether the layout refuses a block of a file, as far as its blocks were read.

@@ -46,7 +46,7 @@ fn is_refused_object(snap: &Snap, object: &Object) -> bool
     }
 }
 
-/// Whether the layout refuses something that was read: an inode, or an indirect block or a slot of a file whose
+/// Whether the layout refuses something that was read: an inode, or a pointer block or a slot of a file whose
 /// inode was read.
 pub fn is_refused(snap: &Snap) -> bool
     ensures some { result ≡ true → (blocks : Image) → AreRead snap.now blocks → IsRefused snap.now blocks }

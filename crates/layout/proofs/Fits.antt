@@ -76,6 +76,7 @@ module _ (bytes : List ℕ) (are : AreBytes bytes) where
     count = numbers-length DIRECT_INDEXES 88 bytes;
     direct = numbers DIRECT_INDEXES 88;
     indirect = four 120;
+    double = four 124;
   }
 
 chosen : (b : Bool) (x y : Inode) → cond b (Ok (Some x)) (Err Range) ≡ Ok (Some y) → (b ≡ true) × (x ≡ y)

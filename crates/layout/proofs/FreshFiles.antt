@@ -19,7 +19,7 @@ use Rattle.model.specs.Tree.{node_at}
 use Rattle.model.proofs.Sets.{eq_by_cmp-is}
 use Rattle.layout.specs.declared.fault.LayoutFault.TheVariants.{Range}
 use Rattle.layout.specs.declared.geometry.Geometry.{Geometry}
-use Rattle.layout.specs.Decode.{IsFile, IsDirectory, file_of, inode_at, numbers_of, named_in}
+use Rattle.layout.specs.Decode.{IsFile, IsDirectory, file_of, inode_at, is_used_pointer, named_in}
 use Rattle.layout.specs.Fresh.{HasFreshHomes, root_inode, is_outside}
 use Rattle.layout.specs.Owners.{IsMarked, owned, owned_by, is_used, is_marked_block, is_marked_inode}
 use Rattle.layout.specs.Parts.{Parts, parts_of, table_of, content_in, bit_at}
@@ -28,16 +28,20 @@ use Rattle.layout.specs.Geometry.{IsLawful, bitmap_blocks, inode_bitmap_at, data
 use Rattle.layout.specs.Stands.{geometry_of, file_at}
 use Rattle.layout.proofs.FreshBits.{bit_is}
 use Rattle.layout.proofs.FreshInodes.{free_at, root_at}
-use Rattle.layout.proofs.NumbersIn.{none_left, none_pass}
+use Rattle.layout.proofs.FileNumbers.{near_owned, near_pass, pass_near_pointers}
 
 -- ---- the two inodes
 
 module _ (g : Geometry) (image : Image) (moment : Moment) where
   root_kept : IsDirectory g image (root_inode moment)
-  unfolding numbers_of named_in
+  unfolding named_in
   root_kept = record {
-    mapped = record { numbers = none_pass image 0 refl (is_data_block_or_none g) refl; used = refl };
-    spans = none_pass image 0 refl (λ number. nat_eq number 0) refl;
+    mapped = record {
+      pointers = pass_near_pointers image (root_inode moment) refl (is_data_block_or_none g) refl refl refl;
+      numbers = near_pass image (root_inode moment) refl refl (is_data_block_or_none g) refl refl;
+      used = pass_near_pointers image (root_inode moment) refl (is_used_pointer image) refl refl refl;
+    };
+    spans = near_pass image (root_inode moment) refl refl (λ number. nat_eq number 0) refl refl;
     slots = λ k d less. absurd (omega (arith, less));
     once = len-empty (slice_cmp nat_cmp) DirectoryEntry;
   }
@@ -53,8 +57,7 @@ module _ (g : Geometry) (image : Image) (moment : Moment) where
   no_file = refl
 
   root_owns : owned_by image (Ok (Some (root_inode moment))) ≡ []
-  unfolding numbers_of
-  root_owns = none_left image 0 refl
+  root_owns = near_owned image (root_inode moment) refl refl
 
   free_owns : owned_by image (Ok None) ≡ []
   free_owns = refl

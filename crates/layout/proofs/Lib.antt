@@ -25,8 +25,12 @@ pub mod NumbersBytes
 pub mod SuperBytes
 pub mod OneGeometry
 pub mod Versions
+pub mod NewestVersion
 pub mod AllNumbers
+pub mod Pieces
 pub mod NumbersIn
+pub mod FileNumbers
+pub mod ChangedNumbers
 pub mod OnGrid
 pub mod Holding
 pub mod CountedAt

@@ -1,11 +1,12 @@
 -- A file's node and rules look at the file's own blocks alone.
 use Rattle.std.proofs.Common.{◌≡◌, ℕ, zero, suc, sym, ap, ◌∙◌, refl, subst, Bool, true, false, cond, not}
-use Rattle.std.proofs.Common.{◌||◌, List, [], ◌∷◌, ◌++◌, length, take, drop, nat_eq, replicate, filter, All}
-use Rattle.std.proofs.Common.{IsOk, Ok, Err, Result, Option, Some, None, ◌*◌}
+use Rattle.std.proofs.Common.{◌||◌, ◌&&◌, List, [], ◌∷◌, ◌++◌, length, take, drop, nat_eq, replicate, filter, All}
+use Rattle.std.proofs.Common.{IsOk, Ok, Err, Result, Option, Some, None, ◌*◌, arith}
 use Rattle.std.specs.List.{AllByRecursion, filter_map, list_all, list_any}
 use Rattle.std.specs.Cmp.Lexicographic.{slice_cmp}
 use Rattle.std.specs.Ordering.{nat_cmp}
 use Rattle.std.specs.FinMap as map
+use Rattle.std.proofs.lemmas.List.{take_all}
 use Rattle.limits.specs.declared.TheConstants.{BLOCK_BYTES}
 use Rattle.disk.specs.Crash.{Image}
 use Rattle.layout.specs.declared.fault.LayoutFault.{LayoutFault}
@@ -13,22 +14,20 @@ use Rattle.layout.specs.declared.geometry.Geometry.{Geometry}
 use Rattle.layout.specs.declared.inode.Inode.{Inode}
 use Rattle.layout.specs.declared.inode.InodeKind.{InodeKind}
 use Rattle.layout.specs.declared.inode.InodeKind.TheVariants.{Regular, Directory, Link}
-use Rattle.layout.specs.Decode.{numbers_in, numbers_of, content_of, bytes_of, mapped_of, span_of, slot_bytes}
+use Rattle.layout.specs.Decode.{numbers_of, content_of, bytes_of, mapped_of, span_of, slot_bytes}
 use Rattle.layout.specs.declared.slot.TheConstants.{SLOT_BYTES}
 use Rattle.layout.specs.Decode.{slots_of, entry_in, named_in, node_with, body_of, file_of, IsMapped}
-use Rattle.layout.specs.Decode.{IsOfKind, IsFile, pointer_blocks}
+use Rattle.layout.specs.Decode.{IsOfKind, IsFile, is_used_pointer, numbers_in, pointer_blocks}
 use Rattle.layout.specs.Fields.{is_zeros}
 use Rattle.layout.specs.InodeForm.{is_data_block_or_none, names_first}
 use Rattle.layout.specs.Owners.{owned_by}
 use Rattle.layout.specs.SlotForm.{read_slot}
-use Rattle.layout.proofs.NumbersIn.{either, same_in}
+use Rattle.layout.proofs.ChangedNumbers.{ArePointersSame, same_numbers, same_pointers}
+use Rattle.layout.proofs.FileNumbers.{first_numbers}
+use Rattle.layout.proofs.NumbersIn.{either}
 use Rattle.model.specs.Node as model
 
 module _ (P : ℕ → Type 0) where
-  all_left : (xs ys : List ℕ) → AllByRecursion P (xs ++ ys) → AllByRecursion P xs
-  all_left [] ys all = tt
-  all_left (x ∷ xs) ys all = (all.0, all_left xs ys all.1)
-
   all_take : (k : ℕ) (xs : List ℕ) → AllByRecursion P xs → AllByRecursion P (take k xs)
   all_take zero [] all = tt
   all_take zero (x ∷ xs) all = tt
@@ -56,6 +55,14 @@ module _ (a b : Image) where
   abbrev some : List ℕ → List ℕ
   some numbers = filter (λ number. not (nat_eq number 0)) numbers
 
+  parted : (pointers numbers : List ℕ) → AreSame (some (pointers ++ numbers))
+      → ArePointersSame a b pointers × AreSame (some numbers)
+  parted [] numbers same = (tt, same)
+  parted (n ∷ pointers) numbers same =
+      let one = first IsSame (nat_eq n 0) n (some (pointers ++ numbers)) same in
+      let rest = parted pointers numbers one.1 in
+      ((one.0, rest.0), rest.1)
+
   same_parts : (numbers : List ℕ) → AreSame (some numbers) → AllByRecursion IsAlike numbers
   same_parts [] same = tt
   same_parts (n ∷ numbers) same =
@@ -67,14 +74,22 @@ module _ (a b : Image) where
   same_bytes [] same = refl
   same_bytes (n ∷ numbers) same = λ i. same.0 i ++ same_bytes numbers same.1 i
 
+  -- pointer blocks in which the same numbers lie are used alike
+  used_alike : (pointers : List ℕ) → AllByRecursion (λ number. numbers_in b number ≡ numbers_in a number) pointers
+      → list_all (is_used_pointer b) pointers ≡ list_all (is_used_pointer a) pointers
+  used_alike [] same = refl
+  used_alike (n ∷ pointers) same =
+      λ i. (nat_eq n 0 || list_any (λ one. not (nat_eq one 0)) (same.0 i)) && used_alike pointers same.1 i
+
   module _ (inode : Inode) (same : AreSame (owned_by a (Ok (Some inode)))) where
-    both : (nat_eq inode.indirect 0 ≡ false → b inode.indirect ≡ a inode.indirect)
-        × AreSame (some (numbers_of a inode))
-    both = first IsSame (nat_eq inode.indirect 0) inode.indirect (some (numbers_of a inode)) same
+    both : ArePointersSame a b (pointer_blocks a inode) × AreSame (some (numbers_of a inode))
+    both = parted (pointer_blocks a inode) (numbers_of a inode) same
+
+    kept : (numbers_of b inode ≡ numbers_of a inode) × (pointer_blocks b inode ≡ pointer_blocks a inode)
+    kept = same_numbers a b inode both.0
 
     numbers : numbers_of b inode ≡ numbers_of a inode
-    unfolding numbers_of
-    numbers = ap (λ far. inode.direct ++ far) (same_in b a inode.indirect both.0)
+    numbers = kept.0
 
     each : AllByRecursion IsAlike (numbers_of a inode)
     each = same_parts (numbers_of a inode) both.1
@@ -87,9 +102,10 @@ module _ (a b : Image) where
         ∙ same_bytes (take k (numbers_of a inode)) (all_take IsAlike k (numbers_of a inode) each)
 
     each_direct : AllByRecursion IsAlike inode.direct
-    unfolding numbers_of
-    each_direct =
-        all_left IsAlike inode.direct (numbers_in a inode.indirect) each
+    each_direct = subst (AllByRecursion IsAlike)
+        (first_numbers a inode (length inode.direct) (omega arith)
+        ∙ take_all (length inode.direct) inode.direct (omega arith))
+        (all_take IsAlike (length inode.direct) (numbers_of a inode) each)
 
     target : bytes_of b (take 1 inode.direct) ≡ bytes_of a (take 1 inode.direct)
     target = same_bytes (take 1 inode.direct) (all_take IsAlike 1 inode.direct each_direct)
@@ -105,9 +121,10 @@ module _ (a b : Image) where
 
     mapped : (g : Geometry) → IsMapped g a inode → IsMapped g b inode
     mapped g m = record {
+      pointers = ap (list_all (is_data_block_or_none g)) kept.1 ∙ m.pointers;
       numbers = ap (list_all (is_data_block_or_none g)) numbers ∙ m.numbers;
-      used = ap (λ ns. nat_eq inode.indirect 0
-          || list_any (λ number. not (nat_eq number 0)) (drop (length inode.direct) ns)) numbers ∙ m.used;
+      used = ap (list_all (is_used_pointer b)) kept.1
+          ∙ used_alike (pointer_blocks a inode) (same_pointers a b (pointer_blocks a inode) both.0) ∙ m.used;
     }
 
     of_kind : (g : Geometry) (kind : InodeKind) → IsOfKind g a kind inode → IsOfKind g b kind inode
@@ -131,7 +148,7 @@ module _ (a b : Image) where
     body inodes Link = λ i. model.Link (take inode.size (target i))
 
     owned_same : owned_by b (Ok (Some inode)) ≡ owned_by a (Ok (Some inode))
-    owned_same = ap (λ ns. some (pointer_blocks inode ++ ns)) numbers
+    owned_same = λ i. some (kept.1 i ++ kept.0 i)
 
   -- its rules, its node and its blocks, where its blocks are the same
   pub same_rules : (g : Geometry) (read : Result (Option Inode) LayoutFault) → AreSame (owned_by a read)

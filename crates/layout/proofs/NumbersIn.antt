@@ -1,20 +1,18 @@
--- The numbers in a pointer block: how many there are, what they are where there is none, what they look at,
--- and where they stand among those of a file.
-use Rattle.std.proofs.Common.{◌≡◌, ℕ, zero, suc, ◌+◌, sym, ap, ◌∙◌, refl, subst, Bool, true, false, cond, not}
-use Rattle.std.proofs.Common.{◌&&◌, List, [], ◌∷◌, ◌++◌, length, take, drop, filter, get_or, nat_eq, replicate, arith}
+-- The numbers in a pointer block, and those that a double indirect block reaches: how many there are, what they
+-- are where there is none, and what they look at.
+use Rattle.std.proofs.Common.{◌≡◌, ℕ, zero, suc, ◌+◌, ◌*◌, ◌<◌, sym, ap, ◌∙◌, refl, subst, Bool, true, false, cond, not}
+use Rattle.std.proofs.Common.{◌&&◌, ◌||◌, List, [], ◌∷◌, length, filter, get_or, nat_eq, replicate, arith}
 use Rattle.std.specs.List.{list_all, list_any}
-use Rattle.std.proofs.Math.Seq.{drop-append_seam, take-append_seam}
-use Rattle.std.proofs.lemmas.List.{append-nil, length-replicate}
-use Rattle.std.proofs.lemmas.List.Elements.{filter-append}
-use Rattle.std.proofs.lemmas.List.Sums.{sum_by-cons}
-use Rattle.limits.specs.declared.TheConstants.{DIRECT_INDEXES, INDIRECT_INDEXES}
+use Rattle.std.proofs.lemmas.List.{length-replicate}
+use Rattle.std.proofs.lemmas.List.Sums.{length-filter, sum_by-cons}
+use Rattle.limits.specs.declared.TheConstants.{DOUBLE_INDEXES, INDIRECT_INDEXES}
 use Rattle.disk.specs.Crash.{Image}
 use Rattle.layout.specs.declared.geometry.Geometry.{Geometry}
-use Rattle.layout.specs.declared.inode.Inode.{Inode}
-use Rattle.layout.specs.Decode.{numbers_in, numbers_of}
+use Rattle.layout.specs.Decode.{doubled_in, numbers_in}
 use Rattle.layout.specs.Fields.{count_of, numbers_at}
 use Rattle.layout.specs.InodeForm.{is_data_block_or_none}
 use Rattle.layout.proofs.NumbersAt.{numbers-length}
+use Rattle.layout.proofs.Pieces.{piece_at, pieces-length, pieces_kept, pieces_pass, same_pieces}
 
 abbrev is_some : ℕ → Bool
 is_some number = not (nat_eq number 0)
@@ -122,35 +120,74 @@ same_in one two number same =
     (numbers_at INDIRECT_INDEXES 0 (two number))
     (λ some. ap (numbers_at INDIRECT_INDEXES 0) (same some))
 
--- behind the numbers that an inode names itself
-pub past_direct : (blocks : Image) (inode : Inode)
-    → drop (length inode.direct) (numbers_of blocks inode) ≡ numbers_in blocks inode.indirect
-unfolding numbers_of
-past_direct blocks inode = drop-append_seam inode.direct (numbers_in blocks inode.indirect)
+-- ---- the numbers that a double indirect block reaches
 
--- ---- a file's numbers, by those that its inode names itself
+-- pointers of which none is one
+nothing_at : (blocks : Image) (pointer : ℕ) → pointer ≡ 0 → filter is_some (numbers_in blocks pointer) ≡ []
+nothing_at blocks pointer none = none_left blocks pointer (ap (λ n. nat_eq n 0) none)
 
-module _ (blocks : Image) (inode : Inode) (long : length inode.direct ≡ DIRECT_INDEXES) where
-  pub first_direct : take DIRECT_INDEXES (numbers_of blocks inode) ≡ inode.direct
-  unfolding numbers_of
-  first_direct =
-      ap (λ n. take n (inode.direct ++ numbers_in blocks inode.indirect)) (sym long)
-      ∙ take-append_seam inode.direct (numbers_in blocks inode.indirect)
+module _ (blocks : Image) (number : ℕ) where
+  pub doubled_length : length (doubled_in blocks number) ≡ DOUBLE_INDEXES
+  unfolding doubled_in
+  doubled_length =
+      pieces-length (numbers_in blocks) INDIRECT_INDEXES (in_length blocks) (numbers_in blocks number)
+      ∙ ap (λ n. n * INDIRECT_INDEXES) (in_length blocks number)
 
-  module _ (none : nat_eq inode.indirect 0 ≡ true) where
-    -- without an indirect block there are zeros behind them
-    pub none_past : take DIRECT_INDEXES (numbers_of blocks inode)
-        ++ replicate (length (numbers_in blocks inode.indirect)) 0
-        ≡ numbers_of blocks inode
-    unfolding numbers_of
-    none_past = λ i. first_direct i ++ sym (none_in blocks inode.indirect none) i
+  -- each lies in an inner block
+  pub doubled_at : (inner j : ℕ) → inner < INDIRECT_INDEXES → j < INDIRECT_INDEXES
+      → get_or (doubled_in blocks number) (inner * INDIRECT_INDEXES + j) 0
+      ≡ get_or (numbers_in blocks (get_or (numbers_in blocks number) inner 0)) j 0
+  unfolding doubled_in
+  doubled_at inner j row column =
+      let wide = in_length blocks number in
+      piece_at (numbers_in blocks) INDIRECT_INDEXES (in_length blocks) (numbers_in blocks number) inner j
+      (omega (arith, row, wide)) column
 
-    -- and no blocks but theirs
-    pub none_owned : filter is_some (inode.indirect ∷ take DIRECT_INDEXES (numbers_of blocks inode))
-        ≡ filter is_some (inode.indirect ∷ numbers_of blocks inode)
-    unfolding numbers_of
-    none_owned =
-        ap (λ l. filter is_some (inode.indirect ∷ l)) first_direct
-        ∙ sym (filter-append is_some (inode.indirect ∷ inode.direct) (numbers_in blocks inode.indirect)
-        ∙ ap (λ l. filter is_some (inode.indirect ∷ inode.direct) ++ l) (none_left blocks inode.indirect none)
-        ∙ append-nil (filter is_some (inode.indirect ∷ inode.direct)))
+  -- what all of them pass, those of each inner block do, and back
+  pub doubled_pass : (test : ℕ → Bool)
+      → list_all test (doubled_in blocks number)
+      ≡ list_all (λ inner. list_all test (numbers_in blocks inner)) (numbers_in blocks number)
+  unfolding doubled_in
+  doubled_pass test = pieces_pass (numbers_in blocks) test (numbers_in blocks number)
+
+  module _ (none : nat_eq number 0 ≡ true) where
+    -- without a double indirect block they are zeros: what zeros pass they do
+    pub no_double_pass : (test : ℕ → Bool) → test 0 ≡ true → list_all test (doubled_in blocks number) ≡ true
+    no_double_pass test is =
+        doubled_pass test
+        ∙ none_pass blocks number none (λ inner. list_all test (numbers_in blocks inner))
+        (none_pass blocks 0 refl test is)
+
+    -- and none is that of a block
+    pub no_double_left : filter is_some (doubled_in blocks number) ≡ []
+    unfolding doubled_in
+    no_double_left =
+        pieces_kept (numbers_in blocks) is_some (numbers_in blocks number)
+        (λ i less. nothing_at blocks (get_or (numbers_in blocks number) i 0) (none_at blocks number none i))
+
+-- they look at the double block and its inner blocks alone
+pub same_doubled : (one two : Image) (number other : ℕ)
+    → ((i : ℕ) → i < INDIRECT_INDEXES → numbers_in one (get_or (numbers_in one number) i 0)
+    ≡ numbers_in two (get_or (numbers_in two other) i 0))
+    → doubled_in one number ≡ doubled_in two other
+unfolding doubled_in
+same_doubled one two number other same =
+    let was = in_length two other in
+    let now = in_length one number in
+    same_pieces (numbers_in two) (numbers_in one) (numbers_in two other) (numbers_in one number)
+    (now ∙ sym was) (λ i less. same i (omega (arith, less, was)))
+
+-- ---- lists without the number of a block
+
+kept_more : (b : Bool) (x : ℕ) (xs : List ℕ) → cond b (x ∷ xs) xs ≡ [] → (b ≡ false) × (xs ≡ [])
+kept_more true x xs e = cc
+kept_more false x xs e = (refl, e)
+
+pub left_any : (xs : List ℕ) → filter is_some xs ≡ [] → list_any is_some xs ≡ false
+left_any [] none = refl
+left_any (x ∷ xs) none =
+    let both = kept_more (is_some x) x (filter is_some xs) none in
+    ap (λ t. t || list_any is_some xs) both.0 ∙ left_any xs both.1
+
+pub left_count : (xs : List ℕ) → filter is_some xs ≡ [] → count_of xs ≡ 0
+left_count xs none = sym (length-filter is_some xs) ∙ ap length none

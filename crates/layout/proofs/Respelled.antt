@@ -47,6 +47,11 @@ pub all_three : (a b c : Bool) → (a && b && c) ≡ true → (a ≡ true) × (b
 all_three true true true e = (refl, refl, refl)
 all_three _ _ _ e = cc
 
+pub all_four : (a b c d : Bool) → (a && b && c && d) ≡ true
+    → (a ≡ true) × (b ≡ true) × (c ≡ true) × (d ≡ true)
+all_four true true true true e = (refl, refl, refl, refl)
+all_four _ _ _ _ e = cc
+
 pub same_number : (a b : ℕ) → nat_eq a b ≡ true → a ≡ b
 same_number a b e = grind (arith, nat_tests)
 
@@ -143,26 +148,26 @@ module _ (bytes : List ℕ) (are : AreBytes bytes) where
 
     tail : (kind : InodeKind)
         → (nat_eq (four_at 76 bytes) 1 || nat_eq (four_at 76 bytes) 0 && nat_eq (eight_at 80 bytes) 0) ≡ true
-        → four_at 124 bytes ≡ 0 → tail_bytes (fields_of kind bytes) ≡ part 72 56
+        → tail_bytes (fields_of kind bytes) ≡ part 72 56
     unfolding fields_of tail_bytes
-    tail kind flags gap =
+    tail kind flags =
         followed 72 52 4 _ _
         (followed 72 48 4 _ _
         (followed 72 16 32 _ _
         (followed 72 4 12 _ _ (four 72 (omega arith)) (verifier (nat_eq (four_at 76 bytes) 1) refl flags))
         (numbers_back DIRECT_INDEXES 88 (omega (arith, long))))
         (four 120 (omega arith)))
-        (zero_four 124 (omega arith) gap)
+        (four 124 (omega arith))
 
     pub spelled : (kind : InodeKind) → four_at 0 bytes ≡ number_of_kind kind → rest_is_zero bytes ≡ true
         → bytes ≡ inode_bytes (fields_of kind bytes)
     spelled kind is rest =
-        let three = all_three (nat_eq (four_at 20 bytes) 0) (nat_eq (four_at 124 bytes) 0)
+        let both = all_two (nat_eq (four_at 20 bytes) 0)
         (nat_eq (four_at 76 bytes) 1 || nat_eq (four_at 76 bytes) 0 && nat_eq (eight_at 80 bytes) 0) rest in
         sym (take_all INODE_BYTES bytes (omega (arith, long)))
         ∙ sym (followed 0 72 56 _ _
-        (followed 0 24 48 _ _ (head kind is (same_number (four_at 20 bytes) 0 three.0)) (middle kind))
-        (tail kind three.2 (same_number (four_at 124 bytes) 0 three.1)))
+        (followed 0 24 48 _ _ (head kind is (same_number (four_at 20 bytes) 0 both.0)) (middle kind))
+        (tail kind both.1))
 
 -- the number of a kind
 pub number_of : (number : ℕ) (kind : InodeKind) → kind_of_number number ≡ Some kind

@@ -91,6 +91,7 @@ module _ (inode : Inode) (fits : FitsInode inode) where
             ∷ four d4 all.1.1.1.1.0 i ∷ four d5 all.1.1.1.1.1.0 i ∷ four d6 all.1.1.1.1.1.1.0 i
             ∷ four d7 all.1.1.1.1.1.1.1.0 i ∷ [];
         indirect = four inode.indirect fits.indirect i;
+        double = four inode.double fits.double i;
       }) direct long
 
   given_read : (bytes : List ℕ) → length bytes ≡ VERIFIER_BYTES → (direct : List ℕ)
@@ -119,6 +120,7 @@ module _ (inode : Inode) (fits : FitsInode inode) where
             ∷ four d4 all.1.1.1.1.0 i ∷ four d5 all.1.1.1.1.1.0 i ∷ four d6 all.1.1.1.1.1.1.0 i
             ∷ four d7 all.1.1.1.1.1.1.1.0 i ∷ [];
         indirect = four inode.indirect fits.indirect i;
+        double = four inode.double fits.double i;
       }) direct long) bytes count
 
   fields : (verifier : Option Verifier) → IfSome verifier VerifierFits → (direct : List ℕ)

@@ -45,4 +45,4 @@ inode_are i fits = join (join
     (join (four i.ctime.seconds) (four i.ctime.nanoseconds))) (eight i.stamp.boot))
     (eight i.stamp.transaction)))
     (join (join (join (join (four i.parent) (verifiers i.verifier fits.verifier)) (fours i.direct))
-    (four i.indirect)) (four 0))
+    (four i.indirect)) (four i.double))

@@ -1,5 +1,5 @@
 -- The file that an inode and its blocks are.
-use Rattle.std.specs.Prelude.{◌≡◌, ℕ, ◌*◌, ◌/◌, true, cond, not, ◌||◌, List, [], ◌∷◌, ◌++◌, nat_eq, take}
+use Rattle.std.specs.Prelude.{◌≡◌, ℕ, ◌*◌, ◌/◌, Bool, true, cond, not, ◌||◌, List, ◌∷◌, ◌++◌, nat_eq, take}
 use Rattle.std.specs.Prelude.{drop, length}
 use Rattle.std.specs.Prelude.{replicate, get_or, filter, All, IsOk, Option, Some, None, Result, Ok, Err}
 use Rattle.std.specs.List.{flat_map, filter_map, list_all, list_any, range_with_len}
@@ -22,19 +22,30 @@ use Rattle.layout.specs.InodeForm.{read_inode, is_data_block_or_none, names_firs
 use Rattle.layout.specs.Places.{inode_block, inode_offset}
 use Rattle.layout.specs.SlotForm.{read_slot}
 
--- the numbers of the blocks that hold numbers themselves, 0 where there is none: the indirect block
-abbrev pub pointer_blocks : Inode → List ℕ
-pointer_blocks inode = inode.indirect ∷ []
-
 -- the numbers in a block that holds numbers, zeros where there is none
 unfoldable pub numbers_in : Image → ℕ → List ℕ
 numbers_in blocks number =
     cond (nat_eq number 0) (replicate INDIRECT_INDEXES 0) (numbers_at INDIRECT_INDEXES 0 (blocks number))
 
+-- the numbers that a double indirect block reaches: those in each of its inner blocks, one behind another
+unfoldable pub doubled_in : Image → ℕ → List ℕ
+doubled_in blocks number = flat_map (numbers_in blocks) (numbers_in blocks number)
+
+-- the numbers of the blocks that hold numbers themselves, 0 where there is none: the indirect block, the double
+-- indirect block, and its inner blocks
+unfoldable pub pointer_blocks : Image → Inode → List ℕ
+pointer_blocks blocks inode = inode.indirect ∷ inode.double ∷ numbers_in blocks inode.double
+
 -- the numbers of the blocks of all indexes, 0 where no block is mapped: the direct ones, then those in the
--- indirect block
+-- indirect block, then those that the double indirect block reaches
 unfoldable pub numbers_of : Image → Inode → List ℕ
-numbers_of blocks inode = inode.direct ++ numbers_in blocks inode.indirect
+numbers_of blocks inode =
+    inode.direct ++ numbers_in blocks inode.indirect ++ doubled_in blocks inode.double
+
+-- a block that holds numbers is used: it has one of a block, or it is none
+abbrev pub is_used_pointer : Image → ℕ → Bool
+is_used_pointer blocks number =
+    nat_eq number 0 || list_any (λ one. not (nat_eq one 0)) (numbers_in blocks number)
 
 -- the bytes of an index: zeros where no block is mapped
 abbrev pub content_of : Image → ℕ → List ℕ
@@ -124,12 +135,11 @@ inode_at g blocks number =
     read_inode g
     (take INODE_BYTES (drop (inode_offset number) (blocks (inode_block g number))))
 
--- The numbers in an indirect block are those of data blocks, and it is used only where it has one.
+-- All its blocks are data blocks, and each that holds numbers has one.
 pub record IsMapped (g : Geometry) (blocks : Image) (inode : Inode) : Type 0 where
+  pub pointers : list_all (is_data_block_or_none g) (pointer_blocks blocks inode) ≡ true
   pub numbers : list_all (is_data_block_or_none g) (numbers_of blocks inode) ≡ true
-  pub used : nat_eq inode.indirect 0
-      || list_any (λ number. not (nat_eq number 0)) (drop (length inode.direct) (numbers_of blocks inode))
-      ≡ true
+  pub used : list_all (is_used_pointer blocks) (pointer_blocks blocks inode) ≡ true
 
 -- a regular file's bytes past its size are zero
 pub record IsRegular (g : Geometry) (blocks : Image) (inode : Inode) : Type 0 where

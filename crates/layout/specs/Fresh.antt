@@ -32,6 +32,7 @@ root_inode moment = record {
   verifier = None;
   direct = replicate DIRECT_INDEXES 0;
   indirect = 0;
+  double = 0;
 }
 
 -- the block of the table in which it lies: inode 0 is free, then comes the root, and all others are free

@@ -21,10 +21,11 @@ use Rattle.layout.specs.declared.inode.InodeKind.TheVariants.{Regular, Directory
 use Rattle.layout.specs.declared.inode_fields.TheConstants.{KIND_AT, MODE_AT, UID_AT, GID_AT, NLINK_AT}
 use Rattle.layout.specs.declared.inode_fields.TheConstants.{GAP_AT, SIZE_AT, ATIME_AT, MTIME_AT, CTIME_AT}
 use Rattle.layout.specs.declared.inode_fields.TheConstants.{BOOT_AT, TRANSACTION_AT, PARENT_AT, FLAGS_AT}
-use Rattle.layout.specs.declared.inode_fields.TheConstants.{VERIFIER_AT, DIRECT_AT, INDIRECT_AT, END_GAP_AT}
+use Rattle.layout.specs.declared.inode_fields.TheConstants.{VERIFIER_AT, DIRECT_AT, INDIRECT_AT, DOUBLE_AT}
 use Rattle.layout.specs.Fields.{four_at, eight_at, numbers_at, four_bytes, eight_bytes, number_bytes}
 use Rattle.layout.specs.Fields.{is_zeros}
 use Rattle.layout.specs.Places.{is_data}
+use Rattle.layout.specs.Version.{has_double}
 
 -- the kind of a number, as RFC 1813 numbers them in section 2.6
 abbrev pub kind_of_number : ℕ → Option InodeKind
@@ -67,12 +68,13 @@ fields_of kind bytes = record {
   verifier = verifier_of (four_at FLAGS_AT bytes) (verifier_at VERIFIER_AT bytes);
   direct = numbers_at DIRECT_INDEXES DIRECT_AT bytes;
   indirect = four_at INDIRECT_AT bytes;
+  double = four_at DOUBLE_AT bytes;
 }
 
 -- what no field has is zero
 abbrev pub rest_is_zero : List ℕ → Bool
 rest_is_zero bytes =
-    nat_eq (four_at GAP_AT bytes) 0 && nat_eq (four_at END_GAP_AT bytes) 0
+    nat_eq (four_at GAP_AT bytes) 0
     && (nat_eq (four_at FLAGS_AT bytes) 1 || nat_eq (four_at FLAGS_AT bytes) 0
     && nat_eq (eight_at VERIFIER_AT bytes) 0)
 
@@ -95,11 +97,12 @@ is_sound_file inode =
     nat_le inode.mode MODE_BITS && nat_le 1 inode.nlink && nat_le inode.nlink MOST_LINKS
     && is_time inode.atime && is_time inode.mtime && is_time inode.ctime
 
--- each block that it names is a data block
+-- each block that it names is a data block, and it has a double indirect block only in a version that has them
 abbrev pub is_sound_map : Geometry → Inode → Bool
 is_sound_map g inode =
     list_all (is_data_block_or_none g) inode.direct
-    && is_data_block_or_none g inode.indirect
+    && is_data_block_or_none g inode.indirect && is_data_block_or_none g inode.double
+    && (nat_eq inode.double 0 || has_double g.version)
 
 -- a regular file has any blocks, up to the size of the largest
 abbrev pub is_sound_regular : Inode → Bool
@@ -113,13 +116,14 @@ is_sound_directory g inode =
     && names_first (min (inode.size / BLOCK_BYTES) DIRECT_INDEXES) inode.direct
     && (cond (nat_lt DIRECT_INDEXES (inode.size / BLOCK_BYTES)) (not (nat_eq inode.indirect 0))
     (nat_eq inode.indirect 0))
-    && is_none inode.verifier
+    && nat_eq inode.double 0 && is_none inode.verifier
 
 -- a link has one block, with its target, and no create verifier
 abbrev pub is_sound_link : Inode → Bool
 is_sound_link inode =
     nat_le 1 inode.size && nat_le inode.size TARGET_BYTES && nat_eq inode.parent 0
-    && names_first 1 inode.direct && nat_eq inode.indirect 0 && is_none inode.verifier
+    && names_first 1 inode.direct && nat_eq inode.indirect 0 && nat_eq inode.double 0
+    && is_none inode.verifier
 
 -- an inode of a kind that shows nothing wrong by itself
 abbrev pub is_sound_kind : Geometry → InodeKind → Inode → Bool
@@ -139,8 +143,8 @@ inode_of_kind g (Some kind) bytes =
     cond (rest_is_zero bytes && is_sound_inode g (fields_of kind bytes))
     (Ok (Some (fields_of kind bytes))) (Err Range)
 
--- The inode that 128 bytes are in an image of this geometry, by the reading of its version, which is one so
--- far; a free one is nothing but zeros.
+-- The inode that 128 bytes are in an image of this geometry, by the reading of its version; a free one is
+-- nothing but zeros.
 unfoldable pub read_inode : Geometry → List ℕ → Result (Option Inode) LayoutFault
 read_inode g bytes =
     cond (is_zeros bytes) (Ok None)
@@ -168,7 +172,7 @@ middle_bytes inode =
 unfoldable pub tail_bytes : Inode → List ℕ
 tail_bytes inode =
     four_bytes inode.parent ++ verifier_bytes inode.verifier ++ number_bytes inode.direct
-    ++ four_bytes inode.indirect ++ four_bytes 0
+    ++ four_bytes inode.indirect ++ four_bytes inode.double
 
 -- the bytes that an inode gets
 abbrev pub inode_bytes : Inode → List ℕ
@@ -194,6 +198,7 @@ pub record FitsInode (inode : Inode) : Type 0 where
   pub count : length inode.direct ≡ DIRECT_INDEXES
   pub direct : AllByRecursion (λ number. number < 2 ^ 32) inode.direct
   pub indirect : inode.indirect < 2 ^ 32
+  pub double : inode.double < 2 ^ 32
 
 -- its fields have room, and it shows nothing wrong by itself in an image of this geometry
 pub record SoundInode (g : Geometry) (inode : Inode) : Type 0 where

@@ -12,5 +12,6 @@ pub mod Stands
 pub mod Holds
 pub mod SuperForm
 pub mod Version
+pub mod Newest
 pub mod Fresh
 pub mod Homes

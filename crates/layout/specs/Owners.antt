@@ -14,7 +14,7 @@ use Rattle.layout.specs.Geometry.{bitmap_blocks, data_at}
 -- the blocks of an inode: those that hold numbers, and those of its indexes
 abbrev pub owned_by : Image → Result (Option Inode) LayoutFault → List ℕ
 owned_by blocks (Ok (Some inode)) =
-    filter (λ number. not (nat_eq number 0)) (pointer_blocks inode ++ numbers_of blocks inode)
+    filter (λ number. not (nat_eq number 0)) (pointer_blocks blocks inode ++ numbers_of blocks inode)
 owned_by blocks (Ok None) = []
 owned_by blocks (Err fault) = []
 

@@ -12,6 +12,7 @@ ghost use Rattle.layout.specs.Geometry.{IsLawful};
 ghost use Rattle.layout.specs.Stands.{Stands, geometry_of};
 ghost use Rattle.layout.specs.SuperForm.{IsSuper, super_bytes};
 ghost use Rattle.layout.specs.declared.super_block.Super.{Super};
+ghost use Rattle.layout.specs.declared.version.FormatVersion.TheVariants.{Second};
 
 /// The homes of a fresh image stand for the tree with the root alone.
 pub fn a_fresh_image_stands_for_the_format_tree()
@@ -30,6 +31,12 @@ pub fn there_is_a_fresh_image()
 pub fn a_super_block_is_its_bytes()
     ensures { (s : Super) → IsLawful s.geometry.blocks s.geometry.inodes → s.boot < 2 ^ 64
         → IsSuper (super_bytes s) s }
+{}
+
+/// Blocks that stand for a tree in an image of any version stand for it where the image has the newest one.
+pub fn an_image_is_read_alike_in_the_newest_version()
+    ensures { (g h : Geometry) (blocks : Image) (tree : Tree) → h.version ≡ Second → h.blocks ≡ g.blocks
+        → h.inodes ≡ g.inodes → Stands g blocks tree → Stands h blocks tree }
 {}
 
 /// Two trees that the same blocks stand for are equal.

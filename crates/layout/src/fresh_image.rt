@@ -107,6 +107,7 @@ fn root_inode(made: Moment) -> Inode
         verifier: None,
         direct: [0; DIRECT_INDEXES],
         indirect: 0,
+        double: 0,
     }
 }
 

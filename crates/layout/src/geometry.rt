@@ -36,6 +36,7 @@ pub struct Geometry {
 }
 
 impl Geometry {
+    ghost use Rattle.layout.specs.Newest.{newest};
     ghost use Rattle.layout.specs.Places.{is_data, inode_block, inode_offset};
 
     /// The geometry of an image of this version and these sizes. Blocks below 1024 or above 1048576 are refused
@@ -63,6 +64,20 @@ impl Geometry {
             blocks,
             inodes,
         })
+    }
+
+    /// The same image in the newest version of the format.
+    pub fn newest(&self) -> Geometry
+        ensures is { result ≡ newest self.now }
+        ensures version { result.version ≡ FormatVersion.Second }
+        ensures blocks { result.blocks ≡ self.now.blocks }
+        ensures inodes { result.inodes ≡ self.now.inodes }
+    {
+        Geometry {
+            version: FormatVersion::Second,
+            blocks: self.blocks,
+            inodes: self.inodes,
+        }
     }
 
     /// The first block of the bitmap of inodes.

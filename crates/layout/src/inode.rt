@@ -37,6 +37,7 @@ pub struct Inode {
     pub verifier: Option<Verifier>,
     pub direct: [u32; DIRECT_INDEXES],
     pub indirect: u32,
+    pub double: u32,
 }
 
 impl Inode {

@@ -90,5 +90,5 @@ pub(crate) fn put_tail(bytes: &mut Vec<u8>, inode: &Inode) -> Result<(), AllocEr
     put_verifier(bytes, inode.verifier)?;
     put_numbers(bytes, &inode.direct)?;
     put_four(bytes, inode.indirect)?;
-    put_four(bytes, 0)
+    put_four(bytes, inode.double)
 }

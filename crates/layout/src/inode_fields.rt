@@ -46,8 +46,8 @@ const VERIFIER_AT: usize = 80;
 const DIRECT_AT: usize = 88;
 
 const INDIRECT_AT: usize = 120;
-// The last four bytes, which no field has.
-const END_GAP_AT: usize = 124;
+
+const DOUBLE_AT: usize = 124;
 
 /// The kind of a number, if it is one's.
 pub(crate) fn kind_of_number(number: u32) -> Option<InodeKind>
@@ -138,6 +138,7 @@ pub(crate) fn fields_of(kind: InodeKind, bytes: &[u8]) -> Inode
         verifier: verifier_of(four_at(bytes, FLAGS_AT), verifier_at(bytes, VERIFIER_AT)),
         direct: direct_of(bytes),
         indirect: four_at(bytes, INDIRECT_AT),
+        double: four_at(bytes, DOUBLE_AT),
     }
 }
 
@@ -147,7 +148,5 @@ pub(crate) fn rest_is_zero(bytes: &[u8]) -> bool
     ensures { result ≡ rest_is_zero bytes.now }
 {
     let flags = four_at(bytes, FLAGS_AT);
-    four_at(bytes, GAP_AT) == 0
-        && four_at(bytes, END_GAP_AT) == 0
-        && (flags == 1 || flags == 0 && eight_at(bytes, VERIFIER_AT) == 0)
+    four_at(bytes, GAP_AT) == 0 && (flags == 1 || flags == 0 && eight_at(bytes, VERIFIER_AT) == 0)
 }

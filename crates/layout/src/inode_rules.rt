@@ -76,6 +76,8 @@ impl Inode {
     {
         are_data_blocks_or_none(geometry, &self.direct)
             && is_data_block_or_none(geometry, self.indirect)
+            && is_data_block_or_none(geometry, self.double)
+            && (self.double == 0 || geometry.version.has_double())
     }
 
     fn is_sound_regular(&self) -> bool
@@ -99,6 +101,7 @@ impl Inode {
             } else {
                 self.indirect == 0
             })
+            && self.double == 0
             && self.verifier.is_none()
     }
 
@@ -110,6 +113,7 @@ impl Inode {
             && self.parent == 0
             && names_first(1, &self.direct)
             && self.indirect == 0
+            && self.double == 0
             && self.verifier.is_none()
     }
 

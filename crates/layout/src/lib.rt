@@ -21,7 +21,8 @@ mod version;
 pub use fault::LayoutFault;
 pub use fresh::{
     a_fresh_image_stands_for_the_format_tree, a_super_block_is_its_bytes,
-    blocks_stand_for_one_tree, there_is_a_fresh_image,
+    an_image_is_read_alike_in_the_newest_version, blocks_stand_for_one_tree,
+    there_is_a_fresh_image,
 };
 pub use fresh_image::FreshImage;
 pub use geometry::{Geometry, GeometryFault};

@@ -79,7 +79,7 @@ pub fn a_block_is_one_super_block()
     ensures { (bytes : List ℕ) (s t : Super) → IsSuper bytes s → IsSuper bytes t → s ≡ t }
 {}
 
-/// Geometries of the same counts are one, as there is one version so far.
+/// Geometries of the same version and counts are one.
 pub fn counts_make_one_geometry()
-    ensures { (g h : Geometry) → g.blocks ≡ h.blocks → g.inodes ≡ h.inodes → g ≡ h }
+    ensures { (g h : Geometry) → g.version ≡ h.version → g.blocks ≡ h.blocks → g.inodes ≡ h.inodes → g ≡ h }
 {}

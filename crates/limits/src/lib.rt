@@ -38,8 +38,10 @@ pub const LEAST_DATA_BLOCKS: u32 = 64;
 pub const INODE_BYTES: usize = 128;
 /// The bits of a block of a bitmap.
 pub const BITS_PER_BLOCK: u32 = 32_768;
-/// The version of the format.
-pub const FORMAT_VERSION: u32 = 1;
+/// The first version of the format: its images are opened, and have the newest version from then on.
+pub const FIRST_VERSION: u32 = 1;
+/// The version of the format that a new image gets.
+pub const FORMAT_VERSION: u32 = 2;
 
 // The sizes of files.
 
@@ -53,10 +55,15 @@ pub const ROOT_MODE: u32 = 0o755;
 pub const DIRECT_INDEXES: usize = 8;
 /// The indexes that an indirect block names.
 pub const INDIRECT_INDEXES: usize = 1024;
+/// The first index that a double indirect block reaches.
+pub const FIRST_DOUBLE_INDEX: usize = 1032;
+/// The indexes that a double indirect block reaches: it has the numbers of so many inner blocks as an indirect
+/// block has numbers, and each of these has as many.
+pub const DOUBLE_INDEXES: usize = 1_048_576;
 /// The indexes of the largest file.
-pub const FILE_INDEXES: usize = 1032;
+pub const FILE_INDEXES: usize = 1_049_608;
 /// The bytes of the largest file.
-pub const LARGEST_FILE: u64 = 4_227_072;
+pub const LARGEST_FILE: u64 = 4_299_194_368;
 /// The most blocks that a directory spans.
 pub const MOST_SPAN: usize = 1032;
 /// The bytes of the largest directory.
@@ -183,7 +190,11 @@ pub const ACCEPT_SLEEP_MILLISECONDS: u64 = 20;
 /// How long who found no room in the log, or too many commits kept, waits before looking again.
 pub const FULL_MILLISECONDS: u64 = 20;
 
-const _: () = prove!(FILE_INDEXES == DIRECT_INDEXES + INDIRECT_INDEXES);
+const _: () = prove!(FIRST_DOUBLE_INDEX == DIRECT_INDEXES + INDIRECT_INDEXES);
+
+const _: () = prove!(DOUBLE_INDEXES == INDIRECT_INDEXES * INDIRECT_INDEXES);
+
+const _: () = prove!(FILE_INDEXES == FIRST_DOUBLE_INDEX + DOUBLE_INDEXES);
 
 const _: () = prove!(LARGEST_FILE == FILE_INDEXES as u64 * BLOCK_BYTES as u64);
 

@@ -1,11 +1,11 @@
 -- What is known of the inodes of a table, and where their parents lead.
-use Rattle.std.proofs.Common.{◌≡◌, ℕ, ◌+◌, ◌%◌, ◌/◌, ◌<◌, ◌≤◌, inl, inr, sym, ap, ◌∙◌, refl, true, cond, ◌&&◌, not}
-use Rattle.std.proofs.Common.{List, length, take, drop, get_or, min, nat_eq, nat_le, nat_lt, is_none, Option, Some, None}
+use Rattle.std.proofs.Common.{◌≡◌, ℕ, ◌+◌, ◌<◌, ◌≤◌, inl, inr, sym, ap, ◌∙◌, refl, true, cond, ◌&&◌}
+use Rattle.std.proofs.Common.{List, length, take, drop, get_or, min, nat_le, nat_lt, Option, Some, None}
 use Rattle.std.proofs.Common.{Result, Ok, Err, arith}
 use Rattle.std.proofs.lemmas.Bool.{cases_lt, le-ltb, lt-ltb}
 use Rattle.std.proofs.lemmas.Bool.Decides.{nat_tests}
-use Rattle.limits.specs.declared.TheConstants.{BLOCK_BYTES, DIRECT_INDEXES, INODE_BYTES}
-use Rattle.limits.specs.declared.TheConstants.{LARGEST_DIRECTORY, MODE_BITS, MOST_LINKS}
+use Rattle.limits.specs.declared.TheConstants.{BLOCK_BYTES, INODE_BYTES}
+use Rattle.limits.specs.declared.TheConstants.{MODE_BITS, MOST_LINKS}
 use Rattle.disk.specs.Crash.{Image}
 use Rattle.nfs_types.specs.Fits.{AreBytes}
 use Rattle.model.specs.Names.{ancestor, parent_in, parent_of}
@@ -18,16 +18,17 @@ use Rattle.layout.specs.declared.inode.InodeKind.{InodeKind}
 use Rattle.layout.specs.declared.inode.InodeKind.TheVariants.{Directory, Link, Regular}
 use Rattle.layout.specs.Decode.{body_of, file_of, inode_at}
 use Rattle.layout.specs.InodeForm.{SoundInode, is_sound_directory, is_sound_file, is_sound_inode, is_sound_kind}
-use Rattle.layout.specs.InodeForm.{is_sound_link, is_sound_map, is_sound_regular, is_time, names_first}
+use Rattle.layout.specs.InodeForm.{is_sound_link, is_sound_map, is_sound_regular, is_time}
 use Rattle.layout.specs.Parts.{content_in, table_of}
 use Rattle.layout.specs.Places.{inode_block, inode_offset}
 use Rattle.layout.proofs.Fits.{part-length, read_fits}
 use Rattle.layout.proofs.WrittenBytes.{dropped, taken}
-use Rattle.inode.proofs.AllTests.{all_five, all_seven, all_three, all_two, is_less, no_more}
+use Rattle.inode.proofs.AllTests.{all_five, all_three, all_two, no_more}
 use Rattle.tallies.specs.Led.{led}
 use Rattle.image_law.specs.TreeOf.{tree_of}
 use Rattle.image_law.specs.Whole.{named}
 use Rattle.image_law.proofs.Made.{files_are}
+use Rattle.image_law.proofs.SoundKinds.{parent_inside}
 use Rattle.image_law.proofs.Reached.{as_led}
 use Rattle.image_links.specs.declared.links.Links.{Links}
 use Rattle.image_links.specs.Linked.{is_directory_kind, parent_below}
@@ -107,19 +108,7 @@ module _ (g : Geometry) (blocks : Image) where
         no_more inode.nlink MOST_LINKS rules.2
 
     within_by : (kind : InodeKind) → kind ≡ Directory → is_sound_kind g kind inode ≡ true → inode.parent < g.inodes
-    within_by Directory kind e =
-        let three = all_three (is_sound_file inode) (is_sound_map g inode) (is_sound_directory g inode) e in
-        let last = all_two (nat_le 2 inode.nlink && nat_le inode.size LARGEST_DIRECTORY
-        && nat_eq (inode.size % BLOCK_BYTES) 0 && nat_lt 0 inode.parent && nat_lt inode.parent g.inodes
-        && names_first (min (inode.size / BLOCK_BYTES) DIRECT_INDEXES) inode.direct
-        && (cond (nat_lt DIRECT_INDEXES (inode.size / BLOCK_BYTES)) (not (nat_eq inode.indirect 0))
-        (nat_eq inode.indirect 0))) (is_none inode.verifier) three.2 in
-        let rules = all_seven (nat_le 2 inode.nlink) (nat_le inode.size LARGEST_DIRECTORY)
-        (nat_eq (inode.size % BLOCK_BYTES) 0) (nat_lt 0 inode.parent) (nat_lt inode.parent g.inodes)
-        (names_first (min (inode.size / BLOCK_BYTES) DIRECT_INDEXES) inode.direct)
-        (cond (nat_lt DIRECT_INDEXES (inode.size / BLOCK_BYTES)) (not (nat_eq inode.indirect 0))
-        (nat_eq inode.indirect 0)) last.0 in
-        is_less inode.parent g.inodes rules.4
+    within_by Directory kind e = parent_inside g inode e
     within_by Regular kind e = absurd (let clash : Regular ≡ Directory = kind in cc)
     within_by Link kind e = absurd (let clash : Link ≡ Directory = kind in cc)
 

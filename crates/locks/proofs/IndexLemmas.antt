@@ -5,7 +5,7 @@ use Rattle.std.specs.Prelude.{slice_set}
 use Rattle.std.specs.List.{filter}
 use Rattle.std.proofs.lemmas.Bool.{cases_eq, cases_lt}
 use Rattle.std.proofs.lemmas.List.{get_or_append_left, get_or_push, length_push, length-map, get_or-set_same}
-use Rattle.std.proofs.lemmas.List.{get_or-set_other, map-append, length-set, take_more}
+use Rattle.std.proofs.lemmas.List.{get_or-set_other, map-append, length-set, take_more, length-take-le, get_or-take}
 use Rattle.txn_law.specs.declared.hold.Hold.{Hold}
 use Rattle.locks.specs.Index.{AreHomed, IsBefore, IsIndex, IsLast, IsSame, numbers}
 
@@ -160,6 +160,82 @@ pushed list last before block name index is home =
           ];
     }
 
+-- one hold fewer
+pub popped : (list last before : List ℕ) (block : ℕ) → IsIndex (list ++ block ∷ []) last before
+    → IsIndex list (slice_set last block (slice_index before (length list))) (take (length list) before)
+popped list last before block index =
+    let p : ℕ = slice_index before (length list) in
+    let len : length (list ++ block ∷ []) ≡ length list + 1 = length_push list block in
+    let long : length (slice_set last block p) ≡ length last = length-set last block p in
+    let each = index.each in
+    let old : (k : ℕ) → k < length list → slice_index (list ++ block ∷ []) k ≡ slice_index list k =
+    λ k lt. get_or_append_left list (block ∷ []) 0 k lt in
+    let end : slice_index (list ++ block ∷ []) (length list) ≡ block = get_or_push list block 0 (length list) refl in
+    let at_end : length list < length (list ++ block ∷ []) = omega (arith, len) in
+    let was = index.of_hold (length list) at_end in
+    let p_within = was.within in
+    let home : block < length last = (let h = index.homed (length list) at_end in omega (arith, h, end)) in
+    let here : slice_index (slice_set last block p) block ≡ p = get_or-set_same last block p 0 home in
+    let before_it : (k : ℕ) → k < length list → slice_index list k ≡ block → IsSame list k p = λ k lt e.
+    let later : k < p =
+    elim (cases_lt k p) as (λ _. k < p) [
+      | inl less ↦ less
+      | inr more ↦ absurd (was.between k more lt (old k lt ∙ e ∙ sym end))
+    ] in
+    record {
+      later = later;
+      within = p_within;
+      there = sym (old (p - 1) (omega (arith, later, p_within))) ∙ was.there (omega (arith, later)) ∙ end ∙ sym e;
+    } in
+    record {
+      homed = λ k lt. (
+          let h = index.homed k (omega (arith, lt, len)) in
+          let e = old k lt in
+          omega (arith, h, e, long));
+      each = length-take-le (length list) before (omega (arith, each, len));
+      of_block = λ k lt.
+          elim (cases_eq (slice_index list k) block) as (λ _. IsSame list k
+          (slice_index (slice_set last block p) (slice_index list k))) [
+            | inl e ↦
+                subst (λ (n : ℕ). IsSame list k n)
+                (sym (ap (λ (b : ℕ). slice_index (slice_set last block p) b) e ∙ here)) (before_it k lt e)
+            | inr ne ↦
+                let is_old = old k lt in
+                let name : ℕ = slice_index last (slice_index list k) in
+                let same : IsSame (list ++ block ∷ []) k name =
+                subst (λ (b : ℕ). IsSame (list ++ block ∷ []) k (slice_index last b)) is_old
+                (index.of_block k (omega (arith, lt, len))) in
+                let later = same.later in
+                let reach = same.within in
+                let within : name ≤ length list =
+                elim (cases_lt (length list) name) as (λ _. name ≤ length list) [
+                  | inl past ↦
+                      let is_end : name - 1 ≡ length list = omega (arith, past, reach, len) in
+                      absurd (ne (sym is_old ∙ sym same.there
+                      ∙ ap (λ (n : ℕ). slice_index (list ++ block ∷ []) n) is_end ∙ end))
+                  | inr le ↦ le
+                ] in
+                subst (λ (n : ℕ). IsSame list k n) (sym (get_or-set_other last block (slice_index list k) p 0 ne))
+                (record {
+                  later = later;
+                  within = within;
+                  there = sym (old (name - 1) (omega (arith, later, within))) ∙ same.there ∙ is_old;
+                })
+          ];
+      of_hold = λ k lt. (
+          let there = index.of_hold k (omega (arith, lt, len)) in
+          let within = there.within in
+          let is_old = old k lt in
+          subst (λ (n : ℕ). IsBefore list k n) (sym (get_or-take (length list) before k 0 lt))
+          (record {
+            within = within;
+            there = λ some. sym (old (slice_index before k - 1) (omega (arith, within, lt, some))) ∙ there.there some
+                ∙ is_old;
+            between = λ j from less e.
+                there.between j from less (old j (omega (arith, lt, less)) ∙ e ∙ sym is_old);
+          }));
+    }
+
 -- the hold before one that is the last but what was passed
 pub passed_on : (list last before : List ℕ) (block name : ℕ) → IsIndex list last before → 0 < name
     → name ≤ length list → slice_index list (name - 1) ≡ block
@@ -192,3 +268,40 @@ pub numbers-take : (holds : List Hold) (i : ℕ) (d : Hold) → i < length holds
     → numbers (take (i + 1) holds) ≡ numbers (take i holds) ++ (get_or holds i d).addr.block.0 ∷ []
 numbers-take holds i d lt =
     ap numbers (take_more holds i d lt) ∙ numbers-push (take i holds) (get_or holds i d)
+
+pub numbers-taken : (holds : List Hold) (count k : ℕ) (d : Hold) → k + 1 ≡ count → count ≤ length holds
+    → numbers (take count holds) ≡ numbers (take k holds) ++ (get_or holds k d).addr.block.0 ∷ []
+numbers-taken holds count k d e le =
+    subst (λ (n : ℕ). numbers (take n holds) ≡ numbers (take k holds) ++ (get_or holds k d).addr.block.0 ∷ []) e
+    (numbers-take holds k d (omega (arith, e, le)))
+
+-- a name stands at the block of the last of the holds that are noted
+pub homed_last : (holds : List Hold) (last before : List ℕ) (count k : ℕ) (d : Hold) → k + 1 ≡ count
+    → count ≤ length holds → IsIndex (numbers (take count holds)) last before
+    → (get_or holds k d).addr.block.0 < length last
+homed_last holds last before count k d e le index =
+    let block : ℕ = (get_or holds k d).addr.block.0 in
+    let list : List ℕ = numbers (take k holds) in
+    let size : length list ≡ k = numbers-length (take k holds) ∙ length-take-le k holds (omega (arith, e, le)) in
+    let len : length (list ++ block ∷ []) ≡ length list + 1 = length_push list block in
+    let index : IsIndex (list ++ block ∷ []) last before =
+    subst (λ (ns : List ℕ). IsIndex ns last before) (numbers-taken holds count k d e le) index in
+    let home = index.homed (length list) (omega (arith, len)) in
+    let end : slice_index (list ++ block ∷ []) (length list) ≡ block = get_or_push list block 0 (length list) refl in
+    omega (arith, home, end)
+
+-- what was noted of the last of them is taken back
+pub one_taken_back : (holds : List Hold) (last before : List ℕ) (count k : ℕ) (d : Hold) → k + 1 ≡ count
+    → count ≤ length holds → IsIndex (numbers (take count holds)) last before
+    → IsIndex (numbers (take k holds))
+    (slice_set last (get_or holds k d).addr.block.0 (slice_index before (length before - 1)))
+    (take (length before - 1) before)
+one_taken_back holds last before count k d e le index =
+    let block : ℕ = (get_or holds k d).addr.block.0 in
+    let list : List ℕ = numbers (take k holds) in
+    let len : length (list ++ block ∷ []) ≡ length list + 1 = length_push list block in
+    let index : IsIndex (list ++ block ∷ []) last before =
+    subst (λ (ns : List ℕ). IsIndex ns last before) (numbers-taken holds count k d e le) index in
+    let each = index.each in
+    subst (λ (n : ℕ). IsIndex list (slice_set last block (slice_index before n)) (take n before))
+    (omega (arith, len, each)) (popped list last before block index)

@@ -27,7 +27,7 @@ begun P holds block name is = record {
 }
 
 -- what is there doesn't go by what stands for none
-default : (xs : List Hold) (k : ℕ) (d e : Hold) → k < length xs → get_or xs k d ≡ get_or xs k e
+pub default : (xs : List Hold) (k : ℕ) (d e : Hold) → k < length xs → get_or xs k d ≡ get_or xs k e
 default [] k d e lt = absurd (omega (arith, lt))
 default (x ∷ xs) zero d e lt = refl
 default (x ∷ xs) (suc k) d e lt = default xs k d e (omega (arith, lt))
@@ -70,7 +70,8 @@ split : (a b : Bool) → (a && b) ≡ true → (a ≡ true) × (b ≡ true)
 split true b e = (refl, e)
 split false b e = absurd (cc)
 
-four : (tx : ℕ) (addr : Addr) (hold : Hold) → is_hold_of tx addr hold ≡ true → (nat_eq hold.transaction tx ≡ true)
+-- what the test says
+pub four : (tx : ℕ) (addr : Addr) (hold : Hold) → is_hold_of tx addr hold ≡ true → (nat_eq hold.transaction tx ≡ true)
     × (nat_eq hold.addr.block.0 addr.block.0 ≡ true) × (nat_eq hold.addr.offset addr.offset ≡ true)
     × (nat_eq hold.addr.len addr.len ≡ true)
 four tx addr hold e =
@@ -90,7 +91,7 @@ other_block tx addr hold ne = go (is_hold_of tx addr hold) refl
     go false e = e
     go true e = absurd (ne (eqb-true hold.addr.block.0 addr.block.0 (four tx addr hold e).1))
 
-find_none : (p : Hold → Bool) (xs : List Hold)
+pub find_none : (p : Hold → Bool) (xs : List Hold)
     → ((k : ℕ) (d : Hold) → k < length xs → p (get_or xs k d) ≡ false) → find p xs ≡ None
 find_none p [] h = refl
 find_none p (x ∷ xs) h =
@@ -107,6 +108,19 @@ none_held holds tx addr is =
       | inr other ↦ other_block tx addr (get_or holds k d) other
     ]))
 
+-- it has one hold of an address
+pub twice : (tx : ℕ) (addr : Addr) (x y : Hold) → AreBeside x y → is_hold_of tx addr x ≡ true
+    → is_hold_of tx addr y ≡ true → ⊥
+twice tx addr x y beside one two =
+    let a = four tx addr x one in
+    let b = four tx addr y two in
+    let same : x.addr ≡ y.addr = same_addr x.addr y.addr
+    (eqb-true x.addr.block.0 addr.block.0 a.1 ∙ sym (eqb-true y.addr.block.0 addr.block.0 b.1))
+    (eqb-true x.addr.offset addr.offset a.2 ∙ sym (eqb-true y.addr.offset addr.offset b.2))
+    (eqb-true x.addr.len addr.len a.3 ∙ sym (eqb-true y.addr.len addr.len b.3)) in
+    beside (subst (λ (at : Addr). Overlap x.addr at) same (overlaps_itself x.addr))
+    (inl (eqb-true x.transaction tx a.0 ∙ sym (eqb-true y.transaction tx b.0)))
+
 -- a hold of the address is the transaction's one
 pub one_held : (holds : List Hold) (tx : ℕ) (addr : Addr) (k : ℕ) (d : Hold) → AreApart holds → k < length holds
     → is_hold_of tx addr (get_or holds k d) ≡ true → Some (get_or holds k d) ≡ hold_of holds tx addr
@@ -114,23 +128,12 @@ one_held [] tx addr k d apart lt it = absurd (omega (arith, lt))
 one_held (x ∷ xs) tx addr k d apart lt it =
     go (λ j. one_held xs tx addr j d apart.1) (is_hold_of tx addr x) refl k lt it
   where
-    twice : (y : Hold) → AreBeside x y → is_hold_of tx addr x ≡ true → is_hold_of tx addr y ≡ true → ⊥
-    twice y beside one two =
-        let a = four tx addr x one in
-        let b = four tx addr y two in
-        let same : x.addr ≡ y.addr = same_addr x.addr y.addr
-        (eqb-true x.addr.block.0 addr.block.0 a.1 ∙ sym (eqb-true y.addr.block.0 addr.block.0 b.1))
-        (eqb-true x.addr.offset addr.offset a.2 ∙ sym (eqb-true y.addr.offset addr.offset b.2))
-        (eqb-true x.addr.len addr.len a.3 ∙ sym (eqb-true y.addr.len addr.len b.3)) in
-        beside (subst (λ (at : Addr). Overlap x.addr at) same (overlaps_itself x.addr))
-        (inl (eqb-true x.transaction tx a.0 ∙ sym (eqb-true y.transaction tx b.0)))
-
     go : ((j : ℕ) → j < length xs → is_hold_of tx addr (get_or xs j d) ≡ true
         → Some (get_or xs j d) ≡ hold_of xs tx addr) → (t : Bool) → is_hold_of tx addr x ≡ t → (k : ℕ)
         → k < length (x ∷ xs)
         → is_hold_of tx addr (get_or (x ∷ xs) k d) ≡ true
         → Some (get_or (x ∷ xs) k d) ≡ cond t (Some x) (hold_of xs tx addr)
     go rest true is zero lt it = refl
-    go rest true is (suc k) lt it = absurd (twice (get_or xs k d) (apart.0 k d (omega (arith, lt))) is it)
+    go rest true is (suc k) lt it = absurd (twice tx addr x (get_or xs k d) (apart.0 k d (omega (arith, lt))) is it)
     go rest false is zero lt it = absurd (true≢false (sym it ∙ is))
     go rest false is (suc k) lt it = rest k (omega (arith, lt)) it

@@ -1,6 +1,7 @@
 //! Where the holds of each block stand in a list of holds. A hold is named by its index in the list and one: 0 names
 //! none.
-ghost use Rattle.std.specs.Prelude.{◌≡◌, ◌<◌, ◌≤◌, ◌↔◌, ◌++◌, ◌∷◌, ℕ, [], IsTrue, OnOk, length, slice_index, vec_capacity};
+ghost use Rattle.std.specs.Prelude.{◌≡◌, ◌<◌, ◌≤◌, ◌↔◌, ◌++◌, ◌∷◌, ℕ, ◌-◌, [], IsTrue, OnOk, length, slice_index};
+ghost use Rattle.std.specs.Prelude.{slice_set, take, vec_capacity};
 ghost use Rattle.locks.specs.Index.{AreHomed, IsIndex, IsLast, IsOf, numbers};
 
 use disk::BlockNo;
@@ -85,9 +86,51 @@ impl Index {
         ensures index { IsIndex (numbers holds.now) self.new.last.items self.new.before.items }
     {
         self.before.clear();
-        for i in 0..holds.len() {
+        self.note_from(holds, 0);
+    }
+
+    /// Notes the holds from this one on, where those before it are noted.
+    pub(crate) fn note_from(&mut self, holds: &[Hold], from: usize)
+        requires within { from ≤ length holds.now }
+        requires homed { AreHomed (length self.old.last.items) (numbers holds.now) }
+        requires room { length holds.now ≤ vec_capacity self.old.before }
+        requires index { IsIndex (numbers (take from holds.now)) self.old.last.items self.old.before.items }
+        ensures more { length self.new.last.items ≡ length self.old.last.items }
+        ensures capacity { vec_capacity self.old.before ≤ vec_capacity self.new.before }
+        ensures index { IsIndex (numbers holds.now) self.new.last.items self.new.before.items }
+    {
+        for i in from..holds.len() {
             self.note(&holds[..i], holds[i].addr.block);
         }
+    }
+
+    /// Takes back what was noted of the holds from this one on.
+    pub(crate) fn cut(&mut self, holds: &[Hold], from: usize)
+        requires within { from ≤ length holds.now }
+        requires index { IsIndex (numbers holds.now) self.old.last.items self.old.before.items }
+        ensures more { length self.new.last.items ≡ length self.old.last.items }
+        ensures capacity { vec_capacity self.old.before ≤ vec_capacity self.new.before }
+        ensures index { IsIndex (numbers (take from holds.now)) self.new.last.items self.new.before.items }
+    {
+        let mut count = holds.len();
+        while count > from {
+            count -= 1;
+            self.take_back(holds[count].addr.block);
+        }
+    }
+
+    // Takes back what was noted last, of this block.
+    fn take_back(&mut self, block: BlockNo)
+        requires some { 0 < length self.old.before.items }
+        requires homed { block.0 < length self.old.last.items }
+        ensures last { self.new.last.items
+            ≡ slice_set self.old.last.items block.0 (slice_index self.old.before.items (length self.old.before.items - 1)) }
+        ensures before { self.new.before.items ≡ take (length self.old.before.items - 1) self.old.before.items }
+        ensures capacity { vec_capacity self.old.before ≤ vec_capacity self.new.before }
+    {
+        let count = self.before.len() - 1;
+        self.last[block.0 as usize] = self.before[count];
+        self.before.truncate(count);
     }
 }
 

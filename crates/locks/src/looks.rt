@@ -1,7 +1,7 @@
 //! Looks at what is taken.
 ghost use Rattle.std.specs.Prelude.{◌≡◌, ◌↔◌, IsTrue, is_some};
 ghost use Rattle.locks.specs.Index.{IsIndex, numbers};
-ghost use Rattle.locks.specs.Looks.{LetsPass};
+ghost use Rattle.locks.specs.Looks.{IsNameOf, LetsPass};
 ghost use Rattle.txn_law.specs.Holds.{IsFree, IsHoldOf, KeepsOff, hold_of, is_hold_of, is_read, is_written};
 ghost use Rattle.txn_law.specs.Tidy.{AreApart};
 
@@ -54,15 +54,27 @@ pub(crate) fn hold_of(holds: &[Hold], index: &Index, transaction: u64, addr: Add
     requires index { IsIndex (numbers holds.now) index.now.last.items index.now.before.items }
     ensures { result ≡ hold_of holds.now transaction addr }
 {
+    let name = name_of(holds, index, transaction, addr);
+    if name > 0 {
+        Some(holds[name - 1])
+    } else {
+        None
+    }
+}
+
+/// The name of the transaction's hold of the address, or 0.
+pub(crate) fn name_of(holds: &[Hold], index: &Index, transaction: u64, addr: Addr) -> usize
+    requires { IsIndex (numbers holds.now) index.now.last.items index.now.before.items }
+    ensures { IsNameOf holds.now transaction addr result }
+{
     let mut name = index.last_of(holds, addr.block);
     while name > 0 {
-        let hold = &holds[name - 1];
-        if is_hold_of(hold, transaction, addr) {
-            return Some(*hold);
+        if is_hold_of(&holds[name - 1], transaction, addr) {
+            return name;
         }
         name = index.before[name - 1];
     }
-    None
+    0
 }
 
 // Whether the transaction has taken the address by this hold.

@@ -5,7 +5,7 @@ ghost use Rattle.txn_law.specs.Holds.{joined, without_hold, with_hold, released}
 ghost use Rattle.txn_law.specs.Tidy.{AreApart};
 
 use crate::index::Index;
-use crate::looks::hold_of;
+use crate::looks::{hold_of, name_of};
 use objects::Addr;
 use txn_law::Hold;
 
@@ -44,9 +44,10 @@ fn add(holds: &mut Vec<Hold>, index: &mut Index, hold: Hold)
     }
 }
 
-// Lets go of the transaction's hold of the address.
+// Lets go of the transaction's hold of the address. Only what stands behind it is noted anew.
 fn let_go(holds: &mut Vec<Hold>, index: &mut Index, transaction: u64, addr: Addr)
     requires names { length index.old.before.items < vec_capacity index.old.before }
+    requires apart { AreApart holds.old.items }
     requires index { IsIndex (numbers holds.old.items) index.old.last.items index.old.before.items }
     ensures items { holds.new.items ≡ without_hold holds.old.items transaction addr }
     ensures len { vec_len holds.new ≤ vec_len holds.old }
@@ -55,8 +56,12 @@ fn let_go(holds: &mut Vec<Hold>, index: &mut Index, transaction: u64, addr: Addr
     ensures names { length index.new.before.items < vec_capacity index.new.before }
     ensures index { IsIndex (numbers holds.new.items) index.new.last.items index.new.before.items }
 {
-    holds.retain(|hold| hold.transaction != transaction || hold.addr != addr);
-    index.note_all(holds);
+    let name = name_of(holds, index, transaction, addr);
+    if name > 0 {
+        index.cut(holds, name - 1);
+        holds.remove(name - 1);
+        index.note_from(holds, name - 1);
+    }
 }
 
 // What is held by a new hold beside one that there was.

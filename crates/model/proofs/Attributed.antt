@@ -9,8 +9,8 @@ use Rattle.std.proofs.lemmas.Nat.{and_le_r}
 use Rattle.std.proofs.lemmas.Bool.{cases_lt}
 use Rattle.std.proofs.lemmas.Bool.Decides.{nat_tests}
 use Rattle.std.specs.Ordering.{nat_cmp}
-use Rattle.std.specs.FinSet.{FinSet, contains, retain, items, contains-items}
-use Rattle.limits.specs.declared.TheConstants.{BLOCK_BYTES, DIRECT_INDEXES, LARGEST_FILE, MODE_BITS}
+use Rattle.std.specs.FinSet.{FinSet, contains, retain, contains-items}
+use Rattle.limits.specs.declared.TheConstants.{BLOCK_BYTES, LARGEST_FILE, MODE_BITS}
 use Rattle.limits.specs.declared.TheConstants.{NANOSECONDS}
 use Rattle.nfs_types.specs.declared.attributes.NewAttributes.{NewAttributes}
 use Rattle.nfs_types.specs.declared.attributes.SetTime.{SetTime}
@@ -29,7 +29,8 @@ use Rattle.model.specs.SetAttr.{is_no_access, first_of_tests, refusal, set_time,
 use Rattle.model.specs.SetAttr.{mapped_of_size, with_length, mode_of, with_attributes}
 use Rattle.model.specs.Sound.{SoundNode, SoundBody, SoundBytes, SoundTime, SoundVerifier}
 use Rattle.model.proofs.Replaced.{SameShape}
-use Rattle.model.proofs.Sets.{has, any_more, contains_retain, len-retain}
+use Rattle.model.proofs.Costs.{more_cost}
+use Rattle.model.proofs.Sets.{contains_retain, len-retain}
 
 nat_lt-is : (a b : ℕ) → a < b → nat_lt a b ≡ true
 nat_lt-is a b h = search rules
@@ -46,24 +47,12 @@ and-left : (a b : Bool) → (a && b) ≡ true → a ≡ true
 and-left true b e = refl
 and-left false b e = e
 
-fewer : (a b : Bool) → (a ≡ true → b ≡ true) → cond a 1 0 ≤ cond b 1 0
-fewer true true h = omega arith
-fewer true false h = let no = h refl in cc
-fewer false true h = omega arith
-fewer false false h = omega arith
-
 retained-cost : (mapped : FinSet nat_cmp) (p : ℕ → Bool) → file_cost (retain mapped p) ≤ file_cost mapped
 retained-cost mapped p =
-    let more : (q : ℕ) → has (items (retain mapped p)) q ≡ true → has (items mapped) q ≡ true =
-    λ q e. sym (contains-items mapped q)
+    more_cost (retain mapped p) mapped
+    (λ q e. sym (contains-items mapped q)
     ∙ and-left (contains mapped q) (p q) (sym (contains_retain mapped p q)
-    ∙ contains-items (retain mapped p) q ∙ e) in
-    omega (
-      arith,
-      len-retain mapped p,
-      fewer _ _ (any_more (λ index. nat_le DIRECT_INDEXES index) (items (retain mapped p)) (items mapped)
-          more),
-    )
+    ∙ contains-items (retain mapped p) q ∙ e)) (len-retain mapped p)
 
 mapped-cost : (cut : Bool) (mapped : FinSet nat_cmp) (p : ℕ → Bool)
     → file_cost (cond cut (retain mapped p) mapped) ≤ file_cost mapped

@@ -8,3 +8,4 @@ pub mod Handled
 pub mod Maps
 pub mod Replaced
 pub mod Sets
+pub mod Costs

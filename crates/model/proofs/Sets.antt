@@ -150,7 +150,7 @@ passing p (k ∷ ks) e =
           }
     ] refl e
 
-any_passes : (p : ℕ → Bool) (ks : List ℕ) (q : ℕ) → has ks q ≡ true → p q ≡ true → list_any p ks ≡ true
+pub any_passes : (p : ℕ → Bool) (ks : List ℕ) (q : ℕ) → has ks q ≡ true → p q ≡ true → list_any p ks ≡ true
 any_passes p [] q is passes = is
 any_passes p (k ∷ ks) q is passes =
     elim (eq_by_cmp nat_cmp q k) as (λ b. eq_by_cmp nat_cmp q k ≡ b → (b || has ks q) ≡ true

@@ -3,7 +3,7 @@ use Rattle.std.proofs.Common.{◌≡◌, ◌≢◌, ℕ, zero, suc, ◌+◌, ◌
 use Rattle.std.proofs.Common.{List, [], ◌∷◌, ◌++◌, length, set, get_or, Some, None, inl, inr}
 use Rattle.std.proofs.Common.{refl, sym, ap, ◌∙◌, arith, subst, one-add, slice_index}
 use Rattle.std.specs.Prelude.{position, slice_set}
-use Rattle.std.specs.List.{find, filter, position_or_len}
+use Rattle.std.specs.List.{find, items_where_true, position_or_len}
 use Rattle.std.proofs.lemmas.Bool.{true≢false, cases_lt, eq-eqb, ne_eqb, eqb-true, lt-ltb, le-ltb, ltb-true, ltb-false}
 use Rattle.std.proofs.lemmas.List.{get_or_append_left, get_or_push, length_push, length-map}
 use Rattle.std.proofs.lemmas.List.{get_or-set_same, get_or-set_other, map-append, length-set}
@@ -214,17 +214,14 @@ pub numbers-push : (xs : List Present) (x : Present) → numbers (xs ++ x ∷ []
 numbers-push xs x = map-append (λ (resident : Present). resident.block.0) xs (x ∷ [])
 
 -- fewer residents
-pub homed_filter : (q : Present → Bool) (count : ℕ) (xs : List Present) → AreHomed count (numbers xs)
-    → AreHomed count (numbers (filter q xs))
-homed_filter q count [] h k lt = absurd (omega (arith, lt))
-homed_filter q count (x ∷ xs) h k lt =
-    go (homed_filter q count xs (λ j l. h (suc j) (omega (arith, l)))) (q x) k lt
-  where
-    go : AreHomed count (numbers (filter q xs)) → (t : Bool)
-        → AreHomed count (numbers (cond t (x ∷ filter q xs) (filter q xs)))
-    go rest false k lt = rest k lt
-    go rest true zero lt = h zero (omega arith)
-    go rest true (suc k) lt = rest k (omega (arith, lt))
+pub homed_kept : (bs : List Bool) (count : ℕ) (xs : List Present) → AreHomed count (numbers xs)
+    → AreHomed count (numbers (items_where_true bs xs))
+homed_kept [] count xs h k lt = absurd (omega (arith, lt))
+homed_kept (b ∷ bs) count [] h k lt = absurd (omega (arith, lt))
+homed_kept (false ∷ bs) count (x ∷ xs) h k lt = homed_kept bs count xs (λ j l. h (suc j) (omega (arith, l))) k lt
+homed_kept (true ∷ bs) count (x ∷ xs) h zero lt = h zero (omega arith)
+homed_kept (true ∷ bs) count (x ∷ xs) h (suc k) lt =
+    homed_kept bs count xs (λ j l. h (suc j) (omega (arith, l))) k (omega (arith, lt))
 
 module _ (block : BlockNo) (content : Content) where
   pub numbers-filled : (xs : List Present) → numbers (filled xs block content) ≡ numbers xs

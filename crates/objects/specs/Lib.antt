@@ -4,4 +4,5 @@ pub mod Spliced
 pub mod Object
 pub mod Present
 pub mod Pins
+pub mod Recent
 pub mod Indexed

@@ -1,6 +1,8 @@
 //! The blocks in memory, found by their numbers.
 ghost use Rattle.std.specs.Prelude.{◌≡◌, ◌<◌, ◌≤◌, ℕ, [], OnErr, OnOk, length, option_map, slice_index};
 ghost use Rattle.std.specs.Prelude.{is_some, nat_eq, position};
+ghost use Rattle.std.specs.Fn.{CalledAt};
+ghost use Rattle.std.specs.List.Retain.{IsFiltered};
 ghost use Rattle.objects.specs.Indexed.{AreHomed, IsIndex, numbers};
 ghost use Rattle.objects.specs.Present.{present_of, filled, without_pending, without_clean, with_block, IsOnce};
 ghost use Rattle.objects.specs.Present.{renewed_resident, renewed, without_block};
@@ -105,23 +107,29 @@ impl Blocks {
     pub(crate) fn let_go(&mut self, block: BlockNo)
         ensures { self.new ≡ without_pending self.old block }
     {
-        self.list.retain(|resident| resident.block != block || resident.content.is_some());
-        renumber(&self.list, &mut self.indices);
+        self.keep_only(|resident| resident.block != block || resident.content.is_some());
     }
 
     /// Lets go of the block where no fetch of it is pending.
     pub(crate) fn unpin(&mut self, block: BlockNo)
         ensures { self.new ≡ without_clean self.old block }
     {
-        self.list.retain(|resident| resident.block != block || resident.content.is_none());
-        renumber(&self.list, &mut self.indices);
+        self.keep_only(|resident| resident.block != block || resident.content.is_none());
     }
 
     /// Lets go of the block.
     pub(crate) fn take_back(&mut self, block: BlockNo)
         ensures { self.new ≡ without_block self.old block }
     {
-        self.list.retain(|resident| resident.block != block);
+        self.keep_only(|resident| resident.block != block);
+    }
+
+    /// Lets go of all blocks but those of which the test says that they stay.
+    pub(crate) fn keep_only<F: FnMut(&Present) -> bool>(&mut self, test: F)
+        requires { F.IsAlwaysCallable test }
+        ensures { IsFiltered (CalledAt F.FnMut) test self.old self.new }
+    {
+        self.list.retain(test);
         renumber(&self.list, &mut self.indices);
     }
 }

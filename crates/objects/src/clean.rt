@@ -1,14 +1,17 @@
 //! Blocks that stay in memory though nobody has pinned them.
-ghost use Rattle.std.specs.Prelude.{◌≡◌};
-ghost use Rattle.objects.specs.Pins.{LetsGo, count_in};
+ghost use Rattle.std.specs.Prelude.{◌≡◌, ◌||◌};
+ghost use Rattle.objects.specs.Pins.{LetsGo, count_in, is_wanted, spared};
+ghost use Rattle.objects.specs.Recent.{is_noted};
 
+use crate::Present;
 use crate::blocks::Blocks;
 use crate::pins::count_of;
 use crate::recent::Recent;
 use disk::BlockNo;
 use std::collections::HashMap;
 
-/// Notes a block that nobody has pinned any more, and lets one go for it, where there are too many.
+/// Notes a block that nobody has pinned any more, and lets many go that were noted longest ago, once there are too
+/// many. Where there is no memory to note it, the block goes itself.
 pub(crate) fn keep_clean(
     blocks: &mut Blocks,
     pins: &HashMap<u32, u64>,
@@ -17,8 +20,12 @@ pub(crate) fn keep_clean(
 )
     ensures { LetsGo (count_in pins.now.entries) blocks.old blocks.new }
 {
-    if let Some(last) = recent.note(block) {
-        let_clean_go(blocks, pins, last);
+    if !recent.note(block) {
+        let_clean_go(blocks, pins, block);
+        return;
+    }
+    if recent.forget_oldest() {
+        let_others_go(blocks, pins, recent);
     }
 }
 
@@ -29,4 +36,18 @@ fn let_clean_go(blocks: &mut Blocks, pins: &HashMap<u32, u64>, block: BlockNo)
     if count_of(pins, block) == 0 {
         blocks.unpin(block);
     }
+}
+
+// Lets all blocks go that nobody has pinned, of which no fetch is pending and which aren't noted.
+fn let_others_go(blocks: &mut Blocks, pins: &HashMap<u32, u64>, recent: &Recent)
+    ensures { blocks.new ≡ spared (λ one. is_noted recent.now one.block) (count_in pins.now.entries) blocks.old }
+{
+    blocks.keep_only(|resident| stays(pins, recent, resident));
+}
+
+// Whether the block is pinned, a fetch of it is pending, or it is noted.
+fn stays(pins: &HashMap<u32, u64>, recent: &Recent, resident: &Present) -> bool
+    ensures { result ≡ (is_noted recent.now resident.now.block || is_wanted (count_in pins.now.entries) resident.now) }
+{
+    resident.content.is_none() || count_of(pins, resident.block) > 0 || recent.has(resident.block)
 }

@@ -4,7 +4,7 @@ use Rattle.std.proofs.Common.{List, [], ◌∷◌, ◌++◌, length, take, drop}
 use Rattle.std.proofs.Common.{replicate, Option, Some, None, arith, length-append}
 use Rattle.std.specs.List.{cons_option, filter_map, flat_map, range_with_len}
 use Rattle.std.proofs.Math.Seq.{take-append-add}
-use Rattle.std.proofs.lemmas.List.{length-take-le, take-append-le}
+use Rattle.std.proofs.lemmas.List.{length-take-le}
 use Rattle.limits.specs.declared.TheConstants.{BLOCK_BYTES, DIRECT_INDEXES, LARGEST_FILE}
 use Rattle.limits.specs.declared.TheConstants.{LARGEST_DIRECTORY, SLOTS_PER_BLOCK, TARGET_BYTES}
 use Rattle.disk.specs.Crash.{Image}
@@ -16,6 +16,7 @@ use Rattle.layout.specs.Decode.{span_of}
 use Rattle.layout.specs.declared.slot.TheConstants.{SLOT_BYTES}
 use Rattle.layout.specs.SlotForm.{read_slot}
 use Rattle.layout.proofs.AllNumbers as all_numbers
+use Rattle.layout.proofs.FileNumbers.{first_numbers}
 use Rattle.plain_image.specs.PlainFile.{AreWhole}
 use Rattle.plain_image.specs.PlainName.{entries_in, listed}
 
@@ -91,8 +92,7 @@ module _ (image : Image) (inode : Inode) (direct : length inode.direct ≡ DIREC
     regular_bytes small = sym (cut inode.size all (let long = all-length in omega (arith, long, small)))
 
     first_number : take 1 (numbers_of image inode) ≡ take 1 inode.direct
-    unfolding numbers_of
-    first_number = take-append-le 1 inode.direct _ (omega (arith, direct))
+    first_number = first_numbers image inode 1 (omega (arith, direct))
 
     pub link_bytes : inode.size ≤ TARGET_BYTES
         → take inode.size (bytes_of image (take 1 inode.direct)) ≡ resized inode.size all

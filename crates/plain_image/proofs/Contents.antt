@@ -23,17 +23,17 @@ use Rattle.plain_image.proofs.Bodies.{regular_bytes, link_bytes, directory_names
 pub no_more : (a b : ℕ) → nat_le a b ≡ true → a ≤ b
 no_more a b e = grind (arith, nat_tests)
 
-pub second_third : (a b c d e f g h : Bool) → (a && b && c && d && e && f && g && h) ≡ true
+pub second_third : (a b c d e f g h i : Bool) → (a && b && c && d && e && f && g && h && i) ≡ true
     → (b ≡ true) × (c ≡ true)
-second_third true true true d e f g h all = (refl, refl)
-second_third true true false d e f g h all = cc
-second_third true false c d e f g h all = cc
-second_third false b c d e f g h all = cc
+second_third true true true d e f g h i all = (refl, refl)
+second_third true true false d e f g h i all = cc
+second_third true false c d e f g h i all = cc
+second_third false b c d e f g h i all = cc
 
-second : (a b c d e f : Bool) → (a && b && c && d && e && f) ≡ true → b ≡ true
-second true true c d e f all = refl
-second true false c d e f all = cc
-second false b c d e f all = cc
+second : (a b c d e f g : Bool) → (a && b && c && d && e && f && g) ≡ true → b ≡ true
+second true true c d e f g all = refl
+second true false c d e f g all = cc
+second false b c d e f g all = cc
 
 module _ (g : Geometry) (image : Image) (inode : Inode) (sound : SoundInode g inode)
     (whole : AreWhole image (numbers_of image inode)) (bytes : List ℕ)
@@ -51,7 +51,7 @@ module _ (g : Geometry) (image : Image) (inode : Inode) (sound : SoundInode g in
       let three = all_three (is_sound_file inode) (is_sound_map g inode)
       (is_sound_directory g inode) good in
       let rules = second_third (nat_le 2 inode.nlink) (nat_le inode.size LARGEST_DIRECTORY)
-      (nat_eq (inode.size % BLOCK_BYTES) 0) _ _ _ _ _ three.2 in
+      (nat_eq (inode.size % BLOCK_BYTES) 0) _ _ _ _ _ _ three.2 in
       ap finmap.from_entries
       (directory_names image inode sound.fits.count whole g.inodes
       (no_more inode.size LARGEST_DIRECTORY rules.0) (same_number (inode.size % BLOCK_BYTES) 0 rules.1)
@@ -60,7 +60,7 @@ module _ (g : Geometry) (image : Image) (inode : Inode) (sound : SoundInode g in
       let three = all_three (is_sound_file inode) (is_sound_map g inode)
       (is_sound_link inode) good in
       link_bytes image inode sound.fits.count whole
-      (no_more inode.size TARGET_BYTES (second (nat_le 1 inode.size) (nat_le inode.size TARGET_BYTES) _ _ _ _
+      (no_more inode.size TARGET_BYTES (second (nat_le 1 inode.size) (nat_le inode.size TARGET_BYTES) _ _ _ _ _
       three.2))
       ∙ sym is ∙ sym same
   of_kind kind.Regular good (Names names) same = absurd same

@@ -1,6 +1,6 @@
 -- The parts of a file, as the definition of decoding has them.
 use Rattle.std.proofs.Common.{◌≡◌, ℕ, zero, suc, ◌+◌, ◌*◌, inl, inr, nat_eq, List, [], ◌∷◌, ◌++◌, take}
-use Rattle.std.proofs.Common.{drop, replicate, refl, sym, ap, ◌∙◌, true, false, arith}
+use Rattle.std.proofs.Common.{drop, replicate, refl, ap, ◌∙◌, arith}
 use Rattle.std.specs.List.{flat_map, range_with_len, AllByRecursion}
 use Rattle.std.proofs.lemmas.Bool.Decides.{eqb_tells}
 use Rattle.std.proofs.lemmas.Grind.{flat_map-append}
@@ -8,8 +8,7 @@ use Rattle.std.proofs.lemmas.List.{append-nil}
 use Rattle.limits.specs.declared.TheConstants.{INDIRECT_INDEXES, INODE_BYTES}
 use Rattle.disk.specs.Crash.{Image}
 use Rattle.layout.specs.declared.geometry.Geometry.{Geometry}
-use Rattle.layout.specs.declared.inode.Inode.{Inode}
-use Rattle.layout.specs.Decode.{bytes_of, content_of, inode_at, numbers_of}
+use Rattle.layout.specs.Decode.{bytes_of, content_of, inode_at, numbers_in}
 use Rattle.layout.specs.Fields.{numbers_at}
 use Rattle.layout.specs.InodeForm.{read_inode}
 use Rattle.layout.specs.Places.{inode_block, inode_offset}
@@ -27,25 +26,18 @@ pub inode_there : (g : Geometry) (image : Image) (number : ℕ)
 unfolding inode_at
 inode_there g image number = refl
 
--- a file without an indirect block
-pub direct_only : (image : Image) (inode : Inode) → inode.indirect ≡ 0
-    → numbers_of image inode ≡ inode.direct ++ replicate INDIRECT_INDEXES 0
-unfolding numbers_of
-direct_only image inode none =
-    ap (λ l. inode.direct ++ l) (none_in image inode.indirect (ap (λ n. nat_eq n 0) none)
-    ∙ ap (λ n. replicate n 0) (in_length image inode.indirect))
+-- a block that holds numbers, where there is none, and where there is one
+pub none_there : (image : Image) (number : ℕ) → number ≡ 0
+    → numbers_in image number ≡ replicate INDIRECT_INDEXES 0
+none_there image number none =
+    none_in image number (ap (λ n. nat_eq n 0) none) ∙ ap (λ n. replicate n 0) (in_length image number)
 
--- a file with one
-pub with_indirect : (image : Image) (inode : Inode) → (inode.indirect ≡ 0 → ⊥)
-    → numbers_of image inode ≡ inode.direct ++ numbers_at INDIRECT_INDEXES 0 (image inode.indirect)
-unfolding numbers_of
-with_indirect image inode some = elim (eqb_tells inode.indirect 0) [
+pub some_there : (image : Image) (number : ℕ) → (number ≡ 0 → ⊥)
+    → numbers_in image number ≡ numbers_at INDIRECT_INDEXES 0 (image number)
+some_there image number some = elim (eqb_tells number 0) [
   | inl is ↦ absurd (some is.1)
-  | inr isnt ↦ ap (λ l. inode.direct ++ l) (some_in image inode.indirect isnt.0)
+  | inr isnt ↦ some_in image number isnt.0
 ]
-
-pub none_there : {P : Type 0} (number : ℕ) → number ≡ 0 → nat_eq number 0 ≡ false → P
-none_there number is some = absurd (let clash : true ≡ false = sym (ap (λ n. nat_eq n 0) is) ∙ some in cc)
 
 pub no_bytes : (image : Image) → bytes_of image [] ≡ []
 unfolding bytes_of

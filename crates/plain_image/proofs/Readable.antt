@@ -1,13 +1,12 @@
 -- What was read of an image's parts can be read of the image.
 use Rattle.std.proofs.Common.{◌≡◌, ℕ, ◌*◌, ◌/◌, ◌%◌, ◌<◌, ◌≤◌, sym, ap, ◌∙◌, refl, subst, Bool, true, false}
-use Rattle.std.proofs.Common.{◌&&◌, ◌||◌, nat_eq, nat_le, nat_lt, List, take, drop, get_or, length}
+use Rattle.std.proofs.Common.{◌||◌, nat_eq, nat_le, nat_lt, List, take, drop, get_or, length}
 use Rattle.std.proofs.Common.{All}
 use Rattle.std.proofs.Common.{IfErr, IsOk, Ok, Err, Result, arith, inr}
 use Rattle.std.specs.List.{list_all}
 use Rattle.std.proofs.lemmas.Bool.Decides.{nat_tests}
-use Rattle.std.proofs.lemmas.List.Folds.{list_all-append}
 use Rattle.std.proofs.lemmas.List.FromFn.{get_or-range_with_len, length-range_with_len}
-use Rattle.limits.specs.declared.TheConstants.{BLOCK_BYTES, INDIRECT_INDEXES, LARGEST_DIRECTORY}
+use Rattle.limits.specs.declared.TheConstants.{BLOCK_BYTES, LARGEST_DIRECTORY}
 use Rattle.limits.specs.declared.TheConstants.{SLOTS_PER_BLOCK, SUPER_BLOCK}
 use Rattle.disk.specs.Crash.{Image}
 use Rattle.layout.specs.declared.geometry.Geometry.{Geometry}
@@ -17,7 +16,6 @@ use Rattle.layout.specs.declared.inode.InodeKind.TheVariants as kind
 use Rattle.layout.specs.declared.super_block.Super.{Super}
 use Rattle.layout.specs.Decode.{bytes_of, numbers_of, slot_bytes, slots_of, span_of}
 use Rattle.layout.specs.declared.slot.TheConstants.{SLOT_BYTES}
-use Rattle.layout.specs.Fields.{numbers_at}
 use Rattle.layout.specs.Geometry.{data_at}
 use Rattle.layout.specs.InodeForm.{SoundInode, is_data_block_or_none, is_sound_directory, is_sound_file}
 use Rattle.layout.specs.InodeForm.{is_sound_inode, is_sound_kind, is_sound_map}
@@ -26,6 +24,7 @@ use Rattle.layout.specs.SlotForm.{read_slot}
 use Rattle.layout.specs.SuperForm.{IsSuper}
 use Rattle.layout.proofs.AllNumbers.{maps}
 use Rattle.layout.proofs.Respelled.{all_two, all_three, same_number}
+use Rattle.layout.proofs.Used.{all_at}
 use Rattle.model.specs.SetAttr.{resized}
 use Rattle.plain_image.specs.declared.fault.ImageFault.{ImageFault}
 use Rattle.plain_image.specs.declared.fault.ImageFault.TheVariants.{NoMemory, Outside, Layout}
@@ -33,7 +32,6 @@ use Rattle.plain_image.specs.PlainFile.{AreWhole}
 use Rattle.plain_image.specs.Refusal.{AreReadable, AreSlots, IsRangeFor, IsReadable, IsRefused}
 use Rattle.plain_image.proofs.Bodies.{cut-length, spanned}
 use Rattle.plain_image.proofs.Contents.{no_more, second_third}
-use Rattle.plain_image.proofs.Decoded.{with_indirect}
 
 -- a fault for one cause is one for what follows from it
 pub range_for : {A B : Type 0} → (A → B) → (fault : ImageFault) → IsRangeFor A fault → IsRangeFor B fault
@@ -86,20 +84,14 @@ module _ (g : Geometry) (size : ℕ) (fits : g.blocks ≤ size) where
   pub far_within : (inode : Inode) → SoundInode g inode → inode.indirect < size
   far_within inode sound = within inode.indirect (maps g inode sound).1
 
--- ---- numbers that are refused
+  pub double_within : (inode : Inode) → SoundInode g inode → inode.double < size
+  double_within inode sound = within inode.double (maps g inode sound).2
 
-no_both : (a b : Bool) → b ≡ false → (a && b) ≡ false
-no_both true b none = none
-no_both false b none = refl
-
-pub far_refused : (g : Geometry) (image : Image) (inode : Inode) → (inode.indirect ≡ 0 → ⊥)
-    → list_all (is_data_block_or_none g) (numbers_at INDIRECT_INDEXES 0 (image inode.indirect)) ≡ false
-    → list_all (is_data_block_or_none g) (numbers_of image inode) ≡ false
-far_refused g image inode some none =
-    ap (list_all (is_data_block_or_none g)) (with_indirect image inode some)
-    ∙ list_all-append (is_data_block_or_none g) inode.direct
-    (numbers_at INDIRECT_INDEXES 0 (image inode.indirect))
-    ∙ no_both (list_all (is_data_block_or_none g) inode.direct) _ none
+  -- each of some numbers
+  pub at_within : (numbers : List ℕ) → list_all (is_data_block_or_none g) numbers ≡ true → (index : ℕ)
+      → index < length numbers → get_or numbers index 0 < size
+  at_within numbers placed index less =
+      within (get_or numbers index 0) (all_at (is_data_block_or_none g) numbers placed index less)
 
 -- ---- the slots of a directory
 
@@ -109,7 +101,7 @@ rules_of : (g : Geometry) (inode : Inode) (k : InodeKind) → inode.kind ≡ k �
 rules_of g inode kind.Directory is is_directory good =
     let three = all_three (is_sound_file inode) (is_sound_map g inode) (is_sound_directory g inode) good in
     second_third (nat_le 2 inode.nlink) (nat_le inode.size LARGEST_DIRECTORY)
-    (nat_eq (inode.size % BLOCK_BYTES) 0) _ _ _ _ _ three.2
+    (nat_eq (inode.size % BLOCK_BYTES) 0) _ _ _ _ _ _ three.2
 rules_of g inode kind.Regular is is_directory good = cc
 rules_of g inode kind.Link is is_directory good = cc
 

@@ -1,5 +1,5 @@
 -- What the plain decoder says of a file.
-use Rattle.std.specs.Prelude.{◌≡◌, ℕ, true, cond, Some, Ok, List, [], ◌∷◌, map, length}
+use Rattle.std.specs.Prelude.{◌≡◌, ℕ, true, cond, Some, Ok, List, [], ◌∷◌, ◌++◌, map, length, nat_eq}
 use Rattle.std.specs.List.{flat_map, list_all, range_with_len, AllByRecursion}
 use Rattle.std.specs.FinMap as finmap
 use Rattle.limits.specs.declared.TheConstants.{BLOCK_BYTES}
@@ -12,7 +12,6 @@ use Rattle.layout.specs.declared.inode.InodeKind.{InodeKind}
 use Rattle.layout.specs.declared.inode.InodeKind.TheVariants as kind
 use Rattle.layout.specs.Decode.{body_of, content_of, inode_at, node_with, numbers_of}
 use Rattle.layout.specs.Fields.{count_of}
-use Rattle.layout.specs.InodeForm.{is_data_block_or_none}
 use Rattle.layout.specs.Owners.{is_used}
 use Rattle.layout.specs.Parts.{parts_of}
 use Rattle.layout.specs.Stands.{file_at}
@@ -20,7 +19,7 @@ use Rattle.plain_image.specs.declared.files.PlainContent.{PlainContent}
 use Rattle.plain_image.specs.declared.files.PlainContent.TheVariants.{Bytes, Names, Target}
 use Rattle.plain_image.specs.declared.files.PlainFile.{PlainFile}
 use Rattle.plain_image.specs.PlainName.{entries_in, entries_of}
-use Rattle.plain_image.specs.Refusal.{IsReadable}
+use Rattle.plain_image.specs.Refusal.{HasDataBlocks, IsReadable}
 
 -- what the plain decoder has of a file is what is in it: a directory's entries are those of its names
 abbrev pub HasBody : PlainContent → Body → Type 0
@@ -37,10 +36,13 @@ IsContent inodes kind.Directory bytes (Names names) = entries_of names.items ≡
 IsContent inodes kind.Link bytes (Target target) = target ≡ bytes
 IsContent inodes other bytes content = ⊥
 
--- these are the numbers of an inode's blocks, each 0 or that of a data block
+-- These are the numbers of an inode's blocks up to some index, and no block is mapped from there on. Each is 0 or
+-- that of a data block, and so are its pointer blocks.
 pub record AreNumbersOf (g : Geometry) (blocks : Image) (inode : Inode) (numbers : List ℕ) : Type 0 where
-  pub are : numbers ≡ numbers_of blocks inode
-  pub places : list_all (is_data_block_or_none g) numbers ≡ true
+  pub others : List ℕ
+  pub are : numbers_of blocks inode ≡ numbers ++ others
+  pub none : list_all (λ number. nat_eq number 0) others ≡ true
+  pub places : HasDataBlocks g blocks inode
 
 -- each of these blocks has all its bytes
 abbrev pub AreWhole : Image → List ℕ → Type 0

@@ -10,7 +10,7 @@ use Rattle.layout.specs.declared.geometry.Geometry.{Geometry}
 use Rattle.layout.specs.declared.inode.Inode.{Inode}
 use Rattle.layout.specs.declared.inode.InodeKind.TheVariants as kind
 use Rattle.layout.specs.declared.super_block.Super.{Super}
-use Rattle.layout.specs.Decode.{inode_at, numbers_of, slot_bytes, slots_of}
+use Rattle.layout.specs.Decode.{inode_at, numbers_of, pointer_blocks, slot_bytes, slots_of}
 use Rattle.layout.specs.declared.slot.TheConstants.{SLOT_BYTES}
 use Rattle.layout.specs.InodeForm.{is_data_block_or_none}
 use Rattle.layout.specs.SlotForm.{read_slot}
@@ -18,9 +18,14 @@ use Rattle.layout.specs.SuperForm.{IsNoSuper, IsSuper}
 use Rattle.plain_image.specs.declared.fault.ImageFault.{ImageFault}
 use Rattle.plain_image.specs.declared.fault.ImageFault.TheVariants.{NoMemory, Outside, Layout}
 
--- each block that an inode maps is one of data, and each slot of a directory is a slot
+-- each block that holds an inode's numbers is one of data, and so is each that it maps
+abbrev pub HasDataBlocks : Geometry → Image → Inode → Type 0
+HasDataBlocks g blocks inode = (list_all (is_data_block_or_none g) (pointer_blocks blocks inode) ≡ true)
+    × (list_all (is_data_block_or_none g) (numbers_of blocks inode) ≡ true)
+
+-- an inode has data blocks alone, and each slot of a directory is a slot
 pub record IsReadable (g : Geometry) (blocks : Image) (inode : Inode) : Type 0 where
-  pub places : list_all (is_data_block_or_none g) (numbers_of blocks inode) ≡ true
+  pub places : HasDataBlocks g blocks inode
   pub slots : inode.kind ≡ kind.Directory
       → All (λ index. IsOk (read_slot g.inodes (slot_bytes blocks inode index))) (slots_of inode)
 

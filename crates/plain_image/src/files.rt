@@ -27,7 +27,7 @@ pub enum PlainContent {
     Target(Octets),
 }
 
-/// A file: its number, its inode, how many blocks it maps besides an indirect one, and what is in it.
+/// A file: its number, its inode, how many blocks it maps besides those that hold numbers, and what is in it.
 #[derive(Drop)]
 pub struct PlainFile {
     pub number: u32,

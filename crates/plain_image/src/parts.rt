@@ -1,23 +1,23 @@
 //! The parts of a file: its inode, the numbers of its blocks, their bytes, and the names in them.
 ghost use Rattle.std.specs.Prelude.{◌≡◌, ◌≤◌, ◌<◌, ◌/◌, ◌++◌, true, false, length, All, IsOk, IfOk, IfErr};
-ghost use Rattle.std.specs.Prelude.{IfSome, OnOk};
+ghost use Rattle.std.specs.Prelude.{IfSome, OnOk, nat_eq, drop};
 ghost use Rattle.limits.specs.declared.TheConstants.{BLOCK_BYTES, INDIRECT_INDEXES, LARGEST_DIRECTORY};
 ghost use Rattle.disk.specs.Memory.{image_of, memory_device};
 ghost use Rattle.model.specs.SetAttr.{resized};
-ghost use Rattle.std.specs.List.{list_all};
+ghost use Rattle.std.specs.List.{flat_map, list_all};
 ghost use Rattle.layout.specs.Fields.{numbers_at, count_of};
 ghost use Rattle.layout.specs.InodeForm.{SoundInode, is_data_block_or_none};
 ghost use Rattle.layout.specs.declared.slot.TheConstants.{SLOT_BYTES};
 ghost use Rattle.plain_image.specs.PlainFile.{AreNumbersOf, AreWhole};
 ghost use Rattle.plain_image.specs.PlainName.{entries_in, entries_of, one_entry};
-ghost use Rattle.plain_image.specs.Refusal.{AreSlots, CanBeRead, IsRangeFor};
-ghost use Rattle.layout.specs.Decode.{bytes_of, content_of, inode_at, numbers_of};
+ghost use Rattle.plain_image.specs.Refusal.{AreSlots, CanBeRead, HasDataBlocks, IsRangeFor};
+ghost use Rattle.layout.specs.Decode.{bytes_of, content_of, inode_at, numbers_in};
 ghost use Rattle.layout.specs.SlotForm.{read_slot};
 
 use crate::ImageFault;
 use disk::{BlockNo, MemDisk};
 use layout::{Geometry, Inode, Numbers, SLOT_BYTES, Slot};
-use limits::{BLOCK_BYTES, FILE_INDEXES, INDIRECT_INDEXES};
+use limits::{BLOCK_BYTES, FIRST_DOUBLE_INDEX, INDIRECT_INDEXES};
 use nfs_types::Octets;
 use std::alloc::{AllocError, Global};
 
@@ -60,8 +60,8 @@ pub(crate) fn inode_of(
     Ok(found)
 }
 
-// The numbers in an indirect block.
-fn indirect(
+// The numbers in a block that holds numbers.
+fn spelled(
     alloc: Global,
     disk: &MemDisk,
     geometry: &Geometry,
@@ -78,7 +78,67 @@ fn indirect(
     Ok(numbers)
 }
 
-/// The numbers of a file's blocks, index by index, 0 where none is mapped.
+// The numbers in a block that holds numbers, zeros where there is none.
+fn numbers_in(
+    alloc: Global,
+    disk: &MemDisk,
+    geometry: &Geometry,
+    number: u32,
+) -> Result<Vec<u32>, ImageFault>
+    requires { number < (memory_device disk.now).size }
+    ensures are { IfOk result (λ numbers. numbers.items ≡ numbers_in (image_of disk.now) number) }
+    ensures places { IfOk result
+        (λ numbers. list_all (is_data_block_or_none geometry.now) numbers.items ≡ true) }
+    ensures refused { IfErr result (IsRangeFor (list_all (is_data_block_or_none geometry.now)
+        (numbers_in (image_of disk.now) number) ≡ false)) }
+{
+    let mut numbers = Vec::with_capacity(alloc, INDIRECT_INDEXES)?;
+    if number == 0 {
+        numbers.extend_from_slice(&[0; INDIRECT_INDEXES])?;
+    } else {
+        let more = spelled(alloc, disk, geometry, number)?;
+        numbers.extend_from_slice(more.as_slice())?;
+    }
+    Ok(numbers)
+}
+
+// How many numbers there are up to the last that isn't 0.
+fn used_of(numbers: &[u32]) -> usize
+    ensures few { result ≤ length numbers.now }
+    ensures rest { list_all (λ number. nat_eq number 0) (drop result numbers.now) ≡ true }
+{
+    let mut used = numbers.len();
+    'back: while used > 0 && numbers[used - 1] == 0 {
+        used -= 1;
+    }
+    used
+}
+
+// Adds the numbers in each of these blocks.
+fn add_numbers(
+    alloc: Global,
+    disk: &MemDisk,
+    geometry: &Geometry,
+    pointers: &[u32],
+    numbers: &mut Vec<u32>,
+) -> Result<(), ImageFault>
+    requires fits { geometry.now.blocks ≤ (memory_device disk.now).size }
+    requires placed { list_all (is_data_block_or_none geometry.now) pointers.now ≡ true }
+    ensures numbers { OnOk result (numbers.new.items
+        ≡ numbers.old.items ++ flat_map (numbers_in (image_of disk.now)) pointers.now) }
+    ensures places { OnOk result (list_all (is_data_block_or_none geometry.now)
+        (flat_map (numbers_in (image_of disk.now)) pointers.now) ≡ true) }
+    ensures refused { IfErr result (IsRangeFor (list_all (is_data_block_or_none geometry.now)
+        (flat_map (numbers_in (image_of disk.now)) pointers.now) ≡ false)) }
+{
+    'each: for pointer in pointers {
+        let more = numbers_in(alloc, disk, geometry, *pointer)?;
+        numbers.extend_from_slice(&more)?;
+    }
+    Ok(())
+}
+
+/// The numbers of a file's blocks, index by index, 0 where none is mapped, up to its last inner block.
 pub(crate) fn numbers_of(
     alloc: Global,
     disk: &MemDisk,
@@ -89,17 +149,15 @@ pub(crate) fn numbers_of(
     requires fits { geometry.now.blocks ≤ (memory_device disk.now).size }
     ensures numbers { IfOk result
         (λ numbers. AreNumbersOf geometry.now (image_of disk.now) inode.now numbers.items) }
-    ensures refused { IfErr result (IsRangeFor (list_all (is_data_block_or_none geometry.now)
-        (numbers_of (image_of disk.now) inode.now) ≡ false)) }
+    ensures refused { IfErr result (IsRangeFor (HasDataBlocks geometry.now (image_of disk.now) inode.now → ⊥)) }
 {
-    let mut numbers = Vec::with_capacity(alloc, FILE_INDEXES)?;
+    let mut numbers = Vec::with_capacity(alloc, FIRST_DOUBLE_INDEX)?;
     numbers.extend_from_slice(&inode.direct)?;
-    if inode.indirect == 0 {
-        numbers.extend_from_slice(&[0; INDIRECT_INDEXES])?;
-    } else {
-        let more = indirect(alloc, disk, geometry, inode.indirect)?;
-        numbers.extend_from_slice(more.as_slice())?;
-    }
+    let far = numbers_in(alloc, disk, geometry, inode.indirect)?;
+    numbers.extend_from_slice(&far)?;
+    let inner = numbers_in(alloc, disk, geometry, inode.double)?;
+    let used = used_of(&inner);
+    add_numbers(alloc, disk, geometry, &inner[..used], &mut numbers)?;
     Ok(numbers)
 }
 

@@ -1,11 +1,11 @@
 //! The indexes of the blocks that a regular file has.
-ghost use Rattle.std.specs.Prelude.{◌≡◌, ℕ, ◌+◌, ◌*◌, ◌<◌, ◌≤◌, nat_lt, nat_le, length, filter, IfOk, OnOk};
+ghost use Rattle.std.specs.Prelude.{◌≡◌, ◌+◌, ◌*◌, ◌<◌, ◌≤◌, cond, nat_lt, length, filter, IfOk, OnOk};
 ghost use Rattle.std.specs.Prelude.{OnErr};
 ghost use Rattle.std.specs.List.{list_any};
 ghost use Rattle.std.specs.FinSet as set;
-ghost use Rattle.model.specs.Cost.{file_cost};
+ghost use Rattle.model.specs.Cost.{file_cost, inner_cost, is_double, is_indirect, is_inner};
 
-use limits::{BLOCK_BYTES, DIRECT_INDEXES, FILE_INDEXES};
+use limits::{BLOCK_BYTES, DIRECT_INDEXES, FILE_INDEXES, FIRST_DOUBLE_INDEX, INDIRECT_INDEXES};
 use std::alloc::{AllocError, Global};
 use std::marker::Model;
 
@@ -73,10 +73,11 @@ impl MappedIndexes {
     /// How many blocks a file uses that maps these.
     pub fn cost(&self) -> u64
         ensures cost { result ≡ file_cost self.now }
-        ensures small { result ≤ FILE_INDEXES + 1 }
+        ensures small { result ≤ FILE_INDEXES + INDIRECT_INDEXES + 2 }
     {
-        let indirect = if any_is_indirect(&self.indexes) { 1 } else { 0 };
-        self.indexes.len() as u64 + indirect
+        let indirect = one_if(any_is_indirect(&self.indexes));
+        let double = one_if(any_is_double(&self.indexes));
+        self.indexes.len() as u64 + indirect + double + inner_cost(&self.indexes)
     }
 
     /// Drops the indexes that lie at or past the new end of the file.
@@ -87,12 +88,52 @@ impl MappedIndexes {
     }
 }
 
+// 1 where it is so.
+fn one_if(is: bool) -> u64
+    ensures { result ≡ cond is 1 0 }
+{
+    if is { 1 } else { 0 }
+}
+
 fn any_is_indirect(indexes: &[u32]) -> bool
-    ensures { result ≡ list_any (λ index. nat_le DIRECT_INDEXES index) indexes.now }
+    ensures { result ≡ list_any is_indirect indexes.now }
+{
+    indexes.iter().any(|index| DIRECT_INDEXES <= *index as usize
+        && (*index as usize) < FIRST_DOUBLE_INDEX)
+}
+
+fn any_is_double(indexes: &[u32]) -> bool
+    ensures { result ≡ list_any is_double indexes.now }
 {
     indexes
         .iter()
-        .any(|index| DIRECT_INDEXES <= *index as usize)
+        .any(|index| FIRST_DOUBLE_INDEX <= *index as usize)
+}
+
+fn any_is_inner(inner: usize, indexes: &[u32]) -> bool
+    requires { inner < INDIRECT_INDEXES }
+    ensures { result ≡ list_any (is_inner inner) indexes.now }
+{
+    let first = FIRST_DOUBLE_INDEX + INDIRECT_INDEXES * inner;
+    indexes.iter().any(|index| first <= *index as usize
+        && (*index as usize) < first + INDIRECT_INDEXES)
+}
+
+// How many inner blocks name one of these indexes.
+fn inner_cost(indexes: &[u32]) -> u64
+    ensures few { result ≤ INDIRECT_INDEXES }
+    ensures is { result ≡ inner_cost INDIRECT_INDEXES (set.from_list indexes.now) }
+{
+    let mut cost = 0;
+    if !any_is_double(indexes) {
+        return 0;
+    }
+    'each: for inner in 0..INDIRECT_INDEXES {
+        if any_is_inner(inner, indexes) {
+            cost += 1;
+        }
+    }
+    cost
 }
 
 fn retain_below(indexes: &mut Vec<u32>, size: u64)

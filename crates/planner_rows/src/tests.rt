@@ -1,4 +1,5 @@
 //! The rows, and what runs them. The page README.md says what they ask.
 
 mod beside;
+mod far;
 mod lives;

@@ -1,17 +1,17 @@
 -- What a WRITE that is answered OK leaves, what a READ behind it gives, and what both take of the blocks.
 use Rattle.std.proofs.Common.{◌≡◌, ℕ, ◌+◌, ◌-◌, ◌<◌, ◌≤◌, min, ◌⊎◌, inl, inr, not, nat_lt, sym, ap, subst}
 use Rattle.std.proofs.Common.{◌∙◌, refl, Bool, true, false}
-use Rattle.std.proofs.Common.{cond, ◌||◌, List, [], ◌∷◌, length, get_or, drop, nat_eq, nat_le, Option, Some}
+use Rattle.std.proofs.Common.{cond, ◌||◌, List, [], ◌∷◌, length, get_or, drop, nat_eq, Option, Some}
 use Rattle.std.proofs.Common.{None}
 use Rattle.std.proofs.Common.{Result, Ok, Err, arith, rules}
 use Rattle.std.proofs.lemmas.Bool.Decides.{nat_tests}
 use Rattle.std.proofs.lemmas.List.{ext_get_or, get_or-drop, get_or-take, length-drop, length-take}
 use Rattle.std.specs.Cmp.{nat_cmp_total}
 use Rattle.std.specs.FinMap.{nat_cmp-IsAntisymmetric}
-use Rattle.std.specs.FinSet.{FinSet, contains, contains-insert, contains-items, insert, items, len}
+use Rattle.std.specs.FinSet.{FinSet, contains, contains-insert, contains-items, insert, len}
 use Rattle.std.specs.FinSet.{len-insert}
 use Rattle.std.specs.Ordering.{eq_by_cmp, nat_cmp}
-use Rattle.limits.specs.declared.TheConstants.{DIRECT_INDEXES, TRANSFER_BYTES}
+use Rattle.limits.specs.declared.TheConstants.{TRANSFER_BYTES}
 use Rattle.nfs_types.specs.declared.attributes.Attributes.{Attributes}
 use Rattle.nfs_types.specs.declared.attributes.WeakCacheData.{WeakCacheData}
 use Rattle.nfs_types.specs.declared.call.Stability.{Stability}
@@ -21,7 +21,7 @@ use Rattle.nfs_types.specs.declared.reply.Written.{Written}
 use Rattle.nfs_types.specs.declared.status.Status.{Status}
 use Rattle.nfs_types.specs.declared.status.Status.TheVariants as status
 use Rattle.model.proofs.Answered.{found-stands}
-use Rattle.model.proofs.Sets.{any_more, has}
+use Rattle.model.proofs.Costs.{more_cost}
 use Rattle.model.specs.Cost.{cost, file_cost}
 use Rattle.model.specs.Find.{find_file}
 use Rattle.model.specs.Node.{Node, Body, Regular, Directory, Link}
@@ -281,12 +281,6 @@ or_more : (a b : Bool) → b ≡ true → (a || b) ≡ true
 or_more true b e = refl
 or_more false b e = e
 
-more_by : (a b : Bool) → (a ≡ true → b ≡ true) → cond a 1 0 ≤ cond b 1 0
-more_by true true h = omega arith
-more_by true false h = let never = h refl in cc
-more_by false true h = omega arith
-more_by false false h = omega arith
-
 grows : (b : Bool) (n : ℕ) → n ≤ cond b n (n + 1)
 grows true n = omega arith
 grows false n = omega arith
@@ -294,15 +288,10 @@ grows false n = omega arith
 one_more_index : (mapped : FinSet nat_cmp) (index : ℕ) → file_cost mapped ≤ file_cost (insert mapped index)
 one_more_index mapped index =
     let size = len-insert nat_cmp_total mapped index in
-    let more : (q : ℕ) → has (items mapped) q ≡ true → has (items (insert mapped index)) q ≡ true = λ q e.
-    sym (contains-items (insert mapped index) q) ∙ contains-insert nat_cmp_total mapped index q
-    ∙ or_more (eq_by_cmp nat_cmp q index) (contains mapped q) (contains-items mapped q ∙ e) in
-    omega (
-      arith,
-      size,
-      grows (contains mapped index) (len mapped),
-      more_by _ _ (any_more (λ i. nat_le DIRECT_INDEXES i) (items mapped) (items (insert mapped index)) more),
-    )
+    more_cost mapped (insert mapped index)
+    (λ q e. sym (contains-items (insert mapped index) q) ∙ contains-insert nat_cmp_total mapped index q
+    ∙ or_more (eq_by_cmp nat_cmp q index) (contains mapped q) (contains-items mapped q ∙ e))
+    (omega (arith, size, grows (contains mapped index) (len mapped)))
 
 more_indexes : (indexes : List ℕ) (mapped : FinSet nat_cmp)
     → file_cost mapped ≤ file_cost (mapped_with indexes mapped)

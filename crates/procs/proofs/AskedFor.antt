@@ -1,6 +1,6 @@
 -- What a plan stops for is an object of the image.
 use Rattle.std.proofs.Common.{◌≡◌, ℕ, ◌<◌, refl, subst, List, true, false}
-use Rattle.std.proofs.Common.{arith, Ok, Err, Bool, cond, ◌&&◌, Option, Some, None, nat_eq}
+use Rattle.std.proofs.Common.{arith, Ok, Err, Bool, cond, ◌&&◌, ◌||◌, Option, Some, None, nat_eq}
 use Rattle.std.specs.List.{list_all}
 use Rattle.std.proofs.lemmas.Bool.Decides.{nat_tests}
 use Rattle.layout.specs.declared.fault.LayoutFault.TheVariants.{Range}
@@ -12,7 +12,9 @@ use Rattle.layout.specs.Places.{is_data}
 use Rattle.layout.specs.InodeForm.{fields_of, inode_of_kind, is_data_block_or_none, is_sound_inode}
 use Rattle.layout.specs.InodeForm.{kind_of_number, read_inode, rest_is_zero}
 use Rattle.layout.specs.Fields.{four_at, is_zeros}
+use Rattle.layout.specs.Version.{has_double}
 use Rattle.layout.proofs.AllNumbers.{map_is}
+use Rattle.layout.proofs.Respelled.{all_four}
 use Rattle.inode.specs.declared.snap.Snap.{Snap}
 use Rattle.inode.specs.declared.stop.Stop.{Stop}
 use Rattle.inode.specs.declared.stop.Stop.TheVariants.{Need, Claim, Io, NoMemory}
@@ -56,8 +58,9 @@ names_data : (g : Geometry) (one : Inode) → is_sound_inode g one ≡ true
 unfolding is_sound_inode
 names_data g one good some =
     data_of (nat_eq one.indirect 0) (is_data g one.indirect) (differs one.indirect 0 some)
-    (all_two (list_all (is_data_block_or_none g) one.direct)
-    (is_data_block_or_none g one.indirect) (map_is g one.kind one good)).1
+    (all_four (list_all (is_data_block_or_none g) one.direct)
+    (is_data_block_or_none g one.indirect) (is_data_block_or_none g one.double)
+    (nat_eq one.double 0 || has_double g.version) (map_is g one.kind one good)).1
 
 -- ---- so what a plan stops for is an object
 

@@ -27,7 +27,7 @@ use Rattle.objects.specs.declared.addr.Addr.{Addr}
 use Rattle.nfs_types.specs.declared.handle.Handle.{Handle}
 use Rattle.layout.specs.Places.{is_data}
 use Rattle.inode.specs.Read.{WasRead, WasReadInode}
-use Rattle.inspection.specs.Refused.{IsRefused, refused_block, refused_numbers}
+use Rattle.inspection.specs.Refused.{IsRefused, refused_block, refused_indirect, refused_numbers}
 use Rattle.inspection.proofs.Seen.{seen_of}
 
 pub number_read : (number : ℕ) (stamp : Stamp) → number < 2 ^ 32
@@ -109,15 +109,18 @@ far_refused snap blocks number inode addr bytes less inode_read is lies block of
       record { less = less; block = inode_read.at.block; offset = inode_read.at.offset; len = inode_read.at.len };
   read =
       seen_of inode_read.addr inode_read.read.object snap.objects.items inode_read.read.there inode_read.read.at;
-  file = refused_block inode is (refused_numbers (record {
-    lies = lies;
-    addr = addr;
-    block = block;
-    offset = offset;
-    len = len;
-    read = seen_of addr far_read.object snap.objects.items far_read.there far_read.at;
-    whole = names.whole;
-  }) names.refused);
+  file = refused_block inode is (refused_numbers (refused_indirect (record {
+    read = record {
+      lies = lies;
+      addr = addr;
+      block = block;
+      offset = offset;
+      len = len;
+      read = seen_of addr far_read.object snap.objects.items far_read.there far_read.at;
+      whole = names.whole;
+    };
+    names = names.refused;
+  })));
 }
 
 -- an inode that was read and has an indirect block has a data block there

@@ -9,6 +9,8 @@ use crate::entering::Entering;
 use crate::freeing::Freeing;
 use crate::next::Plan;
 use crate::pieces::Pieces;
+use crate::pointers::{Pointers, pointers_of};
+use crate::reading::first_handle;
 use crate::shrinking::{cut_at, cut_for, named, unnamed};
 use crate::writing::Writing;
 use block_files::BlockFiles;
@@ -24,8 +26,9 @@ use nfs_types::{Call, DirectoryName, Handle};
 use procedures::{ITSELF_COOKIE, PARENT_COOKIE};
 use std::alloc::{AllocError, Global};
 
-/// Nothing; the blocks of a file that a READ asks for; what a WRITE asks for; what a name asks for
-/// that a directory gets; what the blocks ask for that a file frees; what a listing asks for; or the bitmaps.
+/// Nothing; the blocks of a file that a READ asks for; what a WRITE asks for; what a name asks for that a directory
+/// gets; what the blocks ask for that a file frees; what a listing asks for; the bitmaps; or the pointer blocks of a
+/// file.
 #[derive(Drop)]
 pub(crate) enum Ahead {
     Nothing,
@@ -35,6 +38,7 @@ pub(crate) enum Ahead {
     Freeing(Freeing),
     Listing(Listing),
     Pieces(Pieces),
+    Pointers(Pointers),
 }
 
 /// The blocks of a file from an index on up to another.
@@ -46,8 +50,9 @@ pub(crate) struct Blocks {
     ghost within: { end ≤ FILE_INDEXES },
 }
 
-/// A listing: the slot from which it goes on, the room that is left for names and for the whole, and the numbers that it
-/// has listed, of which the first were told; these only where their files are told.
+/// A listing: the slot from which it goes on, the room that is left for names and for the whole, and the numbers that
+/// it has listed, of which the first were told; these only where their files are told, with the pointer blocks of the
+/// next.
 #[derive(Drop)]
 pub(crate) struct Listing {
     directory: Head,
@@ -59,6 +64,22 @@ pub(crate) struct Listing {
     is_full: bool,
     numbers: Vec<u32>,
     told: usize,
+    pointers: Option<Pointers>,
+}
+
+// Asks for the pointer blocks of a file, from those on that were asked for.
+fn ask_pointers(pointers: &mut Option<Pointers>, snap: &Snap, number: u32) -> Result<(), Stop>
+    ensures { IfErr result (λ why. MayStop snap.now why) }
+{
+    if pointers.is_none() {
+        if let Some(inode) = held(snap, number)? {
+            *pointers = Some(Pointers::begin(inode));
+        }
+    }
+    match pointers {
+        Some(pointers) => pointers.go_on(snap),
+        None => Ok(()),
+    }
 }
 
 // How far a listing is with what a directory lists, as long as there is room.
@@ -102,12 +123,16 @@ impl Listing {
     }
 
     // Tells the files of what was listed.
-    fn tell(&mut self, files: &BlockFiles) -> Result<(), Stop>
-        ensures { IfErr result (λ why. MayStop files.now.snap.now why) }
+    fn tell(&mut self, files: &BlockFiles, snap: &Snap) -> Result<(), Stop>
+        requires { files.now.snap.now ≡ snap.now }
+        ensures { IfErr result (λ why. MayStop snap.now why) }
     {
         'numbers: while self.told < self.numbers.len() {
-            files.file(self.numbers[self.told])?;
+            let number = self.numbers[self.told];
+            ask_pointers(&mut self.pointers, snap, number)?;
+            files.file(number)?;
             self.told += 1;
+            self.pointers = None;
         }
         Ok(())
     }
@@ -117,7 +142,7 @@ impl Listing {
     {
         let files = BlockFiles::new(alloc, snap);
         match self.list(alloc, &files) {
-            Ok(()) => self.tell(&files),
+            Ok(()) => self.tell(&files, snap),
             Err(stop) => Err(stop),
         }
     }
@@ -147,6 +172,7 @@ impl Ahead {
             Ahead::Freeing(freeing) => freeing.go_on(alloc, snap),
             Ahead::Listing(listing) => listing.go_on(alloc, snap),
             Ahead::Pieces(pieces) => pieces.go_on(snap),
+            Ahead::Pointers(pointers) => pointers.go_on(snap),
         }
     }
 
@@ -215,6 +241,7 @@ fn listing_of(
         is_full: false,
         numbers: Vec::new(alloc),
         told: 0,
+        pointers: None,
     };
     if cookie < ITSELF_COOKIE {
         listing.add(directory.number, b".")?;
@@ -336,19 +363,93 @@ fn is_asked(plan: &Plan, next: &Option<Stop>) -> bool {
     }
 }
 
-/// What a call asks for behind a plan: nothing, unless the plan asks for the next of what the call asks for in a row, so
-/// that the run has come there.
+// A position, if a plan asks for the next of what it asks for, so that the run has come there.
+fn begun(alloc: Global, snap: &Snap, plan: &Plan, position: Ahead) -> Option<Ahead> {
+    let mut ahead = position;
+    let next = ahead.next(alloc, snap);
+    if is_asked(plan, &next) {
+        Some(ahead)
+    } else {
+        None
+    }
+}
+
+// The number of the file to which a name leads, if this is known.
+fn known_number(snap: &Snap, names: &Names, name: &DirectoryName) -> Option<u32> {
+    match named(snap, names, name) {
+        Ok(found) => found,
+        Err(_) => None,
+    }
+}
+
+// The numbers of files whose pointer blocks a call asks for: of that which its first handle names, and of those to
+// which its names lead.
+fn files_of(call: &Call, snap: &Snap, names: &Names) -> [Option<u32>; 3] {
+    let handled = match first_handle(call) {
+        Some(handle) => match handle.parts() {
+            Some((number, _)) => Some(number),
+            None => None,
+        },
+        None => None,
+    };
+    match call {
+        Call::Lookup { name } | Call::Create { name, .. } | Call::Remove { name } => {
+            [handled, known_number(snap, names, name), None]
+        }
+        Call::Rename { source, target } => [
+            handled,
+            known_number(snap, names, source),
+            known_number(snap, names, target),
+        ],
+        _ => [handled, None, None],
+    }
+}
+
+// Whether a plan asks for a whole block.
+fn needs_block(plan: &Plan) -> bool {
+    match plan {
+        Plan::Need(addr, _) => addr.len == BLOCK_BYTES,
+        _ => false,
+    }
+}
+
+// The pointer blocks of a file for the next of which a plan asks.
+fn pointers_behind(
+    alloc: Global,
+    call: &Call,
+    snap: &Snap,
+    names: &Names,
+    plan: &Plan,
+) -> Option<Ahead> {
+    if !needs_block(plan) {
+        return None;
+    }
+    for number in files_of(call, snap, names) {
+        if let Some(number) = number {
+            if let Some(pointers) = pointers_of(snap, number) {
+                if let Some(ahead) = begun(alloc, snap, plan, Ahead::Pointers(pointers)) {
+                    return Some(ahead);
+                }
+            }
+        }
+    }
+    None
+}
+
+/// What a call asks for behind a plan: nothing, unless the plan asks for the next of what the call asks for in a row,
+/// so that the run has come there.
 pub(crate) fn behind(alloc: Global, call: &Call, snap: &Snap, names: &Names, plan: &Plan) -> Ahead {
     if !matches!(plan, Plan::Need(..) | Plan::Claim(_)) {
         return Ahead::Nothing;
     }
-    let Ok(mut ahead) = in_a_row(alloc, call, snap, names) else {
+    if let Some(ahead) = pointers_behind(alloc, call, snap, names, plan) {
+        return ahead;
+    }
+    let Ok(ahead) = in_a_row(alloc, call, snap, names) else {
         return Ahead::Nothing;
     };
-    let next = ahead.next(alloc, snap);
-    if is_asked(plan, &next) {
-        ahead
-    } else {
-        Ahead::Nothing
+    match begun(alloc, snap, plan, ahead) {
+        Some(ahead) => ahead,
+        None => Ahead::Nothing,
     }
 }

@@ -17,8 +17,8 @@ pub fn what_is_read_was_asked_for()
         → WereAskedOnce g objects → Asks g addr → WereAskedOnce g (with_read addr bytes objects) }
 {}
 
-/// A plan asks for no more objects than an image has pieces of 128 bytes, if for each address once, and no more than twice
-/// for each: beside others, and then alone.
+/// A plan asks for no more objects than an image has pieces of 128 bytes, if for each address once, and no more than
+/// twice for each: beside others, and then alone.
 pub fn a_plan_asks_for_few()
     ensures objects { (g : Geometry) (objects : List ObjectBytes) → WereAskedOnce g objects
         → length objects ≤ most_asked g.blocks }

@@ -24,8 +24,8 @@ pub fn a_reply_that_no_step_has_is_no_plan()
         → Stands finished.snap.geometry blocks tree → AreAsRead blocks done.read → done.reply ≡ Null → ⊥ }
 {}
 
-/// A finished plan leaves, in the blocks of each regular file, the bytes that this file has in a tree that its step leads
-/// to. So other bytes in a claimed block that a file has then are no finished plan's.
+/// A finished plan leaves, in the blocks of each regular file, the bytes that this file has in a tree that its step
+/// leads to. So other bytes in a claimed block that a file has then are no finished plan's.
 pub fn other_bytes_than_the_files_are_no_plan()
     ensures { (done : Outcome) (finished : IsFinished done) (blocks : Image) (tree : Tree)
         → Stands finished.snap.geometry blocks tree → AreAsRead blocks done.read

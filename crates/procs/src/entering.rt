@@ -14,8 +14,8 @@ use nfs_types::Handle;
 use procs_changes::entry_adds;
 use std::alloc::Global;
 
-/// A directory; the number of a new file, where one is made, and how many blocks it has; how many free blocks are wanted
-/// for these and for the name, once this is known; and how many of them were taken.
+/// A directory; the number of a new file, where one is made, and how many blocks it has; how many free blocks are
+/// wanted for these and for the name, once this is known; and how many of them were taken.
 #[derive(Drop)]
 pub(crate) struct Entering {
     directory: Head,

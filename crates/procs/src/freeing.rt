@@ -1,19 +1,22 @@
 //! What a call asks for behind a run that frees blocks of a file: of one that is cut (RFC 1813, section 3.3.2), or that
-//! loses its last name (sections 3.3.12 to 3.3.14). These are positions, of which nothing is claimed.
-ghost use Rattle.std.specs.Prelude.{◌≡◌, ◌<◌, ◌≤◌, IfErr};
-ghost use Rattle.limits.specs.declared.TheConstants.{FILE_INDEXES};
+//! loses its last name (sections 3.3.12 to 3.3.14). It goes by the file's pointer blocks and not by its size. These are
+//! positions, of which nothing is claimed.
+ghost use Rattle.std.specs.Prelude.{◌≡◌, ◌≤◌, length, IfErr};
+ghost use Rattle.limits.specs.declared.TheConstants.{BLOCK_BYTES, FILE_INDEXES};
 ghost use Rattle.inode.specs.Over.{MayStop};
 
 use crate::pieces::{ask_block_bit, ask_number_bit};
+use crate::pointers::Pointers;
 use dir::is_empty;
 use inode::{Snap, Stop, block_number, data_block, held};
-use layout::{Inode, InodeKind};
-use limits::{BLOCK_BYTES, DIRECT_INDEXES, FILE_INDEXES, LARGEST_FILE};
+use layout::{Inode, InodeKind, Numbers};
+use limits::{BLOCK_BYTES, DIRECT_INDEXES, FIRST_DOUBLE_INDEX, INDIRECT_INDEXES, LARGEST_FILE};
 use std::alloc::Global;
 
 /// A file, and how many of its indexes stay; whether a part of the last of these is written over with zeros; the number
-/// that no file has then, where none stays; whether it is looked through for names before; whether all that comes
-/// before the bits of its blocks was asked for; and the index from which these are asked for.
+/// that no file has then, where none stays; whether it is yet to be looked through for names; its pointer blocks; and
+/// how far the bits of what is freed were asked for: those of inner blocks of a file that is gone, and those of what
+/// the indirect block names, inner blocks, and so many numbers of the next; and whether an inner block stays.
 #[derive(Drop)]
 pub(crate) struct Freeing {
     inode: Inode,
@@ -21,23 +24,39 @@ pub(crate) struct Freeing {
     is_zeroed: bool,
     number: Option<u32>,
     is_looked_through: bool,
-    is_begun: bool,
+    pointers: Pointers,
+    marked: usize,
+    is_past_far: bool,
+    inners: usize,
     at: usize,
+    has_inner: bool,
     ghost within: { kept ≤ FILE_INDEXES },
 }
 
-// How many indexes of a file lie below its size: none is mapped behind them.
-fn indexes_of(inode: &Inode) -> usize
-    ensures { result ≤ FILE_INDEXES }
+// Asks for the bit of a block that is freed, if the number is that of one.
+fn ask_freed(snap: &Snap, number: u32) -> Result<(), Stop>
+    ensures { IfErr result (λ why. MayStop snap.now why) }
 {
-    if inode.size >= LARGEST_FILE {
-        return FILE_INDEXES;
+    if number == 0 {
+        return Ok(());
     }
-    ((inode.size + BLOCK_BYTES as u64 - 1) / BLOCK_BYTES as u64) as usize
+    ask_block_bit(snap, number)
+}
+
+// Whether one of the first so many numbers in a pointer block is that of a block.
+fn names_any(bytes: &[u8], count: usize) -> bool
+    requires { length bytes.now ≡ BLOCK_BYTES }
+{
+    'indexes: for index in 0..count.min(INDIRECT_INDEXES) {
+        if Numbers::at(bytes, index) != 0 {
+            return true;
+        }
+    }
+    false
 }
 
 impl Freeing {
-    /// What the file of a number asks for that is cut to this size. Its indirect block was read before.
+    /// What the file of a number asks for that is cut to this size.
     pub(crate) fn cut(snap: &Snap, number: u32, size: u64) -> Result<Option<Freeing>, Stop> {
         let Some(inode) = held(snap, number)? else {
             return Ok(None);
@@ -45,21 +64,23 @@ impl Freeing {
         if inode.kind != InodeKind::Regular || size >= inode.size || size > LARGEST_FILE {
             return Ok(None);
         }
-        block_number(snap, &inode, FILE_INDEXES - 1)?;
-        let kept = ((size + BLOCK_BYTES as u64 - 1) / BLOCK_BYTES as u64) as usize;
         Ok(Some(Freeing {
             inode,
-            kept,
+            kept: ((size + BLOCK_BYTES as u64 - 1) / BLOCK_BYTES as u64) as usize,
             is_zeroed: size % BLOCK_BYTES as u64 != 0,
             number: None,
             is_looked_through: false,
-            is_begun: false,
-            at: kept,
+            pointers: Pointers::begin(inode),
+            marked: 0,
+            is_past_far: false,
+            inners: 0,
+            at: 0,
+            has_inner: false,
         }))
     }
 
-    /// What the file of a number asks for that loses a name, if that is its last. Its indirect block was read before,
-    /// but where it is looked through for names.
+    /// What the file of a number asks for that loses a name, if that is its last. It may be looked through for names
+    /// before.
     pub(crate) fn gone(
         snap: &Snap,
         number: u32,
@@ -71,17 +92,18 @@ impl Freeing {
         if inode.kind != InodeKind::Directory && inode.nlink > 1 {
             return Ok(None);
         }
-        if !is_looked_through {
-            block_number(snap, &inode, FILE_INDEXES - 1)?;
-        }
         Ok(Some(Freeing {
             inode,
             kept: 0,
             is_zeroed: false,
             number: Some(number),
             is_looked_through,
-            is_begun: false,
+            pointers: Pointers::begin(inode),
+            marked: 0,
+            is_past_far: false,
+            inners: 0,
             at: 0,
+            has_inner: false,
         }))
     }
 
@@ -91,6 +113,19 @@ impl Freeing {
             return Ok(None);
         };
         Freeing::gone(snap, number, inode.kind == InodeKind::Directory)
+    }
+
+    // Asks for what is looked through for names. Whether there is none.
+    fn has_no_name(&mut self, alloc: Global, snap: &Snap) -> Result<bool, Stop>
+        ensures { IfErr result (λ why. MayStop snap.now why) }
+    {
+        if self.is_looked_through {
+            if !is_empty(alloc, snap, &self.inode)? {
+                return Ok(false);
+            }
+            self.is_looked_through = false;
+        }
+        Ok(true)
     }
 
     // Asks for the last block that stays, where a part of it is written over.
@@ -107,57 +142,117 @@ impl Freeing {
         Ok(())
     }
 
-    // Whether an index that stays is mapped by the indirect block.
-    fn is_far(&self, snap: &Snap) -> Result<bool, Stop>
+    // Asks for the bits of the pointer blocks of a file that is gone.
+    fn ask_pointer_bits(&mut self, snap: &Snap) -> Result<(), Stop>
         ensures { IfErr result (λ why. MayStop snap.now why) }
     {
-        'indexes: for index in DIRECT_INDEXES..self.kept {
-            if block_number(snap, &self.inode, index)? != 0 {
-                return Ok(true);
-            }
+        ask_freed(snap, self.inode.indirect)?;
+        ask_freed(snap, self.inode.double)?;
+        if !snap.geometry.is_data(self.inode.double) {
+            return Ok(());
+        }
+        let numbers = data_block(snap, self.inode.double)?;
+        'inners: for inner in self.marked..INDIRECT_INDEXES {
+            ask_freed(snap, Numbers::at(numbers, inner))?;
+            self.marked = inner + 1;
+        }
+        Ok(())
+    }
+
+    // Asks for the bits of the blocks that the inode names itself and that are freed.
+    fn ask_near(&self, snap: &Snap) -> Result<(), Stop>
+        ensures { IfErr result (λ why. MayStop snap.now why) }
+    {
+        'indexes: for index in self.kept..DIRECT_INDEXES {
+            ask_freed(snap, self.inode.direct[index])?;
+        }
+        Ok(())
+    }
+
+    // Asks for the bits of the blocks that a pointer block names, if there is one, from the first index that is freed
+    // on; its own numbers begin with this index. Then for its own bit, where the file is cut and none of its numbers
+    // stays. Whether one does.
+    fn ask_row(&mut self, snap: &Snap, pointer: u32, first: usize) -> Result<bool, Stop>
+        ensures { IfErr result (λ why. MayStop snap.now why) }
+    {
+        if !snap.geometry.is_data(pointer) {
+            return Ok(false);
+        }
+        let bytes = data_block(snap, pointer)?;
+        let kept = self.kept.saturating_sub(first);
+        'indexes: for index in self.at.max(kept)..INDIRECT_INDEXES {
+            ask_freed(snap, Numbers::at(bytes, index))?;
+            self.at = index + 1;
+        }
+        if names_any(bytes, kept) {
+            return Ok(true);
+        }
+        if self.number.is_none() {
+            ask_block_bit(snap, pointer)?;
         }
         Ok(false)
     }
 
-    // Asks for the indirect block, and then for its bit, where it is freed.
-    fn ask_indirect(&self, snap: &Snap) -> Result<(), Stop>
+    // Asks for the bits that the indirect block has freed.
+    fn ask_far(&mut self, snap: &Snap) -> Result<(), Stop>
         ensures { IfErr result (λ why. MayStop snap.now why) }
     {
-        block_number(snap, &self.inode, FILE_INDEXES - 1)?;
-        self.ask_last(snap)?;
-        if self.inode.indirect != 0 && !self.is_far(snap)? {
-            ask_block_bit(snap, self.inode.indirect)?;
+        if !self.is_past_far {
+            self.ask_row(snap, self.inode.indirect, DIRECT_INDEXES)?;
+            self.is_past_far = true;
+            self.at = 0;
         }
         Ok(())
     }
 
-    // Asks for the bits of the blocks that are freed.
-    fn ask_bits(&mut self, snap: &Snap) -> Result<(), Stop>
+    // Asks for the bits that the inner blocks of these numbers have freed, one block behind the other.
+    fn ask_inners(&mut self, snap: &Snap, numbers: &[u8]) -> Result<(), Stop>
+        requires { length numbers.now ≡ BLOCK_BYTES }
         ensures { IfErr result (λ why. MayStop snap.now why) }
     {
-        let end = indexes_of(&self.inode);
-        'indexes: for index in self.at..end {
-            let number = block_number(snap, &self.inode, index)?;
-            if number != 0 {
-                ask_block_bit(snap, number)?;
+        'inners: for inner in self.inners..INDIRECT_INDEXES {
+            let first = FIRST_DOUBLE_INDEX + INDIRECT_INDEXES * inner;
+            if self.ask_row(snap, Numbers::at(numbers, inner), first)? {
+                self.has_inner = true;
             }
-            self.at = index + 1;
+            self.inners = inner + 1;
+            self.at = 0;
         }
         Ok(())
+    }
+
+    // Asks for the bits that the double indirect block has freed, and then for its own, where the file is cut and no
+    // inner block stays.
+    fn ask_double(&mut self, snap: &Snap) -> Result<(), Stop>
+        ensures { IfErr result (λ why. MayStop snap.now why) }
+    {
+        let double = self.inode.double;
+        if !snap.geometry.is_data(double) {
+            return Ok(());
+        }
+        let numbers = data_block(snap, double)?;
+        self.ask_inners(snap, numbers)?;
+        if self.number.is_some() || self.has_inner {
+            return Ok(());
+        }
+        ask_block_bit(snap, double)
     }
 
     /// Asks for the next object that wasn't read.
     pub(crate) fn go_on(&mut self, alloc: Global, snap: &Snap) -> Result<(), Stop>
         ensures { IfErr result (λ why. MayStop snap.now why) }
     {
-        if !self.is_begun {
-            if self.is_looked_through && !is_empty(alloc, snap, &self.inode)? {
-                return Ok(());
-            }
-            self.ask_indirect(snap)?;
-            self.is_begun = true;
+        if !self.has_no_name(alloc, snap)? {
+            return Ok(());
         }
-        self.ask_bits(snap)?;
+        self.pointers.go_on(snap)?;
+        self.ask_last(snap)?;
+        if self.number.is_some() {
+            self.ask_pointer_bits(snap)?;
+        }
+        self.ask_near(snap)?;
+        self.ask_far(snap)?;
+        self.ask_double(snap)?;
         match self.number {
             Some(number) => ask_number_bit(snap, number),
             None => Ok(()),

@@ -14,6 +14,7 @@ mod freeing;
 mod next;
 mod pieces;
 mod planner;
+mod pointers;
 mod reading;
 mod refused;
 mod rules;

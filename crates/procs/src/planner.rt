@@ -36,6 +36,7 @@ impl Planner {
     ghost use Rattle.model.specs.Calls.{begins_transaction};
     ghost use Rattle.model.specs.Find.{number_in};
     ghost use Rattle.layout.specs.declared.inode.Inode.{Inode};
+    ghost use Rattle.layout.specs.declared.version.FormatVersion.TheVariants.{Second};
     ghost use Rattle.layout.specs.Decode.{inode_at, span_of};
     ghost use Rattle.inode.specs.declared.snap.Snap.{Snap};
     ghost use Rattle.inode.specs.Read.{Saw};
@@ -47,9 +48,10 @@ impl Planner {
     ghost use Rattle.procs.specs.Refused.{IsIoWhereRefused};
     ghost use Rattle.procs.specs.SoundCalls.{SoundCall};
 
-    /// Nothing was read yet. Free blocks are looked for from a piece of their bitmap on, and what is read is asked for in
-    /// a mode.
+    /// Nothing was read yet. Free blocks are looked for from a piece of their bitmap on, and what is read is asked for
+    /// in a mode.
     pub fn new(alloc: Global, geometry: Geometry, from: u32, asks: Mode) -> Planner
+        requires { geometry.version ≡ Second }
         ensures geometry { result.snap.geometry ≡ geometry }
         ensures asks { result.snap.asks ≡ asks }
         ensures objects { result.snap.objects.items ≡ [] }
@@ -78,7 +80,8 @@ impl Planner {
         self.snap.make_room()
     }
 
-    /// Adds an object that was read in a mode, for which there is room. One that was read before is had in this mode, too.
+    /// Adds an object that was read in a mode, for which there is room. One that was read before is had in this mode,
+    /// too.
     pub fn add(&mut self, addr: Addr, mode: Mode, bytes: SharedBytes)
         requires len { length bytes ≡ addr.len }
         requires room { HasRoom self.old.snap }
@@ -112,9 +115,9 @@ impl Planner {
         }
     }
 
-    /// What a call needs next, or what comes of it, by what was read so far. It asks for one object at a time, alone for
-    /// what is written, as `plan` does that begins anew: the procedure is run only where what follows isn't told by where
-    /// the last run stopped.
+    /// What a call needs next, or what comes of it, by what was read so far. It asks for one object at a time, alone
+    /// for what is written, as `plan` does that begins anew: the procedure is run only where what follows isn't told by
+    /// where the last run stopped.
     pub fn next(&mut self, alloc: Global, ctx: &Ctx, call: &Call) -> Plan
         requires served { begins_transaction call.now ≡ true }
         requires sound { SoundCall ctx.now.credential ctx.now.moment call.now }

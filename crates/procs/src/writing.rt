@@ -1,7 +1,7 @@
 //! What a WRITE asks for behind a run (RFC 1813, section 3.3.7): the blocks of which it writes a part, to read them,
 //! the others that it writes, to claim them, and free ones for what isn't mapped. These are positions, of which nothing
 //! is claimed.
-ghost use Rattle.std.specs.Prelude.{◌≡◌, ◌+◌, ◌<◌, ◌≤◌, true, IfErr};
+ghost use Rattle.std.specs.Prelude.{◌≡◌, ◌+◌, ◌<◌, ◌≤◌, true, IfErr, IfOk};
 ghost use Rattle.limits.specs.declared.TheConstants.{FILE_INDEXES, LARGEST_FILE};
 ghost use Rattle.layout.specs.Places.{is_data};
 ghost use Rattle.inode.specs.Over.{MayStop};
@@ -9,14 +9,15 @@ ghost use Rattle.inode.specs.Over.{MayStop};
 use crate::free::{FreeBlocks, Room};
 use disk::BlockNo;
 use file_writes::unmapped;
-use inode::{Snap, Stop, block_number, data_block, held};
+use inode::{Snap, Stop, block_number, data_block, held, inner_number};
 use layout::{Inode, InodeKind};
-use limits::{BLOCK_BYTES, DIRECT_INDEXES, LARGEST_FILE};
+use limits::{BLOCK_BYTES, DIRECT_INDEXES, FIRST_DOUBLE_INDEX, INDIRECT_INDEXES, LARGEST_FILE};
 use nfs_types::Handle;
 use objects::Addr;
 
 /// The blocks of a file from an index on up to another, which are written from an offset on up to the end; how many
-/// free ones are owed to those before; and whether the file has an indirect block then.
+/// free ones are owed to those before; and whether the file has an indirect block then, a double one, and the inner
+/// block of the last index.
 #[derive(Drop)]
 pub(crate) struct Writing {
     inode: Inode,
@@ -29,6 +30,8 @@ pub(crate) struct Writing {
     free: FreeBlocks,
     owed: u32,
     has_far: bool,
+    has_double: bool,
+    inner: usize,
     ghost within: { past ≤ FILE_INDEXES },
 }
 
@@ -74,6 +77,8 @@ impl Writing {
             free: FreeBlocks::begin(),
             owed: 0,
             has_far: inode.indirect != 0,
+            has_double: inode.double != 0,
+            inner: INDIRECT_INDEXES,
         }))
     }
 
@@ -85,19 +90,47 @@ impl Writing {
         self.offset <= start && start + BLOCK_BYTES as u64 <= self.end
     }
 
-    // Asks for the block at an index. Where there is none a free one is owed, and one for the indirect block when there
-    // is none either.
+    // How many pointer blocks are owed for a block at an index that isn't mapped.
+    fn owe_pointers(&mut self, snap: &Snap, index: usize) -> Result<u32, Stop>
+        requires { index < FILE_INDEXES }
+        ensures few { IfOk result (λ owed. owed ≤ 2) }
+        ensures err { IfErr result (λ why. MayStop snap.now why) }
+    {
+        if index < DIRECT_INDEXES {
+            return Ok(0);
+        }
+        if index < FIRST_DOUBLE_INDEX {
+            if self.has_far {
+                return Ok(0);
+            }
+            self.has_far = true;
+            return Ok(1);
+        }
+        let inner = (index - FIRST_DOUBLE_INDEX) / INDIRECT_INDEXES;
+        if inner == self.inner {
+            return Ok(0);
+        }
+        let has_inner = inner_number(snap, &self.inode, inner)? != 0;
+        self.inner = inner;
+        if has_inner {
+            return Ok(0);
+        }
+        if self.has_double {
+            return Ok(1);
+        }
+        self.has_double = true;
+        Ok(2)
+    }
+
+    // Asks for the block at an index. Where there is none a free one is owed, and one for each pointer block that there
+    // isn't either.
     fn ask(&mut self, snap: &Snap, index: usize) -> Result<(), Stop>
         requires { index < FILE_INDEXES }
         ensures { IfErr result (λ why. MayStop snap.now why) }
     {
         let number = block_number(snap, &self.inode, index)?;
         if number == 0 {
-            self.owed = 1;
-            if index >= DIRECT_INDEXES && !self.has_far {
-                self.owed = 2;
-                self.has_far = true;
-            }
+            self.owed = 1 + self.owe_pointers(snap, index)?;
             return Ok(());
         }
         if self.is_whole(index) {

@@ -1,19 +1,19 @@
 -- New files under their numbers, and their sizes.
 use Rattle.std.proofs.Common.{◌≡◌, ℕ, ◌+◌, ◌*◌, ◌≤◌, sym, ap, subst, ◌∙◌, refl, Bool, true, false, cond, not, ◌||◌}
-use Rattle.std.proofs.Common.{◌&&◌, nat_le, nat_lt, List, [], ◌∷◌, is_some, Option, Some, None, arith}
+use Rattle.std.proofs.Common.{◌&&◌, nat_lt, List, [], ◌∷◌, is_some, Option, Some, None, arith}
 use Rattle.std.proofs.lemmas.Bool.Decides.{nat_tests}
 use Rattle.std.specs.Cmp.{nat_cmp_total}
 use Rattle.std.specs.FinMap.{FinMap, get-insert, insert, nat_cmp-IsAntisymmetric, same_map}
 use Rattle.std.specs.FinMap as map
 use Rattle.std.specs.FinSet as set
 use Rattle.std.specs.Ordering.{eq_by_cmp, nat_cmp}
-use Rattle.limits.specs.declared.TheConstants.{BLOCK_BYTES, DIRECT_INDEXES, LARGEST_FILE}
+use Rattle.limits.specs.declared.TheConstants.{BLOCK_BYTES, LARGEST_FILE}
 use Rattle.nfs_types.specs.declared.attributes.FileKind.TheVariants as kinds
 use Rattle.nfs_types.specs.declared.attributes.NewAttributes.{NewAttributes}
 use Rattle.nfs_types.specs.declared.ctx.Ctx.{Ctx}
 use Rattle.nfs_types.specs.declared.ctx.Moment.{Moment}
 use Rattle.nfs_types.specs.declared.status.Status.TheVariants as status
-use Rattle.model.proofs.Sets.{any_items}
+use Rattle.model.proofs.Costs.{no_cost}
 use Rattle.model.specs.Attributes.{kind_of}
 use Rattle.model.specs.Cost.{cost, file_cost}
 use Rattle.model.specs.Names.{is_directory}
@@ -63,8 +63,7 @@ made_there stands middle head target body first fits can then =
 -- ---- blocks
 
 pub no_blocks : cost (Regular [] set.empty) ≡ 0
-no_blocks = λ i. set.len-empty nat_cmp i
-    + cond (any_items (λ index. nat_le DIRECT_INDEXES index) [] i) 1 0
+no_blocks = no_cost
 
 pub regular_cost : (head : Head) (target : List ℕ) → head.kind ≡ kinds.Regular
     → 0 ≡ cost (first_body head target)

@@ -25,7 +25,7 @@ fn set_size<F: ChangingFiles>(
     requires { given size (λ size. nat_lt LARGEST_FILE size) ≡ false }
     ensures err { IfErr result (λ stop. F.may_stop (F.source files.old) stop) }
     ensures source { F.source files.new ≡ F.source files.old }
-    ensures spent { F.spent files.new ≤ F.spent files.old + 3 }
+    ensures spent { F.spent files.new ≤ F.spent files.old + 5 }
     ensures pause { IfErr result (λ stop. (world : F.World) (tree : Tree) → F.stands files.old world tree
         → F.is_pause stop) }
     ensures ok { IfOk result (λ last. (world : F.World) (tree : Tree) (body : Body)
@@ -57,7 +57,7 @@ pub fn add<F: ChangingFiles>(
     requires { given size (λ size. nat_lt LARGEST_FILE size) ≡ false }
     ensures err { IfErr result (λ stop. F.may_stop (F.source files.old) stop) }
     ensures source { F.source files.new ≡ F.source files.old }
-    ensures spent { F.spent files.new ≤ F.spent files.old + 9 }
+    ensures spent { F.spent files.new ≤ F.spent files.old + 11 }
     ensures pause { IfErr result (λ stop. (world : F.World) (tree : Tree) (body : Body)
         → F.stands files.old world tree → IsBodyOf head.now body → first_body head.now target.now ≡ body
         → CanEnterAt tree moment directory name.now (record { number = head.now.number; slot = slot }) body

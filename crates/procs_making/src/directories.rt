@@ -44,7 +44,7 @@ fn make_directory_in<F: ChangingFiles>(
 ) -> Result<Result<Created, Status>, F::Stop>
     ensures err { IfErr result (λ stop. F.may_stop (F.source files.old) stop) }
     ensures source { F.source files.new ≡ F.source files.old }
-    ensures spent { F.spent files.new ≤ F.spent files.old + 9 }
+    ensures spent { F.spent files.new ≤ F.spent files.old + 11 }
     ensures pause { IfErr result (λ stop. (world : F.World) (tree : Tree) (inside : Body)
         → F.stands files.old world tree → IsFileIn tree directory.now inside → Sound tree → SoundCtx ctx.now
         → AreBytes name.now → NewAttributesFit wanted.now → F.is_pause stop) }
@@ -76,7 +76,7 @@ pub fn make_directory<F: ChangingFiles>(
 ) -> Result<Changed<Created>, F::Stop>
     ensures err { IfErr result (λ stop. F.may_stop (F.source files.old) stop) }
     ensures source { F.source files.new ≡ F.source files.old }
-    ensures spent { F.spent files.new ≤ F.spent files.old + 9 }
+    ensures spent { F.spent files.new ≤ F.spent files.old + 11 }
     ensures pause { IfErr result (λ stop. (world : F.World) (tree : Tree) → F.stands files.old world tree
         → Sound tree → SoundCtx ctx.now → CallFits (call.MkDir name.now wanted.now) → F.is_pause stop) }
     ensures step { IfOk result (λ r. (world : F.World) (tree : Tree) → F.stands files.old world tree

@@ -73,7 +73,7 @@ fn resize<F: ChangingFiles>(
 ) -> Result<Result<Created, Status>, F::Stop>
     ensures err { IfErr result (λ stop. F.may_stop (F.source files.old) stop) }
     ensures source { F.source files.new ≡ F.source files.old }
-    ensures spent { F.spent files.new ≤ F.spent files.old + 3 }
+    ensures spent { F.spent files.new ≤ F.spent files.old + 5 }
     ensures pause { IfErr result (λ stop. (world : F.World) (tree : Tree) → F.stands files.old world tree
         → F.is_pause stop) }
     ensures ok { IfOk result (λ r. (world : F.World) (tree : Tree) (body : Body)
@@ -102,7 +102,7 @@ pub fn create_over<F: ChangingFiles>(
 ) -> Result<Result<Created, Status>, F::Stop>
     ensures err { IfErr result (λ stop. F.may_stop (F.source files.old) stop) }
     ensures source { F.source files.new ≡ F.source files.old }
-    ensures spent { F.spent files.new ≤ F.spent files.old + 3 }
+    ensures spent { F.spent files.new ≤ F.spent files.old + 5 }
     ensures pause { IfErr result (λ stop. (world : F.World) (tree : Tree) → F.stands files.old world tree
         → F.is_pause stop) }
     ensures ok { IfOk result (λ r. (world : F.World) (tree : Tree) (body : Body)

@@ -30,7 +30,7 @@ pub fn make<F: ChangingFiles>(
 ) -> Result<Result<Created, Status>, F::Stop>
     ensures err { IfErr result (λ stop. F.may_stop (F.source files.old) stop) }
     ensures source { F.source files.new ≡ F.source files.old }
-    ensures spent { F.spent files.new ≤ F.spent files.old + 9 }
+    ensures spent { F.spent files.new ≤ F.spent files.old + 11 }
     ensures pause { IfErr result (λ stop. (world : F.World) (tree : Tree) (inside : Body) (mode : ℕ)
         (verifier : Option Verifier) (body : Body)
         → F.stands files.old world tree → IsFileIn tree directory.now inside → Sound tree → SoundCtx ctx.now

@@ -47,7 +47,7 @@ fn make_link_in<F: ChangingFiles>(
 ) -> Result<Result<Created, Status>, F::Stop>
     ensures err { IfErr result (λ stop. F.may_stop (F.source files.old) stop) }
     ensures source { F.source files.new ≡ F.source files.old }
-    ensures spent { F.spent files.new ≤ F.spent files.old + 9 }
+    ensures spent { F.spent files.new ≤ F.spent files.old + 11 }
     ensures pause { IfErr result (λ stop. (world : F.World) (tree : Tree) (inside : Body)
         → F.stands files.old world tree → IsFileIn tree directory.now inside → Sound tree → SoundCtx ctx.now
         → AreBytes name.now → NewAttributesFit wanted.now → AreBytes target.now → F.is_pause stop) }
@@ -81,7 +81,7 @@ pub fn make_link<F: ChangingFiles>(
 ) -> Result<Changed<Created>, F::Stop>
     ensures err { IfErr result (λ stop. F.may_stop (F.source files.old) stop) }
     ensures source { F.source files.new ≡ F.source files.old }
-    ensures spent { F.spent files.new ≤ F.spent files.old + 9 }
+    ensures spent { F.spent files.new ≤ F.spent files.old + 11 }
     ensures pause { IfErr result (λ stop. (world : F.World) (tree : Tree) → F.stands files.old world tree
         → Sound tree → SoundCtx ctx.now → CallFits (call.SymLink name.now wanted.now target.now)
         → F.is_pause stop) }

@@ -23,7 +23,7 @@ fn change_file<F: ChangingFiles>(
 ) -> Result<Option<Reply>, F::Stop>
     ensures err { IfErr result (λ stop. F.may_stop (F.source files.old) stop) }
     ensures source { F.source files.new ≡ F.source files.old }
-    ensures spent { F.spent files.new ≤ F.spent files.old + 36 }
+    ensures spent { F.spent files.new ≤ F.spent files.old + 71 }
     ensures pause { IfErr result (λ stop. (world : F.World) (tree : Tree) → F.stands files.old world tree
         → Sound tree → SoundCtx ctx.now → CallFits call.now → F.is_pause stop) }
     ensures step { IfOk result (λ r. IfSome r (λ reply. (world : F.World) (tree : Tree)
@@ -70,7 +70,7 @@ fn make_file<F: ChangingFiles>(
 ) -> Result<Option<Reply>, F::Stop>
     ensures err { IfErr result (λ stop. F.may_stop (F.source files.old) stop) }
     ensures source { F.source files.new ≡ F.source files.old }
-    ensures spent { F.spent files.new ≤ F.spent files.old + 36 }
+    ensures spent { F.spent files.new ≤ F.spent files.old + 71 }
     ensures pause { IfErr result (λ stop. (world : F.World) (tree : Tree) → F.stands files.old world tree
         → Sound tree → SoundCtx ctx.now → CallFits call.now → F.is_pause stop) }
     ensures step { IfOk result (λ r. IfSome r (λ reply. (world : F.World) (tree : Tree)
@@ -117,7 +117,7 @@ fn change_names<F: ChangingFiles>(
 ) -> Result<Option<Reply>, F::Stop>
     ensures err { IfErr result (λ stop. F.may_stop (F.source files.old) stop) }
     ensures source { F.source files.new ≡ F.source files.old }
-    ensures spent { F.spent files.new ≤ F.spent files.old + 36 }
+    ensures spent { F.spent files.new ≤ F.spent files.old + 71 }
     ensures pause { IfErr result (λ stop. (world : F.World) (tree : Tree) → F.stands files.old world tree
         → Sound tree → SoundCtx ctx.now → CallFits call.now → F.is_pause stop) }
     ensures step { IfOk result (λ r. IfSome r (λ reply. (world : F.World) (tree : Tree)
@@ -169,7 +169,7 @@ pub fn change<F: ChangingFiles>(
 ) -> Result<Option<Reply>, F::Stop>
     ensures err { IfErr result (λ stop. F.may_stop (F.source files.old) stop) }
     ensures source { F.source files.new ≡ F.source files.old }
-    ensures spent { F.spent files.new ≤ F.spent files.old + 36 }
+    ensures spent { F.spent files.new ≤ F.spent files.old + 71 }
     ensures pause { IfErr result (λ stop. (world : F.World) (tree : Tree) → F.stands files.old world tree
         → Sound tree → SoundCtx ctx.now → CallFits call.now → F.is_pause stop) }
     ensures step { IfOk result (λ r. IfSome r (λ reply. (world : F.World) (tree : Tree)

@@ -28,7 +28,7 @@ pub fn set_file<F: ChangingFiles>(
     requires { given wanted.now.size (λ size. nat_lt LARGEST_FILE size) ≡ false }
     ensures err { IfErr result (λ stop. F.may_stop (F.source files.old) stop) }
     ensures source { F.source files.new ≡ F.source files.old }
-    ensures spent { F.spent files.new ≤ F.spent files.old + 3 }
+    ensures spent { F.spent files.new ≤ F.spent files.old + 5 }
     ensures pause { IfErr result (λ stop. (world : F.World) (tree : Tree) → F.stands files.old world tree
         → F.is_pause stop) }
     ensures ok { IfOk result (λ next. (world : F.World) (tree : Tree) (body : Body)
@@ -57,7 +57,7 @@ fn set_in<F: ChangingFiles>(
 ) -> Result<Done<()>, F::Stop>
     ensures err { IfErr result (λ stop. F.may_stop (F.source files.old) stop) }
     ensures source { F.source files.new ≡ F.source files.old }
-    ensures spent { F.spent files.new ≤ F.spent files.old + 3 }
+    ensures spent { F.spent files.new ≤ F.spent files.old + 5 }
     ensures pause { IfErr result (λ stop. (world : F.World) (tree : Tree) → F.stands files.old world tree
         → F.is_pause stop) }
     ensures ok { IfOk result (λ done. (world : F.World) (tree : Tree) (body : Body)
@@ -90,7 +90,7 @@ pub fn set_attributes<F: ChangingFiles>(
 ) -> Result<Changed<()>, F::Stop>
     ensures err { IfErr result (λ stop. F.may_stop (F.source files.old) stop) }
     ensures source { F.source files.new ≡ F.source files.old }
-    ensures spent { F.spent files.new ≤ F.spent files.old + 3 }
+    ensures spent { F.spent files.new ≤ F.spent files.old + 5 }
     ensures pause { IfErr result (λ stop. (world : F.World) (tree : Tree) → F.stands files.old world tree
         → F.is_pause stop) }
     ensures ok { IfOk result (λ done. (world : F.World) (tree : Tree) → F.stands files.old world tree

@@ -32,7 +32,7 @@ fn write_text<F: ChangingFiles>(
     requires small { offset + length text.now ≤ LARGEST_FILE }
     ensures err { IfErr result (λ stop. F.may_stop (F.source files.old) stop) }
     ensures source { F.source files.new ≡ F.source files.old }
-    ensures spent { length text.now ≤ TRANSFER_BYTES → F.spent files.new ≤ F.spent files.old + 36 }
+    ensures spent { length text.now ≤ TRANSFER_BYTES → F.spent files.new ≤ F.spent files.old + 71 }
     ensures pause { IfErr result (λ stop. (world : F.World) (tree : Tree) → F.stands files.old world tree
         → F.is_pause stop) }
     ensures ok { IfOk result (λ next. (world : F.World) (tree : Tree) (body : Body)
@@ -60,7 +60,7 @@ fn write_in<F: ChangingFiles>(
 ) -> Result<Done<Written>, F::Stop>
     ensures err { IfErr result (λ stop. F.may_stop (F.source files.old) stop) }
     ensures source { F.source files.new ≡ F.source files.old }
-    ensures spent { F.spent files.new ≤ F.spent files.old + 36 }
+    ensures spent { F.spent files.new ≤ F.spent files.old + 71 }
     ensures pause { IfErr result (λ stop. (world : F.World) (tree : Tree) → F.stands files.old world tree
         → F.is_pause stop) }
     ensures ok { IfOk result (λ done. (world : F.World) (tree : Tree) (body : Body)
@@ -102,7 +102,7 @@ pub fn write<F: ChangingFiles>(
 ) -> Result<Changed<Written>, F::Stop>
     ensures err { IfErr result (λ stop. F.may_stop (F.source files.old) stop) }
     ensures source { F.source files.new ≡ F.source files.old }
-    ensures spent { F.spent files.new ≤ F.spent files.old + 36 }
+    ensures spent { F.spent files.new ≤ F.spent files.old + 71 }
     ensures pause { IfErr result (λ stop. (world : F.World) (tree : Tree) → F.stands files.old world tree
         → F.is_pause stop) }
     ensures ok { IfOk result (λ done. (world : F.World) (tree : Tree) → F.stands files.old world tree

@@ -14,8 +14,9 @@ use Rattle.layout.specs.declared.super_block.Super.{Super}
 use Rattle.layout.specs.Homes.{homes_of}
 use Rattle.layout.specs.Stands.{Stands}
 use Rattle.layout.specs.SuperForm.{IsSuper}
-use Rattle.layout.proofs.OneGeometry.{one_geometry}
-use Rattle.layout.proofs.Versions.{one_version}
+use Rattle.layout.specs.Newest.{newest}
+use Rattle.layout.proofs.NewestVersion.{newest_stands}
+use Rattle.layout.proofs.OneGeometry.{of_one_block}
 use Rattle.wal_law.specs.EightBytes.{number_at, with_number}
 use Rattle.wal_law.specs.Law.{with_changes}
 use Rattle.wal_law.specs.Log.{IsHomeOn, blocks_of, changes_of, newest_of, opened}
@@ -92,18 +93,16 @@ module _ (before mid now later : Device) (tree : Tree) (first : ℕ) (holds : Ho
   now_is = image_same mid now two ∙ mid_is
 
   pub begins_at_home : IsSuper (image_of before SUPER_BLOCK) found → found.geometry.blocks ≡ before.size
-      → raised.geometry ≡ found.geometry → raised.boot ≡ found.boot + 1 → IsSuper content raised
+      → raised.geometry ≡ newest found.geometry → raised.boot ≡ found.boot + 1 → IsSuper content raised
       → IsLogOf mid.size (image_of mid) logged end → All (IsHomeOn now.size) (blocks_of logged) → end < 2 ^ 64
       → later.size ≡ now.size → HasComeHome now later (with_log_home (image_of now) logged end content)
-      → HoldsAtHome found.geometry later tree (first + 1)
+      → HoldsAtHome (newest found.geometry) later tree (first + 1)
   begins_at_home is_super blocks geometry boot is_raised log homes fits size came =
       let image_is : image_of later ≡ with_log_home (image_of before) logged end content =
       came.newest ∙ ap (λ (image : Image). with_log_home image logged end content) now_is in
       let sound = good before tree first holds in
       let same : found.geometry ≡ sound.super.geometry =
-      one_geometry found.geometry sound.super.geometry
-      (one_version found.geometry.version sound.super.geometry.version)
-      (is_super.blocks ∙ sym sound.is_super.blocks) (is_super.inodes ∙ sym sound.is_super.inodes) in
+      of_one_block (image_of before SUPER_BLOCK) found sound.super is_super sound.is_super in
       let sizes : later.size ≡ before.size = size ∙ two.size ∙ one.size in
       let at : All (IsHomeOn before.size) (blocks_of logged) =
       subst (λ n. All (IsHomeOn n) (blocks_of logged)) (two.size ∙ one.size) homes in
@@ -119,12 +118,13 @@ module _ (before mid now later : Device) (tree : Tree) (first : ℕ) (holds : Ho
         boot_is = boot ∙ ap (λ n. n + 1) (is_super.boot ∙ sym sound.is_super.boot ∙ sound.boot_is);
         empty = subst (λ (image : Image). start_in image ≡ end_in image) (sym image_is)
             (new_empty (image_of before) logged end content before.size at fits end_is);
-        stands = subst (λ (image : Image). Stands found.geometry (homes_of found.geometry.blocks image) tree)
-            (sym image_is) (subst (λ n. Stands found.geometry
+        stands = subst (λ (image : Image). Stands (newest found.geometry) (homes_of found.geometry.blocks image) tree)
+            (sym image_is) (subst (λ n. Stands (newest found.geometry)
             (homes_of n (with_log_home (image_of before) logged end content)) tree) (sym blocks)
-            (subst (λ bs. Stands found.geometry bs tree)
+            (subst (λ bs. Stands (newest found.geometry) bs tree)
             (sym (new_homes (image_of before) logged end content before.size at logged_is))
-            (subst (λ g. Stands g (homes_of before.size (over (image_of before))) tree) (sym same) sound.stands)));
+            (newest_stands found.geometry (homes_of before.size (over (image_of before))) tree
+            (subst (λ g. Stands g (homes_of before.size (over (image_of before))) tree) (sym same) sound.stands))));
         stamps = λ number node there.
             let early = sound.stamps number node there in omega (arith, early);
       }

@@ -3,6 +3,7 @@ ghost use Rattle.std.specs.Prelude.{◌≡◌, ◌+◌, ◌<◌, ◌≤◌, ◌^
 ghost use Rattle.std.specs.Prelude.{MatchResult, OnOk, replicate};
 ghost use Rattle.limits.specs.declared.TheConstants.{BLOCK_BYTES, FIRST_HOME_BLOCK, START_BLOCK, SUPER_BLOCK};
 ghost use Rattle.disk.specs.Device.{CountsFailure};
+ghost use Rattle.layout.specs.declared.version.FormatVersion.TheVariants.{Second};
 ghost use Rattle.model.specs.Tree.{Tree};
 ghost use Rattle.wal_law.specs.EightBytes.{with_number};
 ghost use Rattle.wal_law.specs.Law.{with_changes, with_home};
@@ -33,6 +34,7 @@ pub(crate) fn begin<D: CrashDisk>(
     disk: &mut D,
     block: &mut Block,
 ) -> Result<Geometry, OpenFault>
+    ensures newest { IfOk result (λ geometry. geometry.version ≡ Second) }
     ensures size { IfOk result (λ geometry. geometry.blocks ≡ (D.device disk.new).size) }
     ensures answered { MatchResult result
         (λ _. IsAnsweredFor (D.keeps_model disk.new) None (D.device disk.old) (D.device disk.new))
@@ -45,15 +47,16 @@ pub(crate) fn begin<D: CrashDisk>(
     layout::a_super_block_is_its_bytes();
     let found = read_super(disk, block)?;
     let (logged, end) = find_log(alloc, disk)?;
+    let geometry = found.geometry.newest();
     let raised = Super {
-        geometry: found.geometry,
+        geometry,
         boot: found.boot + 1,
     };
     let Ok(bytes) = raised.write(alloc) else {
         return Err(OpenFault::NoMemory);
     };
     match begin_home(disk, block, &logged, end, &bytes) {
-        Ok(()) => Ok(found.geometry),
+        Ok(()) => Ok(geometry),
         Err(Failed) => Err(OpenFault::Device),
     }
 }

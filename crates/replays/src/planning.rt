@@ -1,5 +1,6 @@
 //! A call's plan, with all that it asks for read from home.
 ghost use Rattle.std.specs.Prelude.{◌≡◌, ◌++◌, ◌∷◌, [], true, ℕ, List, All, IfOk, MatchResult, OnOk};
+ghost use Rattle.layout.specs.declared.version.FormatVersion.TheVariants.{Second};
 ghost use Rattle.layout.specs.Homes.{homes_of};
 ghost use Rattle.model.specs.Calls.{begins_transaction};
 ghost use Rattle.objects.specs.Object.{ObjectBytes};
@@ -32,6 +33,7 @@ pub(crate) fn plan_over<D: CrashDisk>(
     ctx: &Ctx,
     call: &Call,
 ) -> Result<Done, OpenFault>
+    requires newest { geometry.version ≡ Second }
     requires size { geometry.blocks ≡ (D.device disk.old).size }
     requires served { begins_transaction call.now ≡ true }
     requires sound { SoundCall ctx.now.credential ctx.now.moment call.now }

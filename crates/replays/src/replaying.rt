@@ -1,6 +1,7 @@
 //! Entries of a history, replayed over an image.
 ghost use Rattle.std.specs.Prelude.{◌≡◌, ◌+◌, ◌^◌, ◌<◌, ◌≤◌, ℕ, Some, None, All, IfErr, IsErrOf, MatchResult, OnOk};
 ghost use Rattle.model.specs.Calls.{begins_transaction};
+ghost use Rattle.layout.specs.declared.version.FormatVersion.TheVariants.{Second};
 ghost use Rattle.model.specs.Sound.{SoundTime};
 ghost use Rattle.model.specs.Tree.{Tree};
 ghost use Rattle.nfs_types.specs.Fits.{CallFits};
@@ -61,6 +62,7 @@ fn replay_all<D: CrashDisk>(
     geometry: Geometry,
     entries: &[(Ctx, Call)],
 ) -> Result<(), OpenFault>
+    requires newest { geometry.version ≡ Second }
     requires size { geometry.blocks ≡ (D.device disk.old).size }
     requires can { All CanBeReplayed entries.now }
     ensures later { IsLater (D.device disk.old) (D.device disk.new) }
@@ -87,6 +89,7 @@ fn replay_one<D: CrashDisk>(
     ctx: &Ctx,
     call: &Call,
 ) -> Result<(), OpenFault>
+    requires newest { geometry.version ≡ Second }
     requires size { geometry.blocks ≡ (D.device disk.old).size }
     requires timely { SoundTime ctx.now.moment }
     requires spelled { CallFits call.now }

@@ -96,6 +96,7 @@ runs_of base now fetches first entries last opened = record {
   position = omega arith;
   blocks = opened.since.over.files.blocks_are;
   inodes = opened.since.over.files.inodes_are;
+  newest = opened.since.over.files.newest;
   stands = opened.stands;
   fetched = opened.fetched;
   placed = λ count. ap (blocks_after base now.core) (past_count (installed_place now.core.log) count);
@@ -317,332 +318,333 @@ module _ (o : Outset) (now : Opened) (worker : State) (new : Side) (made : Optio
       (told_then : IsTold s (told_after t (event.Work 0) made) (with_core store new.core))
       (at_work : IsCoreAtWork (told new.worker) new.core)
       (goes : GoesOn worker.phase (side worker now.core) made new)
-      (one_geometry : (g h : Geometry) → g.blocks ≡ h.blocks → g.inodes ≡ h.inodes → g ≡ h) where
-    progress_is : progress_of new.worker ≡ progress_after now.core.log.broken made (progress_of worker)
-    progress_is = tells.progress
+      (one_geometry : (g h : Geometry) → g.version ≡ h.version → g.blocks ≡ h.blocks → g.inodes ≡ h.inodes → g ≡ h)
+    where
+      progress_is : progress_of new.worker ≡ progress_after now.core.log.broken made (progress_of worker)
+      progress_is = tells.progress
 
-    -- ---- nothing was committed
-    module _ (uncommitted : has_committed made ≡ false)
-        (run_then : IsRunningOver s calling.base (with_core store new.core) (fetches_of new.worker)
-        now.boot o.first
-        entries calling.last) (beside : StandsBeside now.core new.core) where
-      log_is : new.core.log ≡ now.core.log
-      log_is = beside.log
+      -- ---- nothing was committed
+      module _ (uncommitted : has_committed made ≡ false)
+          (run_then : IsRunningOver s calling.base (with_core store new.core) (fetches_of new.worker)
+          now.boot o.first
+          entries calling.last) (beside : StandsBeside now.core new.core) where
+        log_is : new.core.log ≡ now.core.log
+        log_is = beside.log
 
-      after : IsAfter now later
-      after = record {
-        past = past_none now.device;
-        failures = omega arith;
-        further = record {
-          begun = let more = begun_then t made in let is = told_then.begun in omega (arith, more, is);
-          places = subst (λ (l : Log). now.core.log.places ≤ l.places) (sym log_is) (omega arith);
-          positions = subst (λ (l : Log). end_of now.core.log ≤ end_of l) (sym log_is) (omega arith);
-          settled = subst (λ (l : Log). settled_place now.core.log ≤ settled_place l) (sym log_is)
-              (omega arith);
-          broken = λ is. ap (λ (l : Log). l.broken) log_is ∙ is;
-        };
-      }
-
-      none_ready : new.worker.work.entry ≡ None
-      none_ready = no_entry now.boot (length entries) (progress_of worker) made
-          new.worker.work.entry uncommitted tells.entry
-
-      same_ready : with_ready 0 entries new.worker ≡ entries
-      same_ready = ap (λ (e : Option ready.Entry). entries ++ entries_ready 0 e) none_ready ∙ append-nil entries
-
-      -- the count of transactions then
-      counted_by : (one : Step) → made ≡ Some one → new.core.begun ≡ begun_after now.core.begun one
-      counted_by one is = sym told_then.begun
-          ∙ ap (λ (m : Option Step). (told_after t (event.Work 0) m).begun) is
-
-      -- how far it is where no step was made
-      so_far_none : (p : Progress) → IsSoFar o calling.entry now p → IsStepOfWork s t 0 p None
-          → IsSoFar o calling.entry later p
-      so_far_none how.Idle has may = tt
-      so_far_none (At job (Called known)) has may = absurd may
-      so_far_none (At job (Planning begun)) has may = absurd may
-      so_far_none (At job (how.Reading begun taken)) has may = (
-        has.0,
-        stands_then o now later after (λ unserved. absurd (true≢false (sym has.1.1.begins ∙ unserved)))
-            calling.entry (how.Reading begun taken) has.1,
-      )
-      so_far_none (At job (how.Read begun taken ok)) has may = absurd may
-      so_far_none (At job (how.Refused begun why)) has may = absurd may
-      so_far_none (At job (how.Again begun wished)) has may = absurd may
-      so_far_none (At job (how.Waiting place)) has may = absurd may
-
-      -- the change that was refused since the numbers are spent
-      spent_by : (blocks : List BlockNo) → made ≡ Some (step.Commit blocks committing.Spent)
-          → (added : ℕ) × HasCause o later added cause.Spent
-      spent_by blocks is =
-          let none = finds (side worker now.core) new made goes (ap is_spent is) in (
-            added_blocks now.core.log (blocks_of none.done.written),
-            inr (no_room o now worker calling one_geometry none later after),
-          )
-
-      -- how far it is then
-      so_far_by : (m : Option Step) → made ≡ m → (p : Progress) → has_committed m ≡ false
-          → IsSoFar o calling.entry now p → IsStepOfWork s t 0 p m
-          → IsSoFar o calling.entry later (progress_after now.core.log.broken m p)
-      so_far_by None is p not has may = so_far_none p has may
-      so_far_by (Some one) is how.Idle not has may = tt
-      so_far_by (Some one) is (At job stage) not has may =
-          subst (λ (j : Job). IsSoFar o calling.entry later
-          (progressed now.core.log.broken one (At j stage))) (sym has.0)
-          (so_far_then o now later s t from after calling.entry
-          (how.stage_after now.core.log.broken (is_answered_stable o.asked.call) one stage)
-          (next_ok o now later s t from after calling.entry stage one not has.1
-          (subst (λ (j : Job). IsStepOfWork s t 0 (At j stage) (Some one)) has.0 may) (counted_by one is)
-          (λ blocks at. spent_by blocks (is ∙ ap (λ (x : Step). Some x) at))))
-
-      calling_then : IsCalling o later (told new.worker)
-      calling_then = record {
-        entry = calling.entry;
-        last = calling.last;
-        base = calling.base;
-        boot = calling.boot;
-        comes = comes_then o now later after calling.entry calling.last calling.comes;
-        past = calling.past;
-        kept = calling.kept;
-        opened = open_of s calling.base later (fetches_of new.worker) o.first entries calling.last run_then;
-        stands = subst (λ (b : ℕ). IsWorkerAt b entries (told new.worker)) calling.boot
-            (subst (λ (es : List Entry). IsWorkerAt now.boot es (told new.worker)) same_ready tells.stands);
-        at_work = at_work;
-        so_far = subst (IsSoFar o calling.entry later) (sym progress_is)
-            (so_far_by made refl (progress_of worker) uncommitted calling.so_far may);
-        counted = calling.counted;
-        further = further_then o.store.core now.core new.core calling.further after.further;
-        broken = λ is. calling.broken (sym (ap (λ (l : Log). l.broken) log_is) ∙ is);
-      }
-
-      -- a call that isn't served leaves the store
-      same_store : (job : Job) (stage : Stage) (one : Step) → progress_of worker ≡ At job stage
-          → made ≡ Some one
-          → (known : List Aim) → stage ≡ Called known → one ≡ step.Replied → later ≡ now
-      same_store job stage one so_far is known stage_is one_is = λ i. record now { core = core_is i }
-        where
-          phase_is : worker.phase ≡ Phase.Called
-          phase_is = phase_called worker.phase worker.work.job
-              (begun_of worker.begun.tx (seen_in worker.work.planner) worker.known) worker.asked worker.known job known
-              (so_far ∙ ap (λ (at : Stage). At job at) stage_is)
-
-          core_is : new.core ≡ now.core
-          core_is = replied_core worker.phase (side worker now.core) new phase_is
-              (subst (λ (m : Option Step). GoesOn worker.phase (side worker now.core) m new)
-              (is ∙ ap (λ (x : Step). Some x) one_is) goes)
-
-      -- what it answers
-      answered_by : (ready : CallAnswer) → is_idle (progress_of new.worker) ≡ true
-          → IsAnswerOf (with_ready 0 entries new.worker) (progress_of worker) made ready
-          → Tells o calling.entry ready.verdict later
-      answered_by ready ends is =
-          let has = subst (IsSoFar o calling.entry now) is.so_far calling.so_far in
-          let may_so : IsStepOfWork s t 0 (At is.job is.stage) (Some is.step) =
-          subst (λ (m : Option Step). IsStepOfWork s t 0 (At is.job is.stage) m) is.made_is
-          (subst (λ (p : Progress). IsStepOfWork s t 0 p made) is.so_far may) in
-          let not : has_committed (Some is.step) ≡ false = sym (ap has_committed is.made_is) ∙ uncommitted in
-          let ended : is_idle (progressed now.core.log.broken is.step (At is.job is.stage)) ≡ true =
-          sym (ap (λ (p : Progress). is_idle p) (progress_is
-          ∙ ap (λ (m : Option Step). progress_after now.core.log.broken m (progress_of worker)) is.made_is
-          ∙ ap (λ (p : Progress). progressed now.core.log.broken is.step p) is.so_far)) ∙ ends in
-          let verdict_is = verdict_of (with_ready 0 entries new.worker) (progress_of worker) made ready is in
-          tells_of o now later s t from after calling.entry is.stage is.step (answer_of ready) not has.1
-          (subst (λ (j : Job). IsStepOfWork s t 0 (At j is.stage) (Some is.step)) has.0 may_so)
-          (counted_by is.step is.made_is)
-          (λ known stage_is step_is. same_store is.job is.stage is.step is.so_far is.made_is known stage_is step_is)
-          (subst (λ (j : Job). is_idle (progressed now.core.log.broken is.step (At j is.stage))
-          ≡ true) has.0 ended)
-          (subst (λ (es : List Entry). HasVerdict (told_by es) o.asked.call is.stage is.step
-          (answer_of ready)) same_ready
-          (subst (λ (j : Job). HasVerdict (told_by (with_ready 0 entries new.worker)) j.call is.stage is.step
-          (answer_of ready)) has.0 verdict_is))
-
-      answer_by : (found : Option CallAnswer)
-          → is_some found ≡ (not (is_idle (progress_of worker)) && is_idle (progress_of new.worker))
-          → IfSome found (IsAnswerOf (with_ready 0 entries new.worker) (progress_of worker) made)
-          → IfSome found (λ ready. Tells o calling.entry ready.verdict later)
-      answer_by None ends is = tt
-      answer_by (Some ready) ends is =
-          answered_by ready (both_true (not (is_idle (progress_of worker)))
-          (is_idle (progress_of new.worker)) (sym ends)) is
-
-      pub stepped_on : HasStepped o later new.worker
-      unfolding calling_then
-      stepped_on = record {
-        calling = calling_then;
-        ends = λ some. both_true (not (is_idle (progress_of worker))) (is_idle (progress_of new.worker))
-            (sym tells.answer.ends ∙ some);
-        answer = answer_by new.worker.work.answer tells.answer.ends tells.answer.is_of;
-      }
-
-    -- ---- its procedure was committed
-    module _ (has : has_committed made ≡ true)
-        (goes_with : GoesOnWith s calling.base store new now.boot 0 o.first entries calling.last
-        made (side worker now.core))
-        (longer_kept : (before d : Device) (boot settled fewer : ℕ) (first : Tree) (entries more : List Entry)
-        → HasKeptFiles before d boot first entries settled → fewer ≤ settled
-        → HasKeptFiles before d boot first (entries ++ more) fewer)
-      where
-        abbrev commit : IsCommitStep made
-        commit = commit_step made has
-
-        abbrev e : Entry
-        e = entry_by 0 goes_with.taken.entry
-
-        ready_is : new.worker.work.entry ≡ Some goes_with.taken.entry
-        ready_is = goes_with.taken.ready
-
-        told_entry : TellsEntry now.boot (length entries) (progress_of worker)
-            (Some (step.Commit commit.added (committing.Committed commit.place))) new.worker.work.entry
-        told_entry = subst (λ (m : Option Step). TellsEntry now.boot (length entries) (progress_of worker) m
-            new.worker.work.entry) commit.made_is tells.entry
-
-        is_of : IsEntryOf now.boot (progress_of worker) goes_with.taken.entry
-        is_of = some_of (IsEntryOf now.boot (progress_of worker)) new.worker.work.entry
-            goes_with.taken.entry ready_is told_entry.1
-
-        was_so_far : (is_of.job ≡ o.asked) × StandsWith o calling.entry now (Planning is_of.begun)
-        was_so_far = subst (IsSoFar o calling.entry now) is_of.planned calling.so_far
-
-        none_was : calling.entry ≡ None
-        none_was = was_so_far.1.0
-
-        none_before : entries ≡ o.entries
-        none_before = ap (λ (x : Option Entry). o.entries ++ option_to_list x) none_was ∙ append-nil o.entries
-
-        last_is : calling.last ≡ o.last
-        last_is = subst (λ (x : Option Entry). ComesTo o now x calling.last) none_was calling.comes
-
-        place_is : commit.place.0 ≡ length o.entries + 1
-        place_is = told_entry.0 ∙ ap (λ (es : List Entry). length es + 1) none_before
-
-        entries_then : with_ready 0 entries new.worker ≡ o.entries ++ e ∷ []
-        entries_then = ap (λ (x : Option ready.Entry). entries ++ entries_ready 0 x) ready_is
-            ∙ ap (λ (es : List Entry). es ++ e ∷ []) none_before
-
-        progress_then : progress_of new.worker
-            ≡ going_on o.asked (how.after_commit (is_answered_stable o.asked.call) is_of.begun
-            (committing.Committed commit.place))
-        progress_then = progress_is
-            ∙ ap (λ (m : Option Step). progress_after now.core.log.broken m (progress_of worker)) commit.made_is
-            ∙ ap (λ (p : Progress). progressed now.core.log.broken
-            (step.Commit commit.added (committing.Committed commit.place)) p) is_of.planned
-            ∙ ap (λ (j : Job). going_on j (how.after_commit (is_answered_stable j.call) is_of.begun
-            (committing.Committed commit.place))) was_so_far.0
-
-        broken_is : new.core.log.broken ≡ now.core.log.broken
-        broken_is = ap (λ l. l.broken) (sym told_then.log)
-            ∙ ap (λ (m : Option Step). (told_after t (event.Work 0) m).log.broken) commit.made_is
-
-        longer : end_of new.core.log - 0 ≡ end_of now.core.log - 0 + added_told t.log commit.added
-        longer = ap (λ l. l.appended) (sym told_then.log)
-            ∙ ap (λ (m : Option Step). (told_after t (event.Work 0) m).log.appended) commit.made_is
-
-        further_made : IsFurther now.core new.core
-        further_made = record {
-          begun = let more = begun_then t made in let is = told_then.begun in omega (arith, more, is);
-          places = let one = goes_with.taken.took.places in omega (arith, one);
-          positions = let is = longer in omega (arith, is);
-          settled = settled_grows now.core.log new.core.log goes_with.taken.took.group.group
-              goes_with.taken.took.group.grown;
-          broken = λ is. broken_is ∙ is;
-        }
-
-        after_made : IsAfter now later
-        after_made = record {
+        after : IsAfter now later
+        after = record {
           past = past_none now.device;
           failures = omega arith;
-          further = further_made;
+          further = record {
+            begun = let more = begun_then t made in let is = told_then.begun in omega (arith, more, is);
+            places = subst (λ (l : Log). now.core.log.places ≤ l.places) (sym log_is) (omega arith);
+            positions = subst (λ (l : Log). end_of now.core.log ≤ end_of l) (sym log_is) (omega arith);
+            settled = subst (λ (l : Log). settled_place now.core.log ≤ settled_place l) (sym log_is)
+                (omega arith);
+            broken = λ is. ap (λ (l : Log). l.broken) log_is ∙ is;
+          };
         }
 
-        made_for : IsMadeFor o later e goes_with.left
-        made_for = record {
-          begun = is_of.begun;
-          begun_for = number_then o now later after_made is_of.begun.number was_so_far.1.1;
-          ctx = is_of.ctx ∙ ap (λ (b : ℕ). ctx_of b is_of.job is_of.begun) calling.boot
-              ∙ ap (λ (j : Job). ctx_of o.store.boot j is_of.begun) was_so_far.0;
-          call = is_of.call ∙ ap (λ (j : Job). j.call) was_so_far.0;
-          step = subst (λ (tree : Tree). procedures.step tree goes_with.taken.entry.ctx
-              goes_with.taken.entry.call goes_with.taken.entry.reply goes_with.left) last_is goes_with.goes;
-        }
+        none_ready : new.worker.work.entry ≡ None
+        none_ready = no_entry now.boot (length entries) (progress_of worker) made
+            new.worker.work.entry uncommitted tells.entry
 
-        calling_made : IsCalling o later (told new.worker)
-        calling_made = record {
-          entry = Some e;
-          last = goes_with.left;
+        same_ready : with_ready 0 entries new.worker ≡ entries
+        same_ready = ap (λ (e : Option ready.Entry). entries ++ entries_ready 0 e) none_ready ∙ append-nil entries
+
+        -- the count of transactions then
+        counted_by : (one : Step) → made ≡ Some one → new.core.begun ≡ begun_after now.core.begun one
+        counted_by one is = sym told_then.begun
+            ∙ ap (λ (m : Option Step). (told_after t (event.Work 0) m).begun) is
+
+        -- how far it is where no step was made
+        so_far_none : (p : Progress) → IsSoFar o calling.entry now p → IsStepOfWork s t 0 p None
+            → IsSoFar o calling.entry later p
+        so_far_none how.Idle has may = tt
+        so_far_none (At job (Called known)) has may = absurd may
+        so_far_none (At job (Planning begun)) has may = absurd may
+        so_far_none (At job (how.Reading begun taken)) has may = (
+          has.0,
+          stands_then o now later after (λ unserved. absurd (true≢false (sym has.1.1.begins ∙ unserved)))
+              calling.entry (how.Reading begun taken) has.1,
+        )
+        so_far_none (At job (how.Read begun taken ok)) has may = absurd may
+        so_far_none (At job (how.Refused begun why)) has may = absurd may
+        so_far_none (At job (how.Again begun wished)) has may = absurd may
+        so_far_none (At job (how.Waiting place)) has may = absurd may
+
+        -- the change that was refused since the numbers are spent
+        spent_by : (blocks : List BlockNo) → made ≡ Some (step.Commit blocks committing.Spent)
+            → (added : ℕ) × HasCause o later added cause.Spent
+        spent_by blocks is =
+            let none = finds (side worker now.core) new made goes (ap is_spent is) in (
+              added_blocks now.core.log (blocks_of none.done.written),
+              inr (no_room o now worker calling one_geometry none later after),
+            )
+
+        -- how far it is then
+        so_far_by : (m : Option Step) → made ≡ m → (p : Progress) → has_committed m ≡ false
+            → IsSoFar o calling.entry now p → IsStepOfWork s t 0 p m
+            → IsSoFar o calling.entry later (progress_after now.core.log.broken m p)
+        so_far_by None is p not has may = so_far_none p has may
+        so_far_by (Some one) is how.Idle not has may = tt
+        so_far_by (Some one) is (At job stage) not has may =
+            subst (λ (j : Job). IsSoFar o calling.entry later
+            (progressed now.core.log.broken one (At j stage))) (sym has.0)
+            (so_far_then o now later s t from after calling.entry
+            (how.stage_after now.core.log.broken (is_answered_stable o.asked.call) one stage)
+            (next_ok o now later s t from after calling.entry stage one not has.1
+            (subst (λ (j : Job). IsStepOfWork s t 0 (At j stage) (Some one)) has.0 may) (counted_by one is)
+            (λ blocks at. spent_by blocks (is ∙ ap (λ (x : Step). Some x) at))))
+
+        calling_then : IsCalling o later (told new.worker)
+        calling_then = record {
+          entry = calling.entry;
+          last = calling.last;
           base = calling.base;
           boot = calling.boot;
-          comes = made_for;
+          comes = comes_then o now later after calling.entry calling.last calling.comes;
           past = calling.past;
-          kept = longer_kept o.store.device now.device o.store.boot (settled_place o.store.core.log)
-              (settled_place o.store.core.log) o.first o.entries (e ∷ [])
-              (subst (λ (es : List Entry). HasKeptFiles o.store.device now.device o.store.boot o.first es
-              (settled_place o.store.core.log)) none_before calling.kept) (omega arith);
-          opened = open_of (with_blocks s (length entries) (file_blocks calling.base new.core)) calling.base
-              later (fetches_of new.worker) o.first (o.entries ++ e ∷ []) goes_with.left
-              (subst (λ (es : List Entry). IsRunningOver
-              (with_blocks s (length entries) (file_blocks calling.base new.core)) calling.base
-              (with_core store new.core) (fetches_of new.worker) now.boot o.first (es ++ e ∷ []) goes_with.left)
-              none_before goes_with.runs);
-          stands = subst (λ (b : ℕ). IsWorkerAt b (o.entries ++ e ∷ []) (told new.worker)) calling.boot
-              (subst (λ (es : List Entry). IsWorkerAt now.boot es (told new.worker)) entries_then tells.stands);
+          kept = calling.kept;
+          opened = open_of s calling.base later (fetches_of new.worker) o.first entries calling.last run_then;
+          stands = subst (λ (b : ℕ). IsWorkerAt b entries (told new.worker)) calling.boot
+              (subst (λ (es : List Entry). IsWorkerAt now.boot es (told new.worker)) same_ready tells.stands);
           at_work = at_work;
-          so_far = subst (IsSoFar o (Some e) later) (sym progress_then)
-              (made_so_far o later e is_of.begun commit.place place_is);
+          so_far = subst (IsSoFar o calling.entry later) (sym progress_is)
+              (so_far_by made refl (progress_of worker) uncommitted calling.so_far may);
           counted = calling.counted;
-          further = further_then o.store.core now.core new.core calling.further further_made;
-          broken = λ is. calling.broken (sym broken_is ∙ is);
+          further = further_then o.store.core now.core new.core calling.further after.further;
+          broken = λ is. calling.broken (sym (ap (λ (l : Log). l.broken) log_is) ∙ is);
         }
 
-        made_answer : (ready : CallAnswer) → is_idle (progress_of new.worker) ≡ true
-            → IsAnswerOf (with_ready 0 entries new.worker) (progress_of worker) made ready
-            → Tells o (Some e) ready.verdict later
-        made_answer ready ends is =
-            let same = same_at is.job is_of.job is.stage (Planning is_of.begun)
-            (sym is.so_far ∙ is_of.planned) in
-            let step_is = one_step is.step (step.Commit commit.added (committing.Committed commit.place))
-            (sym is.made_is ∙ commit.made_is) in
-            let told_so : IsReplyAt (told_by (with_ready 0 entries new.worker)) commit.place (answer_of ready) =
-            subst (λ (st : Step). HasVerdict (told_by (with_ready 0 entries new.worker)) is.job.call
-            (Planning is_of.begun) st (answer_of ready)) step_is
-            (subst (λ (stage : Stage). HasVerdict (told_by (with_ready 0 entries new.worker))
-            is.job.call stage is.step
-            (answer_of ready)) same.1
-            (verdict_of (with_ready 0 entries new.worker) (progress_of worker) made ready is)) in
-            made_tells o later e is_of.begun commit.place place_is (answer_of ready)
-            (sym (ap is_idle progress_then) ∙ ends)
-            (subst (λ (es : List Entry). IsReplyAt (told_by es) commit.place (answer_of ready))
-            entries_then told_so)
+        -- a call that isn't served leaves the store
+        same_store : (job : Job) (stage : Stage) (one : Step) → progress_of worker ≡ At job stage
+            → made ≡ Some one
+            → (known : List Aim) → stage ≡ Called known → one ≡ step.Replied → later ≡ now
+        same_store job stage one so_far is known stage_is one_is = λ i. record now { core = core_is i }
+          where
+            phase_is : worker.phase ≡ Phase.Called
+            phase_is = phase_called worker.phase worker.work.job
+                (begun_of worker.begun.tx (seen_in worker.work.planner) worker.known) worker.asked worker.known job known
+                (so_far ∙ ap (λ (at : Stage). At job at) stage_is)
 
-        answer_made : (found : Option CallAnswer)
+            core_is : new.core ≡ now.core
+            core_is = replied_core worker.phase (side worker now.core) new phase_is
+                (subst (λ (m : Option Step). GoesOn worker.phase (side worker now.core) m new)
+                (is ∙ ap (λ (x : Step). Some x) one_is) goes)
+
+        -- what it answers
+        answered_by : (ready : CallAnswer) → is_idle (progress_of new.worker) ≡ true
+            → IsAnswerOf (with_ready 0 entries new.worker) (progress_of worker) made ready
+            → Tells o calling.entry ready.verdict later
+        answered_by ready ends is =
+            let has = subst (IsSoFar o calling.entry now) is.so_far calling.so_far in
+            let may_so : IsStepOfWork s t 0 (At is.job is.stage) (Some is.step) =
+            subst (λ (m : Option Step). IsStepOfWork s t 0 (At is.job is.stage) m) is.made_is
+            (subst (λ (p : Progress). IsStepOfWork s t 0 p made) is.so_far may) in
+            let not : has_committed (Some is.step) ≡ false = sym (ap has_committed is.made_is) ∙ uncommitted in
+            let ended : is_idle (progressed now.core.log.broken is.step (At is.job is.stage)) ≡ true =
+            sym (ap (λ (p : Progress). is_idle p) (progress_is
+            ∙ ap (λ (m : Option Step). progress_after now.core.log.broken m (progress_of worker)) is.made_is
+            ∙ ap (λ (p : Progress). progressed now.core.log.broken is.step p) is.so_far)) ∙ ends in
+            let verdict_is = verdict_of (with_ready 0 entries new.worker) (progress_of worker) made ready is in
+            tells_of o now later s t from after calling.entry is.stage is.step (answer_of ready) not has.1
+            (subst (λ (j : Job). IsStepOfWork s t 0 (At j is.stage) (Some is.step)) has.0 may_so)
+            (counted_by is.step is.made_is)
+            (λ known stage_is step_is. same_store is.job is.stage is.step is.so_far is.made_is known stage_is step_is)
+            (subst (λ (j : Job). is_idle (progressed now.core.log.broken is.step (At j is.stage))
+            ≡ true) has.0 ended)
+            (subst (λ (es : List Entry). HasVerdict (told_by es) o.asked.call is.stage is.step
+            (answer_of ready)) same_ready
+            (subst (λ (j : Job). HasVerdict (told_by (with_ready 0 entries new.worker)) j.call is.stage is.step
+            (answer_of ready)) has.0 verdict_is))
+
+        answer_by : (found : Option CallAnswer)
             → is_some found ≡ (not (is_idle (progress_of worker)) && is_idle (progress_of new.worker))
             → IfSome found (IsAnswerOf (with_ready 0 entries new.worker) (progress_of worker) made)
-            → IfSome found (λ ready. Tells o (Some e) ready.verdict later)
-        answer_made None ends is = tt
-        answer_made (Some ready) ends is =
-            made_answer ready (both_true (not (is_idle (progress_of worker)))
+            → IfSome found (λ ready. Tells o calling.entry ready.verdict later)
+        answer_by None ends is = tt
+        answer_by (Some ready) ends is =
+            answered_by ready (both_true (not (is_idle (progress_of worker)))
             (is_idle (progress_of new.worker)) (sym ends)) is
 
-        pub stepped_with : HasStepped o later new.worker
-        unfolding calling_made
-        stepped_with = record {
-          calling = calling_made;
+        pub stepped_on : HasStepped o later new.worker
+        unfolding calling_then
+        stepped_on = record {
+          calling = calling_then;
           ends = λ some. both_true (not (is_idle (progress_of worker))) (is_idle (progress_of new.worker))
               (sym tells.answer.ends ∙ some);
-          answer = answer_made new.worker.work.answer tells.answer.ends tells.answer.is_of;
+          answer = answer_by new.worker.work.answer tells.answer.ends tells.answer.is_of;
         }
 
-    -- by whether it took a place
-    pub stepped : (has_committed made ≡ false → IsRunningOver s calling.base (with_core store new.core)
-        (fetches_of new.worker) now.boot o.first entries calling.last × StandsBeside now.core new.core)
-        → (has_committed made ≡ true → GoesOnWith s calling.base store new now.boot 0 o.first
-        entries calling.last made (side worker now.core))
-        → ((before d : Device) (boot settled fewer : ℕ) (first : Tree) (entries more : List Entry)
-        → HasKeptFiles before d boot first entries settled → fewer ≤ settled
-        → HasKeptFiles before d boot first (entries ++ more) fewer)
-        → HasStepped o later new.worker
-    stepped beside committed longer_kept = by (has_committed made) refl
-      where
-        by : (has : Bool) → has_committed made ≡ has → HasStepped o later new.worker
-        by false is = let left = beside is in stepped_on is left.0 left.1
-        by true is = stepped_with is (committed is) longer_kept
+      -- ---- its procedure was committed
+      module _ (has : has_committed made ≡ true)
+          (goes_with : GoesOnWith s calling.base store new now.boot 0 o.first entries calling.last
+          made (side worker now.core))
+          (longer_kept : (before d : Device) (boot settled fewer : ℕ) (first : Tree) (entries more : List Entry)
+          → HasKeptFiles before d boot first entries settled → fewer ≤ settled
+          → HasKeptFiles before d boot first (entries ++ more) fewer)
+        where
+          abbrev commit : IsCommitStep made
+          commit = commit_step made has
+
+          abbrev e : Entry
+          e = entry_by 0 goes_with.taken.entry
+
+          ready_is : new.worker.work.entry ≡ Some goes_with.taken.entry
+          ready_is = goes_with.taken.ready
+
+          told_entry : TellsEntry now.boot (length entries) (progress_of worker)
+              (Some (step.Commit commit.added (committing.Committed commit.place))) new.worker.work.entry
+          told_entry = subst (λ (m : Option Step). TellsEntry now.boot (length entries) (progress_of worker) m
+              new.worker.work.entry) commit.made_is tells.entry
+
+          is_of : IsEntryOf now.boot (progress_of worker) goes_with.taken.entry
+          is_of = some_of (IsEntryOf now.boot (progress_of worker)) new.worker.work.entry
+              goes_with.taken.entry ready_is told_entry.1
+
+          was_so_far : (is_of.job ≡ o.asked) × StandsWith o calling.entry now (Planning is_of.begun)
+          was_so_far = subst (IsSoFar o calling.entry now) is_of.planned calling.so_far
+
+          none_was : calling.entry ≡ None
+          none_was = was_so_far.1.0
+
+          none_before : entries ≡ o.entries
+          none_before = ap (λ (x : Option Entry). o.entries ++ option_to_list x) none_was ∙ append-nil o.entries
+
+          last_is : calling.last ≡ o.last
+          last_is = subst (λ (x : Option Entry). ComesTo o now x calling.last) none_was calling.comes
+
+          place_is : commit.place.0 ≡ length o.entries + 1
+          place_is = told_entry.0 ∙ ap (λ (es : List Entry). length es + 1) none_before
+
+          entries_then : with_ready 0 entries new.worker ≡ o.entries ++ e ∷ []
+          entries_then = ap (λ (x : Option ready.Entry). entries ++ entries_ready 0 x) ready_is
+              ∙ ap (λ (es : List Entry). es ++ e ∷ []) none_before
+
+          progress_then : progress_of new.worker
+              ≡ going_on o.asked (how.after_commit (is_answered_stable o.asked.call) is_of.begun
+              (committing.Committed commit.place))
+          progress_then = progress_is
+              ∙ ap (λ (m : Option Step). progress_after now.core.log.broken m (progress_of worker)) commit.made_is
+              ∙ ap (λ (p : Progress). progressed now.core.log.broken
+              (step.Commit commit.added (committing.Committed commit.place)) p) is_of.planned
+              ∙ ap (λ (j : Job). going_on j (how.after_commit (is_answered_stable j.call) is_of.begun
+              (committing.Committed commit.place))) was_so_far.0
+
+          broken_is : new.core.log.broken ≡ now.core.log.broken
+          broken_is = ap (λ l. l.broken) (sym told_then.log)
+              ∙ ap (λ (m : Option Step). (told_after t (event.Work 0) m).log.broken) commit.made_is
+
+          longer : end_of new.core.log - 0 ≡ end_of now.core.log - 0 + added_told t.log commit.added
+          longer = ap (λ l. l.appended) (sym told_then.log)
+              ∙ ap (λ (m : Option Step). (told_after t (event.Work 0) m).log.appended) commit.made_is
+
+          further_made : IsFurther now.core new.core
+          further_made = record {
+            begun = let more = begun_then t made in let is = told_then.begun in omega (arith, more, is);
+            places = let one = goes_with.taken.took.places in omega (arith, one);
+            positions = let is = longer in omega (arith, is);
+            settled = settled_grows now.core.log new.core.log goes_with.taken.took.group.group
+                goes_with.taken.took.group.grown;
+            broken = λ is. broken_is ∙ is;
+          }
+
+          after_made : IsAfter now later
+          after_made = record {
+            past = past_none now.device;
+            failures = omega arith;
+            further = further_made;
+          }
+
+          made_for : IsMadeFor o later e goes_with.left
+          made_for = record {
+            begun = is_of.begun;
+            begun_for = number_then o now later after_made is_of.begun.number was_so_far.1.1;
+            ctx = is_of.ctx ∙ ap (λ (b : ℕ). ctx_of b is_of.job is_of.begun) calling.boot
+                ∙ ap (λ (j : Job). ctx_of o.store.boot j is_of.begun) was_so_far.0;
+            call = is_of.call ∙ ap (λ (j : Job). j.call) was_so_far.0;
+            step = subst (λ (tree : Tree). procedures.step tree goes_with.taken.entry.ctx
+                goes_with.taken.entry.call goes_with.taken.entry.reply goes_with.left) last_is goes_with.goes;
+          }
+
+          calling_made : IsCalling o later (told new.worker)
+          calling_made = record {
+            entry = Some e;
+            last = goes_with.left;
+            base = calling.base;
+            boot = calling.boot;
+            comes = made_for;
+            past = calling.past;
+            kept = longer_kept o.store.device now.device o.store.boot (settled_place o.store.core.log)
+                (settled_place o.store.core.log) o.first o.entries (e ∷ [])
+                (subst (λ (es : List Entry). HasKeptFiles o.store.device now.device o.store.boot o.first es
+                (settled_place o.store.core.log)) none_before calling.kept) (omega arith);
+            opened = open_of (with_blocks s (length entries) (file_blocks calling.base new.core)) calling.base
+                later (fetches_of new.worker) o.first (o.entries ++ e ∷ []) goes_with.left
+                (subst (λ (es : List Entry). IsRunningOver
+                (with_blocks s (length entries) (file_blocks calling.base new.core)) calling.base
+                (with_core store new.core) (fetches_of new.worker) now.boot o.first (es ++ e ∷ []) goes_with.left)
+                none_before goes_with.runs);
+            stands = subst (λ (b : ℕ). IsWorkerAt b (o.entries ++ e ∷ []) (told new.worker)) calling.boot
+                (subst (λ (es : List Entry). IsWorkerAt now.boot es (told new.worker)) entries_then tells.stands);
+            at_work = at_work;
+            so_far = subst (IsSoFar o (Some e) later) (sym progress_then)
+                (made_so_far o later e is_of.begun commit.place place_is);
+            counted = calling.counted;
+            further = further_then o.store.core now.core new.core calling.further further_made;
+            broken = λ is. calling.broken (sym broken_is ∙ is);
+          }
+
+          made_answer : (ready : CallAnswer) → is_idle (progress_of new.worker) ≡ true
+              → IsAnswerOf (with_ready 0 entries new.worker) (progress_of worker) made ready
+              → Tells o (Some e) ready.verdict later
+          made_answer ready ends is =
+              let same = same_at is.job is_of.job is.stage (Planning is_of.begun)
+              (sym is.so_far ∙ is_of.planned) in
+              let step_is = one_step is.step (step.Commit commit.added (committing.Committed commit.place))
+              (sym is.made_is ∙ commit.made_is) in
+              let told_so : IsReplyAt (told_by (with_ready 0 entries new.worker)) commit.place (answer_of ready) =
+              subst (λ (st : Step). HasVerdict (told_by (with_ready 0 entries new.worker)) is.job.call
+              (Planning is_of.begun) st (answer_of ready)) step_is
+              (subst (λ (stage : Stage). HasVerdict (told_by (with_ready 0 entries new.worker))
+              is.job.call stage is.step
+              (answer_of ready)) same.1
+              (verdict_of (with_ready 0 entries new.worker) (progress_of worker) made ready is)) in
+              made_tells o later e is_of.begun commit.place place_is (answer_of ready)
+              (sym (ap is_idle progress_then) ∙ ends)
+              (subst (λ (es : List Entry). IsReplyAt (told_by es) commit.place (answer_of ready))
+              entries_then told_so)
+
+          answer_made : (found : Option CallAnswer)
+              → is_some found ≡ (not (is_idle (progress_of worker)) && is_idle (progress_of new.worker))
+              → IfSome found (IsAnswerOf (with_ready 0 entries new.worker) (progress_of worker) made)
+              → IfSome found (λ ready. Tells o (Some e) ready.verdict later)
+          answer_made None ends is = tt
+          answer_made (Some ready) ends is =
+              made_answer ready (both_true (not (is_idle (progress_of worker)))
+              (is_idle (progress_of new.worker)) (sym ends)) is
+
+          pub stepped_with : HasStepped o later new.worker
+          unfolding calling_made
+          stepped_with = record {
+            calling = calling_made;
+            ends = λ some. both_true (not (is_idle (progress_of worker))) (is_idle (progress_of new.worker))
+                (sym tells.answer.ends ∙ some);
+            answer = answer_made new.worker.work.answer tells.answer.ends tells.answer.is_of;
+          }
+
+      -- by whether it took a place
+      pub stepped : (has_committed made ≡ false → IsRunningOver s calling.base (with_core store new.core)
+          (fetches_of new.worker) now.boot o.first entries calling.last × StandsBeside now.core new.core)
+          → (has_committed made ≡ true → GoesOnWith s calling.base store new now.boot 0 o.first
+          entries calling.last made (side worker now.core))
+          → ((before d : Device) (boot settled fewer : ℕ) (first : Tree) (entries more : List Entry)
+          → HasKeptFiles before d boot first entries settled → fewer ≤ settled
+          → HasKeptFiles before d boot first (entries ++ more) fewer)
+          → HasStepped o later new.worker
+      stepped beside committed longer_kept = by (has_committed made) refl
+        where
+          by : (has : Bool) → has_committed made ≡ has → HasStepped o later new.worker
+          by false is = let left = beside is in stepped_on is left.0 left.1
+          by true is = stepped_with is (committed is) longer_kept

@@ -106,7 +106,7 @@ module _ (old new : Side) where
 -- ---- its plan
 
 module _ (o : Outset) (now : Opened) (worker : State) (calling : IsCalling o now worker)
-    (one_geometry : (g h : Geometry) → g.blocks ≡ h.blocks → g.inodes ≡ h.inodes → g ≡ h)
+    (one_geometry : (g h : Geometry) → g.version ≡ h.version → g.blocks ≡ h.blocks → g.inodes ≡ h.inodes → g ≡ h)
     (none : FindsNone (side worker now.core)) where
   abbrev job : WorkJob
   job = none.next.job
@@ -165,6 +165,7 @@ module _ (o : Outset) (now : Opened) (worker : State) (calling : IsCalling o now
 
   geometry_is : none.next.snap.geometry ≡ open_so.over.files.super.geometry
   geometry_is = one_geometry none.next.snap.geometry open_so.over.files.super.geometry
+      (none.next.snap.newest ∙ sym open_so.over.files.newest)
       (sym none.next.plan.0.named.blocks ∙ none.tried.own.blocks ∙ sym open_so.over.files.blocks_are)
       (sym none.next.plan.0.named.inodes ∙ none.tried.own.inodes ∙ sym open_so.over.files.inodes_are)
 

@@ -46,6 +46,13 @@ same_number a b is = grind (arith, nat_tests)
 
 -- ---- an image with the same blocks is good, under its own super block or a later one
 
+-- with another geometry an image is as large, and reads alike
+abbrev pub ReadsAlike : Geometry → Geometry → Type 0
+ReadsAlike g h = (h.blocks ≡ g.blocks) × ((blocks : Image) (tree : Tree) → Stands g blocks tree → Stands h blocks tree)
+
+pub reads_same : (g : Geometry) → ReadsAlike g g
+reads_same g = (refl, λ blocks tree stands. stands)
+
 module _ (size : ℕ) (first : Image) (tree : Tree) (boot : ℕ) (good : IsGoodImage size first tree boot)
     (content : Content) (image : Image) (same : HasBlocksOf size first content image) where
   no_super : (number : ℕ) → is_home size number ≡ true → number ≢ SUPER_BLOCK
@@ -65,16 +72,16 @@ module _ (size : ℕ) (first : Image) (tree : Tree) (boot : ℕ) (good : IsGoodI
   homes_same : homes_of size (over first) ≡ homes_of size (over image)
   homes_same = λ i number. each_home number (is_home size number) refl i
 
-  pub good_under : (super : Super) → IsSuper content super → super.geometry ≡ good.super.geometry
+  pub good_under : (super : Super) → IsSuper content super → ReadsAlike good.super.geometry super.geometry
       → boot ≤ super.boot → IsGoodImage size image tree super.boot
-  good_under super is geometry later = record {
+  good_under super is alike later = record {
     super = super;
     is_super = subst (λ bytes. IsSuper bytes super) (sym same.super_is) is;
-    size_is = ap (λ (g : Geometry). g.blocks) geometry ∙ good.size_is;
+    size_is = alike.0 ∙ good.size_is;
     boot_is = refl;
     range = same.range;
     homes = same.homes;
-    stands = subst (λ g. Stands g (homes_of size (over image)) tree) (sym geometry)
+    stands = alike.1 (homes_of size (over image)) tree
         (subst (λ blocks. Stands good.super.geometry blocks tree) homes_same good.stands);
     stamps = λ number node is_at. let old = good.stamps number node is_at in omega (arith, old, later);
   }

@@ -74,6 +74,7 @@ goes_on May old new made moved kept tells opened fetched placed = record {
           blocks = told.2.behind.blocks;
           stands = told.2.stands;
           inodes = run.inodes ∙ sym kept.inodes;
+          newest = run.newest;
           fetched = fetched base boot first last entries fetches run.since run.fetched;
           placed = stay_placed o base (home_next base old.core.log made) old.core new.core
               (placed base boot first last entries run.since) run.placed;

@@ -12,9 +12,11 @@ use Rattle.disk.specs.Device.{Content, Device, current, newest}
 use Rattle.model.specs.Tree.{Tree}
 use Rattle.layout.specs.declared.geometry.Geometry.{Geometry}
 use Rattle.layout.specs.declared.super_block.Super.{Super}
+use Rattle.layout.specs.declared.version.FormatVersion.TheVariants.{Second}
 use Rattle.layout.specs.SuperForm.{IsSuper}
-use Rattle.layout.proofs.OneGeometry.{one_geometry}
-use Rattle.layout.proofs.Versions.{one_version}
+use Rattle.layout.specs.Newest.{newest as newest_of}
+use Rattle.layout.proofs.NewestVersion.{stands_alike}
+use Rattle.layout.proofs.OneGeometry.{of_one_block}
 use Rattle.wal_law.specs.declared.change.LogChange.{LogChange}
 use Rattle.wal_law.specs.Calls.{AgreesBeside, idle}
 use Rattle.wal_law.specs.Installer.{may_install}
@@ -40,9 +42,9 @@ use Rattle.store_images.specs.BringingHome.{BringsHome, CountsCause, HasBlocksOf
 use Rattle.store_images.specs.BringingHome.{HasRaised, IsComingHome}
 use Rattle.store_images.specs.BringingHome.{IsFound, KeepsBlocks}
 use Rattle.store_images.specs.Opening.{HoldsTree}
-use Rattle.store_images.proofs.ComingHome.{good_under, found_home, found_stops}
+use Rattle.store_images.proofs.ComingHome.{ReadsAlike, found_home, found_stops, good_under, reads_same}
 use Rattle.store_images.proofs.Later.{some_image}
-use Rattle.store_images.proofs.Raising.{outside, raised_stops, settled_stops, under, under_raised, unlogged}
+use Rattle.store_images.proofs.Raising.{outside, raised_keeps, under, under_raised, unlogged}
 
 one_there : (contents : List Content) → length contents ≡ 1 → Contains contents (newest contents)
 one_there [] one = absurd (omega (arith, one))
@@ -128,12 +130,25 @@ module _ (before : Device) (tree : Tree) (first : ℕ) (holds : HoldsTree before
   -- ---- the raised super block
 
   module _ (found raised : Super) (content : Content) (is_super : IsSuper (image_of before SUPER_BLOCK) found)
-      (geometry : raised.geometry ≡ found.geometry) (boot : raised.boot ≡ found.boot + 1)
+      (geometry : raised.geometry ≡ newest_of found.geometry) (boot : raised.boot ≡ found.boot + 1)
       (is_raised : IsSuper content raised) (full : length content ≡ BLOCK_BYTES) where
-    same_geometry : raised.geometry ≡ good.super.geometry
-    same_geometry = geometry ∙ one_geometry found.geometry good.super.geometry
-        (one_version found.geometry.version good.super.geometry.version)
-        (is_super.blocks ∙ sym good.is_super.blocks) (is_super.inodes ∙ sym good.is_super.inodes)
+    same_geometry : found.geometry ≡ good.super.geometry
+    same_geometry = of_one_block (image_of before SUPER_BLOCK) found good.super is_super good.is_super
+
+    -- in the newest version it reads alike
+    raised_version : raised.geometry.version ≡ Second
+    raised_version = ap (λ (g : Geometry). g.version) geometry
+
+    raised_alike : ReadsAlike good.super.geometry raised.geometry
+    raised_alike =
+        let blocks : raised.geometry.blocks ≡ good.super.geometry.blocks =
+        ap (λ (g : Geometry). g.blocks) geometry ∙ ap (λ (g : Geometry). g.blocks) same_geometry in
+        let inodes : raised.geometry.inodes ≡ good.super.geometry.inodes =
+        ap (λ (g : Geometry). g.inodes) geometry ∙ ap (λ (g : Geometry). g.inodes) same_geometry in (
+          blocks,
+          λ at tree stands.
+              stands_alike good.super.geometry raised.geometry at tree raised_version blocks inodes stands,
+        )
 
     pub next_boot : raised.boot ≡ first + 1
     next_boot = boot ∙ ap (λ n. n + 1) (is_super.boot ∙ sym good.is_super.boot ∙ good.boot_is)
@@ -142,13 +157,13 @@ module _ (before : Device) (tree : Tree) (first : ℕ) (holds : HoldsTree before
         → IsGoodImage before.size image tree first
     old_good image same = subst (IsGoodImage before.size image tree) good.boot_is
         (good_under before.size (image_of before) tree first good (image_of before SUPER_BLOCK) image same
-        good.super good.is_super refl (omega (arith, good.boot_is)))
+        good.super good.is_super (reads_same good.super.geometry) (omega (arith, good.boot_is)))
 
     new_good : (image : Image) → HasBlocksOf before.size (image_of before) content image
         → IsGoodImage before.size image tree (first + 1)
     new_good image same = subst (IsGoodImage before.size image tree) next_boot
         (good_under before.size (image_of before) tree first good content image same raised is_raised
-        same_geometry (omega (arith, next_boot)))
+        raised_alike (omega (arith, next_boot)))
 
     has_tree : (image : Image) → HasBlocksWith before.size (image_of before) content image
         → HasTree before.size first tree image
@@ -177,8 +192,7 @@ module _ (before : Device) (tree : Tree) (first : ℕ) (holds : HoldsTree before
     module _ (now later : Device) (log : Log) (lawful : IsLawful log) (none : log.changes ≡ [])
         (raises : HasRaised before content now later log) (blocks : AreBlocks later) where
       keeps : KeepsBlocks before later content
-      keeps = settled_stops before raises.written later content (Ok tt) raises.settle
-          (raised_stops before now log content lawful none raises.brings raises.written (Ok tt) raises.write)
+      keeps = raised_keeps before now later log content lawful none raises
 
       abbrev home : Image
       home = under before now log content lawful none raises.brings
@@ -296,6 +310,9 @@ module _ (before : Device) (tree : Tree) (first : ℕ) (holds : HoldsTree before
               begun = refl;
               places = fresh.places;
               sound = sound;
+              newest = λ super is_super_of.
+                  ap (λ (g : Geometry). g.version) (of_one_block content super raised is_super_of is_raised)
+                  ∙ raised_version;
               inodes = λ super is_super_of.
                   inodes_are super is_super_of ∙ ap (λ (g : Geometry). g.inodes) geometry;
               boot = boots_are;

@@ -106,6 +106,13 @@ settled_or_not before now written later log raised (Err failed) lawful none brin
     settled_stops before written later raised (Err failed) settle
     (raised_stops before now log raised lawful none brings written (Ok tt) write)
 
+-- once it is settled too, each stop has left the blocks under the old super block or the raised one
+pub raised_keeps : (before now later : Device) (log : Log) (raised : Content) → IsLawful log → log.changes ≡ []
+    → HasRaised before raised now later log → KeepsBlocks before later raised
+raised_keeps before now later log raised lawful none raises =
+    settled_stops before raises.written later raised (Ok tt) raises.settle
+    (raised_stops before now log raised lawful none raises.brings raises.written (Ok tt) raises.write)
+
 -- what is said of a failure is said
 pub said_of_err : {A E : Type 0} (result : Result A E) (P Q : Type 0) → IsErr result → Q
     → MatchResult result (λ _. P) (λ _. Q)

@@ -6,6 +6,7 @@ use Rattle.disk.specs.Device.{Content, Device, HasSettled, HasWritten}
 use Rattle.disk.specs.declared.block.Side.TheVariants.{Home}
 use Rattle.layout.specs.declared.super_block.Super.{Super}
 use Rattle.layout.specs.declared.fault.LayoutFault.TheVariants as layout_fault
+use Rattle.layout.specs.Newest.{newest}
 use Rattle.layout.specs.SuperForm.{IsNoSuper, IsSuper, super_bytes}
 use Rattle.wal_law.specs.Calls.{AgreesBeside, idle}
 use Rattle.wal_law.specs.Law.{IsOutside, with_changes}
@@ -66,12 +67,12 @@ pub record IsFoundLog (was_read : Type 0) (size : ℕ) (image : Image) (log : Lo
   pub homes : was_read → HasHomes size image
   pub log_is : was_read → log ≡ opened size (start_in image) (logged_in image)
 
--- the super block with the next boot number
+-- the super block with the next boot number, in the newest version
 abbrev pub next_super : Super → Super
-next_super found = record { geometry = found.geometry; boot = found.boot + 1 }
+next_super found = record { geometry = newest found.geometry; boot = found.boot + 1 }
 
--- A refused opening has only read; or at each stop there is what lay there, under its super block or under the one with
--- the next boot number.
+-- An opening has only read; or at each stop there is what lay there, under its super block or under the one that has
+-- both the next boot number and the newest version.
 abbrev pub LeavesImage : Device → Device → Type 0
 LeavesImage before later = HasOnlyRead before later
     ⊎ ((found : Super) × IsSuper (image_of before SUPER_BLOCK) found

@@ -6,6 +6,7 @@ use Rattle.limits.specs.declared.TheConstants.{SUPER_BLOCK}
 use Rattle.nfs_types.specs.declared.ctx.Moment.{Moment}
 use Rattle.disk.specs.Device.{Content, Device, current}
 use Rattle.layout.specs.declared.geometry.Geometry.{Geometry}
+use Rattle.layout.specs.declared.version.FormatVersion.TheVariants.{Second}
 use Rattle.layout.specs.Fresh.{fresh}
 use Rattle.layout.specs.Geometry.{IsLawful, IsLawfulCount, IsLawfulSize, data_at}
 use Rattle.store_promise.specs.Openings.{AtEachStop, HasFailedToFormat, IsFormatted, IsLater}
@@ -47,11 +48,12 @@ pub record LeavesSuper (old new : Device) : Type 0 where
   pub super : (clock : ℕ) → old.clock ≤ clock → clock ≤ new.clock
       → new.contents clock SUPER_BLOCK ≡ current old SUPER_BLOCK
 
--- A device was to be made an image with so many inodes at a moment, this was answered, and it was left so.
+-- A device was to be made an image with so many inodes at a moment, this was answered, and it was left so. The image is
+-- of the newest version of the format.
 abbrev pub HasFormatted : Device → ℕ → Moment → Result ℕ FormatFault → Device → Type 0
 HasFormatted old inodes moment (Ok count) new = (g : Geometry) × (g.blocks ≡ old.size) × (g.inodes ≡ inodes)
     × (count ≡ old.size - data_at old.size inodes) × (new.size ≡ old.size)
-    × (new.failures ≡ old.failures) × IsMade new g moment
+    × (new.failures ≡ old.failures) × IsMade new g moment × (g.version ≡ Second)
 HasFormatted old inodes moment (Err fault.Size) new = (¬ IsLawfulSize old.size) × (new ≡ old)
 HasFormatted old inodes moment (Err fault.Inodes) new =
     IsLawfulSize old.size × (¬ IsLawfulCount old.size inodes) × (new ≡ old)
@@ -68,12 +70,12 @@ pub record Stops (before now : Device) (g : Geometry) (moment : Moment) : Type 0
   pub past : IsLater before now
   pub stops : AtEachStop before now (λ at image. IsLeftByFormat before g moment image)
 
--- What each stop of it leaves: the old image, one that has no super block, or the new one.
+-- What each stop of it leaves: the old image, one that has no super block, or the new one, of the newest version.
 abbrev pub LeavesByFormat : Device → ℕ → Moment → Result ℕ FormatFault → Device → Type 0
 LeavesByFormat old inodes moment (Ok count) new = (g : Geometry) × (g.blocks ≡ old.size) × (g.inodes ≡ inodes)
-    × IsFormatted old new g moment
+    × IsFormatted old new g moment × (g.version ≡ Second)
 LeavesByFormat old inodes moment (Err fault.Device) new = (g : Geometry) × (g.blocks ≡ old.size)
-    × (g.inodes ≡ inodes) × HasFailedToFormat old new g moment
+    × (g.inodes ≡ inodes) × HasFailedToFormat old new g moment × (g.version ≡ Second)
 LeavesByFormat old inodes moment (Err fault.Size) new = new ≡ old
 LeavesByFormat old inodes moment (Err fault.Inodes) new = new ≡ old
 LeavesByFormat old inodes moment (Err fault.NoMemory) new = new ≡ old

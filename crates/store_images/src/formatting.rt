@@ -44,10 +44,10 @@ impl From<AllocError> for FormatFault {
     }
 }
 
-/// Makes an image of all blocks of the disk, with so many inodes, whose root is made at the moment, which has
-/// less than a second of nanoseconds: no good image has a file of another one. It answers the count of data
-/// blocks. The faults in their order: Size, Inodes, NoMemory, each before any write, and Device. While it goes
-/// on, and where the device fails, the image is the old one, or one that has no super block, or the new one.
+/// Makes an image of all blocks of the disk, of the newest version of the format, with so many inodes, whose root is
+/// made at the moment, which has less than a second of nanoseconds: no good image has a file of another one. It answers
+/// the count of data blocks. The faults in their order: Size, Inodes, NoMemory, each before any write, and Device. While
+/// it goes on, and where the device fails, the image is the old one, or one that has no super block, or the new one.
 pub fn format<D: CrashDisk>(
     alloc: Global,
     disk: &mut D,
@@ -61,7 +61,7 @@ pub fn format<D: CrashDisk>(
         → LeavesByFormat (D.device disk.old) inodes moment result (D.device disk.new) }
     ensures model { D.keeps_model disk.new → D.keeps_model disk.old }
 {
-    let geometry = match Geometry::new(FormatVersion::First, disk.blocks(), inodes) {
+    let geometry = match Geometry::new(FormatVersion::Second, disk.blocks(), inodes) {
         Ok(geometry) => geometry,
         Err(GeometryFault::Size) => return Err(FormatFault::Size),
         Err(GeometryFault::Inodes) => return Err(FormatFault::Inodes),

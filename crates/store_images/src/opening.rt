@@ -30,14 +30,16 @@ use store_promise::OpenFault;
 use txn::Core;
 use wal::Wal;
 
-/// Opens a store: brings home what the log holds, and counts the opening. An image is refused by the first of
-/// these that holds: an allocation failed (NoMemory), its device has no blocks (Magic), the super block can't
-/// be read (Device) or is refused as `Super::read` says, its sizes aren't the device's or no boot number is
-/// left (Range), a block of the log can't be read (Device) or isn't one of a log (Log), or an allocation for it
-/// failed (NoMemory). Until then nothing is written. Later only Device and NoMemory come.
+/// Opens a store: brings home what the log holds, and counts the opening. An image of an older version is brought to
+/// the newest in the same write as the boot number. An image is refused by the first of these that holds: an
+/// allocation failed (NoMemory), its device has no blocks (Magic), the super block can't be read (Device) or is
+/// refused as `Super::read` says, its sizes aren't the device's or no boot number is left (Range), a block of the log
+/// can't be read (Device) or isn't one of a log (Log), or an allocation for it failed (NoMemory). Until then nothing
+/// is written. Later only Device and NoMemory come.
 /// A refusal hands the disk back, and is Device just where a call of the device failed and was counted. Whatever image
-/// a device at rest has, a refusal leaves its blocks as they were, save that what the log has may have come home and the
-/// boot number risen. One with a good image keeps its tree at each stop, and so it does when it is opened again.
+/// a device at rest has, each stop leaves its blocks as they were, save that what the log has may have come home; and
+/// the super block as it was, or with both the next boot number and the newest version. One with a good image keeps
+/// its tree at each stop, and so it does when it is opened again.
 #[tactic(auto, using(crate::specs::Opening::has_opened))]
 pub fn open<D: CrashDisk>(alloc: Global, disk: D) -> Result<Store<D>, (D, OpenFault)>
     ensures idle { IfOk result (λ store. IsIdle store.core) }
@@ -49,7 +51,8 @@ pub fn open<D: CrashDisk>(alloc: Global, disk: D) -> Result<Store<D>, (D, OpenFa
         (λ refused. IsAnsweredFor (D.keeps_model refused.0) (Some refused.1) (D.device disk)
         (D.device refused.0)) }
     ensures counted { IfErr result (λ refused. CountsCause refused.1 (D.device disk) (D.device refused.0)) }
-    ensures left { IsAtRest (D.device disk) → IfErr result
+    ensures left { IsAtRest (D.device disk) → MatchResult result
+        (λ store. D.keeps_model store.disk → LeavesImage (D.device disk) (D.device store.disk))
         (λ refused. D.keeps_model refused.0 → LeavesImage (D.device disk) (D.device refused.0)) }
     ensures keeps { (tree : Tree) (first : ℕ) → HoldsTree (D.device disk) tree first → MatchResult result
         (λ store. D.keeps_model store.disk → Opens (D.device disk)
@@ -82,7 +85,7 @@ fn recover<D: CrashDisk>(alloc: Global, disk: &mut D) -> Result<(Core<Done>, u64
         (λ cause. IsAnsweredFor (D.keeps_model disk.new) (Some cause) (D.device disk.old) (D.device disk.new)) }
     ensures counted { IfErr result (λ cause. CountsCause cause (D.device disk.old) (D.device disk.new)) }
     ensures left { IsAtRest (D.device disk.old) → D.keeps_model disk.new
-        → IfErr result (λ _. LeavesImage (D.device disk.old) (D.device disk.new)) }
+        → LeavesImage (D.device disk.old) (D.device disk.new) }
     ensures keeps { (tree : Tree) (first : ℕ) → HoldsTree (D.device disk.old) tree first
         → D.keeps_model disk.new
         → MatchResult result (λ opened. Opens (D.device disk.old)
@@ -106,10 +109,8 @@ fn recover<D: CrashDisk>(alloc: Global, disk: &mut D) -> Result<(Core<Done>, u64
         return Err(fault);
     }
     core.lawful();
-    let raised = Super {
-        geometry: found.geometry,
-        boot,
-    };
+    let geometry = found.geometry.newest();
+    let raised = Super { geometry, boot };
     if let Err(fault) = raise(alloc, disk, &mut block, raised) {
         return Err(fault);
     }

@@ -70,6 +70,7 @@ module _ (base : Image) (d : Device) (core : CoreState) (logging installing : Pe
   pub has_blocks : HasFileBlocks base core last
   has_blocks = record {
     geometry = since.over.files.super.geometry;
+    newest = since.over.files.newest;
     blocks = since.over.files.blocks_are;
     inodes = since.over.files.inodes_are;
     stands = stands_now;

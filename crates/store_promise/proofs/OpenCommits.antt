@@ -173,9 +173,10 @@ module _ (base : Image) (d : Device) (old new : CoreState) (logging installing :
       by_case (inr at_once) = ap (λ (rs : List Footprint). after_commits homes (take count rs)) at_once.records
 
   module _ (entry : Entry) (tells : TellsOf boot plan entry)
-      (one_geometry : (g h : Geometry) → g.blocks ≡ h.blocks → g.inodes ≡ h.inodes → g ≡ h) where
+      (one_geometry : (g h : Geometry) → g.version ≡ h.version → g.blocks ≡ h.blocks → g.inodes ≡ h.inodes
+      → g ≡ h) where
     geometry_is : tells.geometry ≡ g
-    geometry_is = one_geometry tells.geometry g
+    geometry_is = one_geometry tells.geometry g (tells.newest ∙ sym files.newest)
         (sym tells.blocks ∙ took.tried.own.blocks ∙ sym files.blocks_are)
         (sym tells.inodes ∙ took.tried.own.inodes ∙ sym files.inodes_are)
 
@@ -226,6 +227,7 @@ module _ (base : Image) (d : Device) (old new : CoreState) (logging installing :
                 super = files.super;
                 is_super = files.is_super;
                 boot_is = files.boot_is;
+                newest = files.newest;
                 blocks_are = files.blocks_are ∙ sym took.still.blocks;
                 inodes_are = files.inodes_are ∙ sym (ap (λ (core : CoreState). core.inodes) took.only);
                 chain = subst (λ (xs : List Footprint). IsChain g

@@ -201,6 +201,7 @@ module _ (base : Image) (d : Device) (old new : CoreState) (logging installing :
       is_super = subst (λ (content : Content). IsSuper content files.super)
           (sym (super_stays base old.log ok since.over.lawful)) files.is_super;
       boot_is = files.boot_is;
+      newest = files.newest;
       blocks_are = files.blocks_are ∙ sym gone.blocks;
       inodes_are = files.inodes_are ∙ sym inodes;
       chain = subst (λ (rs : List Footprint). IsChain g

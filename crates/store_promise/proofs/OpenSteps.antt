@@ -88,6 +88,7 @@ module _ (base : Image) (old new : CoreState) (same : HasSame old new) where
     super = files.super;
     is_super = files.is_super;
     boot_is = files.boot_is;
+    newest = files.newest;
     blocks_are = files.blocks_are ∙ sym same.log.blocks;
     inodes_are = files.inodes_are ∙ sym same.inodes;
     chain = subst (λ (rs : List Footprint). IsChain files.super.geometry

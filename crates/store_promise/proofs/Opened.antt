@@ -104,6 +104,7 @@ module _ (before opened : Device) (base : Image) (core : CoreState) (tree : Tree
     super = good.super;
     is_super = is_super;
     boot_is = good.boot_is;
+    newest = new.newest good.super is_super;
     blocks_are = good.size_is ∙ size_is;
     inodes_are = new.inodes good.super is_super;
     chain = stands_alone good.super.geometry (homes_of core.log.blocks (opening base core.log))
@@ -223,6 +224,7 @@ module _ (base : Image) (core : CoreState) (boot : ℕ) (tree : Tree) (super : S
       super = super;
       is_super = is_super;
       boot_is = refl;
+      newest = ap (λ (g : Geometry). g.version) geometry ∙ files.newest;
       blocks_are = ap (λ (g : Geometry). g.blocks) geometry ∙ files.blocks_are;
       inodes_are = ap (λ (g : Geometry). g.inodes) geometry ∙ files.inodes_are;
       chain = stands_alone super.geometry (homes_of core.log.blocks (opening raised core.log)) tree core.records

@@ -4,6 +4,7 @@ use Rattle.std.specs.Prelude.{Result, Ok, Err}
 use Rattle.disk.specs.Crash.{Image, IsAtRest, IsCrashImage}
 use Rattle.disk.specs.Device.{Device}
 use Rattle.layout.specs.declared.geometry.Geometry.{Geometry}
+use Rattle.layout.specs.declared.version.FormatVersion.TheVariants.{Second}
 use Rattle.layout.specs.Homes.{homes_of}
 use Rattle.layout.specs.Stands.{Stands}
 use Rattle.model.specs.Entry.{Entry}
@@ -53,10 +54,11 @@ pub record LeavesFiles (size first : ℕ) (tree : Tree) (events : Schedule) (sta
   pub prefix : LeavesPrefix size first tree events start t clock image
   pub homes : start ≤ clock → homes_of size (over image) ≡ blocks prefix.count
 
--- the geometry of an image of so many blocks that has this tree
+-- the geometry of an open image of so many blocks that has this tree: it has the newest version
 pub record IsGeometryOf (size : ℕ) (tree : Tree) (g : Geometry) : Type 0 where
   pub blocks : g.blocks ≡ size
   pub inodes : g.inodes ≡ tree.geometry.inodes
+  pub newest : g.version ≡ Second
 
 -- the blocks stand for the tree that the entries lead to
 pub record StandsAfter (g : Geometry) (tree : Tree) (entries : List Entry) (blocks : Image) : Type 0 where

@@ -7,6 +7,7 @@ use Rattle.model.specs.Entry.{Entry}
 use Rattle.procedures.specs.After.{after}
 use Rattle.model.specs.Tree.{Tree}
 use Rattle.layout.specs.declared.geometry.Geometry.{Geometry}
+use Rattle.layout.specs.declared.version.FormatVersion.TheVariants.{Second}
 use Rattle.layout.specs.Homes.{homes_of}
 use Rattle.layout.specs.Stands.{Stands}
 use Rattle.procs.specs.SoundCalls.{SoundCall}
@@ -44,9 +45,10 @@ abbrev pub blocks_after : Image → CoreState → ℕ → Image
 blocks_after base core count =
     after_commits (homes_of core.log.blocks (opening base core.log)) (take count core.records)
 
--- they stand for this tree, in an image of the core's counts
+-- they stand for this tree, in an image of the newest version and of the core's counts
 pub record HasFileBlocks (base : Image) (core : CoreState) (tree : Tree) : Type 0 where
   pub geometry : Geometry
+  pub newest : geometry.version ≡ Second
   pub blocks : geometry.blocks ≡ core.log.blocks
   pub inodes : geometry.inodes ≡ core.inodes
   pub stands : Stands geometry (file_blocks base core) tree
@@ -77,11 +79,12 @@ outcome_of plan entry = record {
 }
 
 -- An entry tells of this change: its call was made in this boot and can be spelled, and what comes of it is
--- a step of the sequential server, in an image of the change's counts.
+-- a step of the sequential server, in an image of the newest version and of the change's counts.
 pub record TellsOf (boot : ℕ) (plan : Planned) (entry : Entry) : Type 0 where
   pub boot_is : entry.ctx.boot ≡ boot
   pub sound : SoundCall entry.ctx.credential entry.ctx.moment entry.call
   pub geometry : Geometry
+  pub newest : geometry.version ≡ Second
   pub blocks : plan.blocks ≡ geometry.blocks
   pub inodes : plan.inodes ≡ geometry.inodes
   pub step : IsStepOf geometry entry.ctx entry.call (outcome_of plan entry)

@@ -10,6 +10,7 @@ use Rattle.procedures.specs.Step.{step}
 use Rattle.model.specs.Tree.{Tree}
 use Rattle.layout.specs.declared.geometry.Geometry.{Geometry}
 use Rattle.layout.specs.declared.super_block.Super.{Super}
+use Rattle.layout.specs.declared.version.FormatVersion.TheVariants.{Second}
 use Rattle.layout.specs.Homes.{homes_of}
 use Rattle.layout.specs.Stands.{Stands}
 use Rattle.layout.specs.SuperForm.{IsSuper}
@@ -32,14 +33,15 @@ IsChain g blocks tree [] (entry ∷ entries) last = ⊥
 IsChain g blocks tree (commit ∷ commits) [] last = ⊥
 
 -- What the files are, over what is at home, which is whole: the commits that aren't installed lead on from
--- there, and each has its entry; and the super block at home is that of this boot. The entries are those
--- since the tree.
+-- there, and each has its entry; and the super block at home is that of this boot, of the newest version of the
+-- format. The entries are those since the tree.
 pub record HasFilesOver (base : Image) (core : CoreState) (boot : ℕ) (tree : Tree) (entries : List Entry)
     (last : Tree) : Type 0 where
   pub home : IsHomeOf base core
   pub super : Super
   pub is_super : IsSuper (base SUPER_BLOCK) super
   pub boot_is : super.boot ≡ boot
+  pub newest : super.geometry.version ≡ Second
   pub blocks_are : super.geometry.blocks ≡ core.log.blocks
   pub inodes_are : super.geometry.inodes ≡ core.inodes
   pub chain : IsChain super.geometry (homes_of core.log.blocks (opening base core.log)) tree
@@ -78,5 +80,6 @@ pub record IsNewOver (base : Image) (d : Device) (core : CoreState) : Type 0 whe
   pub begun : core.begun ≡ 0
   pub places : core.log.places ≡ 0
   pub sound : core.log.broken ≡ false
+  pub newest : (super : Super) → IsSuper (base SUPER_BLOCK) super → super.geometry.version ≡ Second
   pub inodes : (super : Super) → IsSuper (base SUPER_BLOCK) super → super.geometry.inodes ≡ core.inodes
   pub boot : (super : Super) → IsSuper (base SUPER_BLOCK) super → super.boot ≡ core.boot

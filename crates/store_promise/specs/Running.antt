@@ -7,6 +7,7 @@ use Rattle.disk.specs.declared.block.BlockNo.{BlockNo}
 use Rattle.objects.specs.declared.addr.Addr.{Addr}
 use Rattle.model.specs.Entry.{Entry}
 use Rattle.model.specs.Tree.{Tree}
+use Rattle.layout.specs.declared.version.FormatVersion.TheVariants.{Second}
 use Rattle.wal_law.specs.Calls.{Pending, home_after, idle}
 use Rattle.wal_law.specs.Log.{Log, installed_place}
 use Rattle.txn_law.specs.Core.{CoreState}
@@ -51,6 +52,7 @@ pub record IsRunningOver (o : Setting) (base : Image) (side : StoreSide) (fetche
   pub position : o.position ≤ side.core.log.start + length side.core.log.changes
   pub blocks : o.geometry.blocks ≡ side.core.log.blocks
   pub inodes : o.geometry.inodes ≡ side.core.inodes
+  pub newest : o.geometry.version ≡ Second
   pub stands : StandsAtHome side.core.log
   pub fetched : All (IsFetchOver base side.core) fetches
   pub placed : (count : ℕ) → o.blocks (installed_place side.core.log + count) ≡ blocks_after base

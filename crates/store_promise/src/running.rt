@@ -7,6 +7,7 @@ ghost use Rattle.disk.specs.declared.block.BlockNo.{BlockNo};
 ghost use Rattle.disk.specs.declared.device.Failed.{Failed};
 ghost use Rattle.model.specs.Entry.{Entry};
 ghost use Rattle.procedures.specs.Step.{step};
+ghost use Rattle.layout.specs.declared.version.FormatVersion.TheVariants.{Second};
 ghost use Rattle.model.specs.Tree.{Tree};
 ghost use Rattle.txn.specs.Outcomes.{TakesPlace};
 ghost use Rattle.txn_law.specs.Commit.{Planned};
@@ -33,7 +34,7 @@ pub fn an_opening_begins_a_run()
     ensures runs { (before opened : Device) (base : Image) (core : CoreState) (tree : Tree)
         (first : ℕ) (o : Setting)
         → IsOpened before opened tree first o.position → IsNewOver base opened core
-        → o.geometry.blocks ≡ opened.size → o.geometry.inodes ≡ core.inodes
+        → o.geometry.version ≡ Second → o.geometry.blocks ≡ opened.size → o.geometry.inodes ≡ core.inodes
         → ((place : ℕ) → o.blocks place ≡ file_blocks base core)
         → IsRunningOver o base (at_rest opened core) [] (first + 1) tree [] tree }
     ensures told { (before opened : Device) (base : Image) (core : CoreState) (tree : Tree)

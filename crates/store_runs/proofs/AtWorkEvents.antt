@@ -164,6 +164,7 @@ module _ (o : Setting) (base : Image) (store : StoreSide) (after : Device) (ok :
   read_runs since = record {
     since = since;
     position = run.position;
+    newest = run.newest;
     blocks = run.blocks;
     inodes = run.inodes;
     stands = run.stands;

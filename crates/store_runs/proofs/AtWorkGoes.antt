@@ -175,6 +175,7 @@ module _ (old new : Side) (boot number : ℕ) (entries : List Committed) where
     boot_is = runs.boot_is;
     sound = runs.handed;
     geometry = next.snap.geometry;
+    newest = next.snap.newest;
     blocks = next.plan.0.named.blocks;
     inodes = next.plan.0.named.inodes;
     step = subst (λ (j : Job). IsStepOf next.snap.geometry j.ctx j.call done) same next.is_step;

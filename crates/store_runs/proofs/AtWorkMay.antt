@@ -151,12 +151,13 @@ module _ (o : Setting) (told : Told) (worker : ℕ) (base : Image) (store : Stor
     (is_told : IsTold o told store) (inodes : o.geometry.inodes ≡ store.core.inodes)
     (tx : ℕ) (seen : Seen) (knowing : Knowing) (is_out : IsOut store.core tx) (has : HasOfCall tx store.core seen)
     (loaded : All (IsAimLoaded store.core tx) knowing.taken)
-    (one_geometry : (g h : Geometry) → g.blocks ≡ h.blocks → g.inodes ≡ h.inodes → g ≡ h) where
+    (one_geometry : (g h : Geometry) → g.version ≡ h.version → g.blocks ≡ h.blocks → g.inodes ≡ h.inodes → g ≡ h) where
   abbrev begun : Begun
   begun = begun_of (Some tx) (Some seen) knowing
 
   geometry_is : seen.geometry ≡ o.geometry
-  geometry_is = one_geometry seen.geometry o.geometry (has.blocks ∙ sym run.blocks) (has.inodes ∙ sym inodes)
+  geometry_is = one_geometry seen.geometry o.geometry (has.newest ∙ sym run.newest) (has.blocks ∙ sym run.blocks)
+      (has.inodes ∙ sym inodes)
 
   module _ (addr : Addr) (mode : Mode) (asks : Asks seen.geometry addr)
       (new_to_it : is_had addr mode seen.objects seen.alone ≡ false) where
@@ -275,7 +276,7 @@ module _ (o : Setting) (told : Told) (number : ℕ) (base : Image) (store : Stor
     (run : IsRunningOver o base store fetches boot first entries last)
     (is_told : IsTold o told store) (inodes : o.geometry.inodes ≡ store.core.inodes)
     (worker : State) (new : Side)
-    (one_geometry : (g h : Geometry) → g.blocks ≡ h.blocks → g.inodes ≡ h.inodes → g ≡ h)
+    (one_geometry : (g h : Geometry) → g.version ≡ h.version → g.blocks ≡ h.blocks → g.inodes ≡ h.inodes → g ≡ h)
     (is_out : IfSome worker.begun.tx (IsOut store.core))
     (left_of : worker.phase ≡ Planning → IsLeftOf worker)
     (notes : worker.phase ≡ Planning → NotesAll worker store.core) where
@@ -547,7 +548,8 @@ pub step_may : (o : Setting) (told : Told) (number : ℕ) (base : Image) (store 
     (run : IsRunningOver o base store fetches boot first entries last) (is_told : IsTold o told store)
     (idle : (other : ℕ) → other ≢ number → told.workers other ≡ how.Idle)
     (inodes : o.geometry.inodes ≡ store.core.inodes) (worker : State) (new : Side)
-    (one_geometry : (g h : Geometry) → g.blocks ≡ h.blocks → g.inodes ≡ h.inodes → g ≡ h) (made : Option Step)
+    (one_geometry : (g h : Geometry) → g.version ≡ h.version → g.blocks ≡ h.blocks → g.inodes ≡ h.inodes → g ≡ h)
+    (made : Option Step)
     → GoesOn worker.phase (side worker store.core) made new → IsCoreAtWork worker store.core
     → IsWorkerAt boot entries worker → IsStepOfWork o told number (progress_of worker) made
 step_may o told number base store fetches boot first last entries run is_told idle inodes worker new one_geometry

@@ -94,6 +94,7 @@ pub with_fetches : (o : Setting) (base : Image) (side : StoreSide) (some others 
 with_fetches o base side some others boot first last entries run fetched = record {
   since = run.since;
   position = run.position;
+  newest = run.newest;
   blocks = run.blocks;
   inodes = run.inodes;
   stands = run.stands;
@@ -129,6 +130,7 @@ module _ (old new : CoreState) (kept : KeepsTransactions old new)
     (blocks : new.log.blocks ≡ old.log.blocks) where
   same_call : (job : Job) (tx : ℕ) (seen : Seen) → HasOfCall tx old seen → HasOfCall tx new seen
   same_call job tx seen has = record {
+    newest = has.newest;
     blocks = has.blocks ∙ sym blocks;
     inodes = has.inodes ∙ sym kept.inodes;
     claims = has.claims;

@@ -413,7 +413,7 @@ module _ (b : Beginning) (number clock : ℕ) (store : StoreSide) (workers all_t
     module _ (goes_with : GoesOnWith o going.base store step_to boot number b.tree (entries_of t) going.last
         made (side worker store.core))
         (has_files : HasFileBlocks going.base core goes_with.left)
-        (one_geometry : (g h : Geometry) → g.blocks ≡ h.blocks → g.inodes ≡ h.inodes → g ≡ h)
+        (one_geometry : (g h : Geometry) → g.version ≡ h.version → g.blocks ≡ h.blocks → g.inodes ≡ h.inodes → g ≡ h)
         (before_it : o.blocks (length t.history) ≡ file_blocks going.base store.core) where
       abbrev entry : Entry
       entry = entry_by number goes_with.taken.entry
@@ -447,7 +447,8 @@ module _ (b : Beginning) (number clock : ℕ) (store : StoreSide) (workers all_t
 
       stands_now : Stands o.geometry now goes_with.left
       stands_now = subst (λ (g : Geometry). Stands g now goes_with.left)
-          (one_geometry has_files.geometry o.geometry (has_files.blocks ∙ sym goes_with.runs.blocks)
+          (one_geometry has_files.geometry o.geometry (has_files.newest ∙ sym goes_with.runs.newest)
+          (has_files.blocks ∙ sym goes_with.runs.blocks)
           (has_files.inodes ∙ sym goes_with.runs.inodes)) has_files.stands
 
       files_by : (place : ℕ) (few : Bool) → nat_le place (length (entries_of t)) ≡ few
@@ -545,7 +546,7 @@ module _ (b : Beginning) (number clock : ℕ) (store : StoreSide) (workers all_t
         → (has_committed made ≡ true →
         (goes : GoesOnWith o going.base store step_to boot number b.tree (entries_of t) going.last
         made (side worker store.core)) × HasFileBlocks going.base core goes.left)
-        → ((g h : Geometry) → g.blocks ≡ h.blocks → g.inodes ≡ h.inodes → g ≡ h)
+        → ((g h : Geometry) → g.version ≡ h.version → g.blocks ≡ h.blocks → g.inodes ≡ h.inodes → g ≡ h)
         → o.blocks (length t.history) ≡ file_blocks going.base store.core
         → (n : Noting boot number clock (progress_of worker) made before mid) → Left (entry_part n).entry
     unfolding entry_part entry_of_one

@@ -10,6 +10,7 @@ use Rattle.std.proofs.lemmas.List.Elements.{All-contains, Contains-append_right}
 use Rattle.disk.specs.Device.{Content}
 use Rattle.disk.specs.declared.block.BlockNo.{BlockNo}
 use Rattle.layout.specs.declared.geometry.Geometry.{Geometry}
+use Rattle.layout.specs.declared.version.FormatVersion.TheVariants.{Second}
 use Rattle.layout.proofs.OnGrid.{one_or_apart}
 use Rattle.model.specs.Entry.{Entry}
 use Rattle.objects.specs.Addr.{Overlap}
@@ -562,10 +563,11 @@ module _ (boot : ℕ) (entries : List Entry) (told : Told) (workers : List State
 
 -- it is of the image, as it is told
 pub left_at : (g : Geometry) (core : CoreState) (worker : State) → HasTakenWell g (progress_of worker)
-    → g.blocks ≡ core.log.blocks → g.inodes ≡ core.inodes
-    → ((one other : Geometry) → one.blocks ≡ other.blocks → one.inodes ≡ other.inodes → one ≡ other)
+    → g.version ≡ Second → g.blocks ≡ core.log.blocks → g.inodes ≡ core.inodes
+    → ((one other : Geometry) → one.version ≡ other.version → one.blocks ≡ other.blocks → one.inodes ≡ other.inodes
+    → one ≡ other)
     → PlansAlone worker.phase worker core → worker.phase ≡ Planning → IsLeftOf worker
-left_at g core worker well blocks inodes one_geometry plans phase_is next later some =
+left_at g core worker well newest blocks inodes one_geometry plans phase_is next later some =
     by worker.work.job worker.begun.tx (seen_in worker.work.planner)
     (subst (λ (p : Phase). PlansAlone p worker core) phase_is plans)
     (subst (λ (p : Phase). HasTakenWell g (progress_in p worker.work.job
@@ -585,5 +587,5 @@ left_at g core worker well blocks inodes one_geometry plans phase_is next later 
     by (Some job) (Some tx) None has well = absurd has
     by (Some job) (Some tx) (Some seen) has well =
         subst (λ (h : Geometry). IsAim h next)
-        (one_geometry g seen.geometry (blocks ∙ sym has.blocks) (inodes ∙ sym has.inodes))
+        (one_geometry g seen.geometry (newest ∙ sym has.newest) (blocks ∙ sym has.blocks) (inodes ∙ sym has.inodes))
         (All-contains (IsAim g) (worker.known.taken ++ worker.known.left) next well.aims.of_image there)

@@ -74,6 +74,7 @@ module _ (core mid : CoreState) (tx : ℕ) (seen : Seen) (addr : Addr) (taken : 
     (reads : KeepsReads core mid tx) (asks : Asks seen.geometry addr) (has : HasOfCall tx core seen) where
   pub hold_more : HasOfCall tx mid seen
   hold_more = record {
+    newest = has.newest;
     blocks = has.blocks ∙ sym blocks;
     inodes = has.inodes ∙ sym inodes;
     claims = has.claims;
@@ -100,6 +101,7 @@ module _ (core mid : CoreState) (tx : ℕ) (seen : Seen) (addr : Addr) (mode : M
       })
   with_told bytes held =
       let more = with_held bytes held in record {
+        newest = more.newest;
         blocks = more.blocks;
         inodes = more.inodes;
         claims = more.claims;
@@ -132,6 +134,7 @@ module _ (core mid : CoreState) (tx : ℕ) (seen : Seen) (addr : Addr) (asks : A
       → HasOfCall tx mid (record seen { claims = seen.claims ++ block ∷ [] })
   with_claimed block may new_to_it whole took =
       let more = with_whole took in record {
+        newest = more.newest;
         blocks = more.blocks;
         inodes = more.inodes;
         claims = one_claimed_once seen.geometry seen.claims block has.claims may new_to_it;
@@ -213,6 +216,7 @@ module _ (old new : Side) (keeps : KeepsReadsOf old new) (beyond : NoneTakenBeyo
           has_so new.worker new.core (numbered old.core.boot number job) number seen
           (ap (λ (s : State). s.work.job) has.worker)
           (ap (λ (s : State). s.begun.tx) has.worker) at (record {
+            newest = saw.version;
             blocks = saw.blocks ∙ sym (ap (λ (c : CoreState). c.log.blocks) has.core);
             inodes = saw.inodes ∙ sym (ap (λ (c : CoreState). c.inodes) has.core);
             claims = subst (λ (claims : List BlockNo). WereClaimedOnce seen.geometry claims)

@@ -88,6 +88,7 @@ pub moved : (tx : ℕ) (seen : Seen) (core mid : CoreState) → mid.log.blocks �
     → mid.inodes ≡ core.inodes → ((addr : Addr) → taken_by mid tx addr ≡ taken_by core tx addr)
     → KeepsReads core mid tx → HasOfCall tx core seen → HasOfCall tx mid seen
 moved tx seen core mid blocks inodes same reads has = record {
+  newest = has.newest;
   blocks = has.blocks ∙ sym blocks;
   inodes = has.inodes ∙ sym inodes;
   claims = has.claims;
@@ -248,6 +249,7 @@ module _ (core mid : CoreState) (tx : ℕ) (snap : Snap) (addr : Addr)
   read_one bytes held =
       let taken = for_reading tx addr mode in
       record {
+        newest = has.newest;
         blocks = has.blocks ∙ sym (ap (λ (c : CoreState). c.log.blocks) held.only);
         inodes = has.inodes ∙ sym (ap (λ (c : CoreState). c.inodes) held.only);
         claims = has.claims;
@@ -270,6 +272,7 @@ module _ (core mid : CoreState) (tx : ℕ) (snap : Snap) (addr : Addr)
   fetch_one io fetched =
       let taken = for_fetching tx addr mode in
       record {
+        newest = has.newest;
         blocks = has.blocks ∙ sym (ap (λ (c : CoreState). c.log.blocks) fetched.only);
         inodes = has.inodes ∙ sym (ap (λ (c : CoreState). c.inodes) fetched.only);
         claims = has.claims;
@@ -298,6 +301,7 @@ claim_one : (core mid : CoreState) (tx : ℕ) (snap : Snap) (block : BlockNo) (a
 claim_one core mid tx snap block addr has is_plan reads whole took =
     let taken = for_writing tx addr in
     record {
+      newest = has.newest;
       blocks = has.blocks ∙ sym (ap (λ (c : CoreState). c.log.blocks) took.only);
       inodes = has.inodes ∙ sym (ap (λ (c : CoreState). c.inodes) took.only);
       claims = one_claimed_once snap.geometry snap.claims.items block has.claims is_plan.1 is_plan.0;
@@ -348,6 +352,7 @@ module _ (old new : Side) (tidy : AreTidy old.core) (alone : IsOutAlone old.work
           has_so new.worker new.core (numbered old.core.boot number job) number seen
           (ap (λ (s : State). s.work.job) has.worker)
           (ap (λ (s : State). s.begun.tx) has.worker) at (record {
+            newest = saw.version;
             blocks = saw.blocks ∙ sym (ap (λ (c : CoreState). c.log.blocks) has.core);
             inodes = saw.inodes ∙ sym (ap (λ (c : CoreState). c.inodes) has.core);
             claims = subst (λ (claims : List BlockNo). WereClaimedOnce seen.geometry claims)

@@ -2,6 +2,7 @@
 use Rattle.std.specs.Prelude.{◌≡◌, ℕ, Bool, true, false, [], Option, Some, All, IsSomeAnd, option_to_list}
 use Rattle.objects.specs.declared.addr.Addr.{Addr}
 use Rattle.objects.specs.declared.mode.Mode.TheVariants as modes
+use Rattle.layout.specs.declared.version.FormatVersion.TheVariants.{Second}
 use Rattle.procs.specs.Asks.{Asks, WereAskedOnce, WereClaimedOnce}
 use Rattle.txn.specs.Claimed.{IsClaimedBy}
 use Rattle.txn.specs.Commit.{IsReadBy}
@@ -27,10 +28,11 @@ use Rattle.store_workers.specs.declared.workers.parts.State.{State}
 abbrev pub HasAlone : CoreState → ℕ → Addr → Type 0
 HasAlone core tx addr = (hold : Hold) × (taken_by core tx addr ≡ Some hold) × (hold.mode ≡ modes.Exclusive)
 
--- What a transaction has of its call, of this core's image: each object was read once, and is held still, and alone where it
--- was asked for so; each claimed block is a data block that was claimed once, and is held for writing as a whole. What
--- is taken is an object of the image.
+-- What a transaction has of its call, of this core's image, which has the newest version: each object was read once,
+-- and is held still, and alone where it was asked for so; each claimed block is a data block that was claimed once, and
+-- is held for writing as a whole. What is taken is an object of the image.
 pub record HasOfCall (tx : ℕ) (core : CoreState) (seen : Seen) : Type 0 where
+  pub newest : seen.geometry.version ≡ Second
   pub blocks : seen.geometry.blocks ≡ core.log.blocks
   pub inodes : seen.geometry.inodes ≡ core.inodes
   pub claims : WereClaimedOnce seen.geometry seen.claims

@@ -6,7 +6,7 @@ use Rattle.disk.specs.Crash.{Image}
 use Rattle.disk.specs.declared.block.BlockNo.{BlockNo}
 use Rattle.objects.specs.declared.addr.Addr.{Addr}
 use Rattle.objects.specs.declared.mode.Mode.{Mode}
-use Rattle.layout.specs.declared.version.FormatVersion.TheVariants.{First}
+use Rattle.layout.specs.declared.version.FormatVersion.TheVariants.{Second}
 use Rattle.nfs_types.specs.declared.reply.Reply.TheVariants.{Null}
 use Rattle.model.specs.Calls.{begins_transaction}
 use Rattle.wal_law.specs.Log.{settled_place}
@@ -86,7 +86,7 @@ numbered boot number job = record job { ctx = record job.ctx { boot = boot; tran
 
 -- nothing was read yet, of the core's image
 pub record SawNothing (core : CoreState) (seen : Seen) : Type 0 where
-  pub version : seen.geometry.version ≡ First
+  pub version : seen.geometry.version ≡ Second
   pub blocks : seen.geometry.blocks ≡ core.log.blocks
   pub inodes : seen.geometry.inodes ≡ core.inodes
   pub objects : seen.objects ≡ []

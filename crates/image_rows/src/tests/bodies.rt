@@ -12,19 +12,21 @@ use overlays::Overlay;
 use std::alloc::Global;
 use std::test::Fail;
 
-// Two data blocks that the rows fill.
+// Three data blocks that the rows fill.
 const FIRST: u32 = 1000;
 
 const SECOND: u32 = 1001;
 
-// A log with the table and the two data blocks, each with all changes of it.
+const THIRD: u32 = 1002;
+
+// A log with the table and the three data blocks, each with all changes of it.
 fn filled(
     alloc: Global,
     disk: &MemDisk,
     changes: &[Logged],
 ) -> Result<Vec<(BlockNo, Block)>, Fail> {
     let mut logged = Vec::new(alloc);
-    for number in &[TABLE, FIRST, SECOND] {
+    for number in &[TABLE, FIRST, SECOND, THIRD] {
         let mut block = Block::zeros(alloc)?;
         if *number < disk.blocks() {
             block.copy_from(disk.newest(BlockNo(*number)));
@@ -128,6 +130,26 @@ const INDIRECT: Logged = Logged {
     bytes: &[233, 3],
 };
 
+// Block 1001 as its double indirect block, and block 1002 as the first inner one.
+const DOUBLE: Logged = Logged {
+    number: TABLE,
+    offset: 380,
+    bytes: &[233, 3],
+};
+
+const INNER: Logged = Logged {
+    number: SECOND,
+    offset: 0,
+    bytes: &[234, 3],
+};
+
+// Block 1000 at the first index of the first inner block.
+const INNER_INDEX: Logged = Logged {
+    number: THIRD,
+    offset: 0,
+    bytes: &[232, 3],
+};
+
 // A root of one block, 1000.
 const ROOT_SIZE: Logged = Logged {
     number: TABLE,
@@ -148,7 +170,7 @@ const SLOT: Logged = Logged {
     bytes: &[2, 0, 0, 0, 1, 0, 0, 0, 97],
 };
 
-const ROWS: [Row; 15] = [
+const ROWS: [Row; 21] = [
     Row {
         says: "an empty root owns nothing",
         changes: &[],
@@ -260,6 +282,87 @@ const ROWS: [Row; 15] = [
             },
         ],
         found: Err(PartFault::Range),
+    },
+    Row {
+        says: "its double indirect block has numbers of none",
+        changes: &[KIND, ONE_LINK, FIVE_BYTES, DOUBLE],
+        found: Err(PartFault::Range),
+    },
+    Row {
+        says: "an inner block has numbers of none",
+        changes: &[KIND, ONE_LINK, FIVE_BYTES, DOUBLE, INNER],
+        found: Err(PartFault::Range),
+    },
+    Row {
+        says: "an inner block has a number",
+        changes: &[KIND, ONE_LINK, FIVE_BYTES, DOUBLE, INNER, INNER_INDEX],
+        found: Ok(Seen {
+            owned: 3,
+            shared: false,
+            untidy: None,
+            named: 0,
+        }),
+    },
+    Row {
+        says: "an inner block has a number of no data block",
+        changes: &[
+            KIND,
+            ONE_LINK,
+            FIVE_BYTES,
+            DOUBLE,
+            INNER,
+            INNER_INDEX,
+            Logged {
+                number: THIRD,
+                offset: 4,
+                bytes: &[1],
+            },
+        ],
+        found: Err(PartFault::Range),
+    },
+    Row {
+        says: "a byte that an inner block reaches lies past its size",
+        changes: &[
+            KIND,
+            ONE_LINK,
+            FIVE_BYTES,
+            DOUBLE,
+            INNER,
+            INNER_INDEX,
+            Logged {
+                number: FIRST,
+                offset: 0,
+                bytes: &[1],
+            },
+        ],
+        found: Ok(Seen {
+            owned: 3,
+            shared: false,
+            untidy: Some(2),
+            named: 0,
+        }),
+    },
+    Row {
+        says: "its double indirect block names one inner block twice",
+        changes: &[
+            KIND,
+            ONE_LINK,
+            FIVE_BYTES,
+            DOUBLE,
+            INNER,
+            INNER_INDEX,
+            Logged {
+                number: SECOND,
+                offset: 4,
+                bytes: &[234, 3],
+            },
+        ],
+        found: Ok(Seen {
+            owned: 3,
+            shared: true,
+            untidy: None,
+            named: 0,
+        }),
     },
     Row {
         says: "a byte past a link's target isn't zero",
@@ -380,7 +483,7 @@ const ROWS: [Row; 15] = [
 
 #[test]
 fn the_files_of_an_image_are_looked_at(rt: HostRuntime) -> Result<(), Fail> {
-    let geometry = Geometry::new(FormatVersion::First, LEAST_BLOCKS, LEAST_INODES)?;
+    let geometry = Geometry::new(FormatVersion::Second, LEAST_BLOCKS, LEAST_INODES)?;
     for row in &ROWS {
         let mut disk = fresh(rt.alloc(), geometry)?;
         let overlay = Overlay::new(filled(rt.alloc(), &disk, row.changes)?);

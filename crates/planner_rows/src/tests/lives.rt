@@ -1,12 +1,13 @@
-//! Calls one behind the other on an image: each is planned both ways on what those before it left, and is replayed then.
+//! Calls one behind the other on an image: each is planned both ways on what those before it left, and is replayed
+//! then.
 ghost use Rattle.std.specs.Prelude.{◌≡◌, All, OnOk};
 ghost use Rattle.model.specs.Sound.{SoundTime};
 ghost use Rattle.replays.specs.Replayed.{CanBeReplayed};
 
 use crate::tests::beside::plans_alike;
-use disk::MemDisk;
-use layout::{FormatVersion, Geometry};
-use limits::LEAST_BLOCKS;
+use disk::{Block, BlockNo, CrashDisk, MemDisk};
+use layout::{FormatVersion, Geometry, PIECE_BYTES, PIECES_PER_BLOCK};
+use limits::{FIRST_HOME_BLOCK, LEAST_BLOCKS};
 use nfs_types::{Call, CreateHow, Credential, Ctx, Moment, NewAttributes, NumberList, SpecialFile};
 use procs::begins_transaction;
 use replays::replay;
@@ -18,26 +19,26 @@ use worked::procedures::{Asked, File, ROOT, UNSET, ZEROS, call};
 
 const INODES: u32 = 128;
 
-const GEOMETRY: Geometry = Geometry {
-    version: FormatVersion::First,
-    blocks: LEAST_BLOCKS,
-    inodes: INODES,
-};
-
 const NOW: Moment = Moment {
     seconds: 2000,
     nanoseconds: 0,
 };
 
-// Pieces of the bitmap from which free blocks are looked for: the one that has the bits of all blocks, another, and none.
+// Pieces of the bitmap from which free blocks are looked for: the one that has the bits of all blocks, another, and
+// none.
 const STARTS: [u32; 3] = [0, 3, 8];
 
-// A row: a call of the superuser; or the second file's links in a directory, or files that are made in the first one, at
-// the names of a first byte and each second byte from one on and below an end.
-enum Row<'a> {
+/// A row: a call of the superuser; the second file's links in a directory, or files that are made in the first one, at
+/// the names of a first byte and each second byte from one on and below an end; so many bytes that a file gets at each
+/// of these offsets; sizes that it gets, one behind the other; or none of the blocks is free from then on that have a
+/// bit in a piece of the bitmap.
+pub(crate) enum Row<'a> {
     Asks(Asked<'a>),
     Links(File, u8, u8, u8),
     Creates(u8, u8, u8),
+    Writes(File, u32, &'a [u64]),
+    Sizes(File, &'a [u64]),
+    Takes(u32),
 }
 
 // What the first two rows make, and the third of names.
@@ -47,7 +48,8 @@ const FILE: File = File(3, 1, 2);
 
 const OTHER: File = File(4, 1, 3);
 
-const PLAIN: CreateHow = CreateHow::Guarded(UNSET);
+/// A new file under a name that leads to none.
+pub(crate) const PLAIN: CreateHow = CreateHow::Guarded(UNSET);
 
 const CUT: NewAttributes = NewAttributes {
     size: Some(5000),
@@ -64,8 +66,8 @@ const EMPTY: NewAttributes = NewAttributes {
     ..UNSET
 };
 
-// What is made; what a file's bytes are, from the first block on, written over, in part and as a whole, across the border of the indirect block, in a hole and
-// at the end; what is refused.
+// What is made; what a file's bytes are, from the first block on, written over, in part and as a whole, across the
+// border of the indirect block, in a hole and at the end; what is refused.
 const BYTES: &[Row] = &[
     Row::Asks(Asked::MkDir(ROOT, b"d", UNSET)),
     Row::Asks(Asked::Create(ROOT, b"f", PLAIN)),
@@ -119,7 +121,8 @@ const BYTES: &[Row] = &[
 ];
 
 // What a directory of three blocks lists, with room for all and for some, behind cookies; names that come and go; and
-// names that go from a directory of several blocks to another, from the first block of one and a later one of the other.
+// names that go from a directory of several blocks to another, from the first block of one and a later one of the
+// other.
 const NAMES: &[Row] = &[
     Row::Asks(Asked::MkDir(ROOT, b"d", UNSET)),
     Row::Asks(Asked::Create(ROOT, b"f", PLAIN)),
@@ -160,8 +163,9 @@ const NAMES: &[Row] = &[
     Row::Asks(Asked::ReadDirPlus(DIRECTORY, 0, ZEROS, 32_768, 32_768)),
 ];
 
-fn formatted(alloc: Global) -> Result<MemDisk, Fail> {
-    let mut disk = MemDisk::new(alloc, LEAST_BLOCKS)?;
+// An image of so many blocks.
+fn formatted(alloc: Global, blocks: u32) -> Result<MemDisk, Fail> {
+    let mut disk = MemDisk::new(alloc, blocks)?;
     store::format(alloc, &mut disk, INODES, MADE)?;
     Ok(disk)
 }
@@ -203,12 +207,17 @@ fn add(
 fn are_alike(alloc: Global, disk: &MemDisk, entries: &[(Ctx, Call)]) -> Result<bool, Fail>
     requires { All CanBeReplayed entries.now }
 {
+    let geometry = Geometry {
+        version: FormatVersion::Second,
+        blocks: disk.blocks(),
+        inodes: INODES,
+    };
     for entry in entries {
         if !begins_transaction(&entry.1) {
             return Ok(false);
         }
         for from in STARTS {
-            if !plans_alike(alloc, disk, GEOMETRY, from, &entry.0, &entry.1)? {
+            if !plans_alike(alloc, disk, geometry, from, &entry.0, &entry.1)? {
                 return Ok(false);
             }
         }
@@ -228,6 +237,18 @@ fn goes_alike(
     let is_alike = are_alike(alloc, disk, &entries)?;
     replay(alloc, disk, &entries)?;
     Ok(is_alike)
+}
+
+// None of the blocks is free any more that have a bit in a piece of the bitmap's first block.
+fn take_all(alloc: Global, disk: &mut MemDisk, piece: u32) -> Result<(), Fail> {
+    if piece >= PIECES_PER_BLOCK || disk.blocks() <= FIRST_HOME_BLOCK {
+        return Err("it has no such piece")?;
+    }
+    let mut bitmap = Block::zeros(alloc)?;
+    bitmap.copy_from(disk.newest(BlockNo(FIRST_HOME_BLOCK)));
+    bitmap.put(PIECE_BYTES * piece as usize, &[255; PIECE_BYTES]);
+    disk.set(BlockNo(FIRST_HOME_BLOCK), &bitmap);
+    Ok(())
 }
 
 // The same for each of the calls of a row, of which the first has this number. The number of the next, where all were.
@@ -263,13 +284,39 @@ fn row_goes_alike(
                 next = next.saturating_add(1);
             }
         }
+        Row::Writes(file, count, offsets) => {
+            for offset in offsets {
+                let asked = Asked::WriteMany(file, *offset, count);
+                if !goes_alike(alloc, disk, next, &asked)? {
+                    return Ok(None);
+                }
+                next = next.saturating_add(1);
+            }
+        }
+        Row::Sizes(file, sizes) => {
+            for size in sizes {
+                let wanted = NewAttributes {
+                    size: Some(*size),
+                    ..UNSET
+                };
+                if !goes_alike(alloc, disk, next, &Asked::SetAttr(file, wanted, None))? {
+                    return Ok(None);
+                }
+                next = next.saturating_add(1);
+            }
+        }
+        Row::Takes(piece) => take_all(alloc, disk, piece)?,
     }
     Ok(Some(next))
 }
 
-// The number of the first row on a fresh image whose plans aren't alike, where there is one.
-fn first_unlike(alloc: Global, rows: &[Row]) -> Result<Option<usize>, Fail> {
-    let mut disk = formatted(alloc)?;
+/// The number of the first row on a fresh image of so many blocks whose plans aren't alike, where there is one.
+pub(crate) fn first_unlike(
+    alloc: Global,
+    blocks: u32,
+    rows: &[Row],
+) -> Result<Option<usize>, Fail> {
+    let mut disk = formatted(alloc, blocks)?;
     let mut next = 1;
     for (number, row) in rows.iter().enumerate() {
         match row_goes_alike(alloc, &mut disk, next, row)? {
@@ -282,12 +329,12 @@ fn first_unlike(alloc: Global, rows: &[Row]) -> Result<Option<usize>, Fail> {
 
 #[test]
 fn on_bytes(rt: HostRuntime) -> Result<(), Fail> {
-    assert_eq!(rt; first_unlike(rt.alloc(), BYTES)?, None);
+    assert_eq!(rt; first_unlike(rt.alloc(), LEAST_BLOCKS, BYTES)?, None);
     Ok(())
 }
 
 #[test]
 fn on_names(rt: HostRuntime) -> Result<(), Fail> {
-    assert_eq!(rt; first_unlike(rt.alloc(), NAMES)?, None);
+    assert_eq!(rt; first_unlike(rt.alloc(), LEAST_BLOCKS, NAMES)?, None);
     Ok(())
 }

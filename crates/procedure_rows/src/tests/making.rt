@@ -38,7 +38,7 @@ const OF_5000_BYTES: CreateHow = CreateHow::Unchecked(NewAttributes {
 });
 
 const TOO_LARGE: CreateHow = CreateHow::Unchecked(NewAttributes {
-    size: Some(4_227_073),
+    size: Some(4_299_194_369),
     ..UNSET
 });
 

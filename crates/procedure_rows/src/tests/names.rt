@@ -118,7 +118,7 @@ const CHANGED_AT: NewAttributes = NewAttributes {
 
 // The size is one byte too large.
 const SIZED: NewAttributes = NewAttributes {
-    size: Some(4_227_073),
+    size: Some(4_299_194_369),
     ..UNSET
 };
 

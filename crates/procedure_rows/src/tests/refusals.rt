@@ -90,13 +90,13 @@ const EMPTIED: NewAttributes = NewAttributes {
     ..UNSET
 };
 
-const LARGEST: NewAttributes = NewAttributes {
-    size: Some(4_227_072),
+const FAR: NewAttributes = NewAttributes {
+    size: Some(4_227_073),
     ..UNSET
 };
 
 const TOO_LARGE: NewAttributes = NewAttributes {
-    size: Some(4_227_073),
+    size: Some(4_299_194_369),
     ..UNSET
 };
 
@@ -120,7 +120,7 @@ const NOT_SIZED: Rows = Rows {
             Asked::SetAttr(A, TOO_LARGE, None),
             Wanted::Refused(Status::FBig),
         ),
-        Step::By(7, Asked::SetAttr(A, LARGEST, None), Wanted::Done),
+        Step::By(7, Asked::SetAttr(A, FAR, None), Wanted::Done),
     ],
 };
 
@@ -158,12 +158,12 @@ const NOT_WRITTEN: Rows = Rows {
         ),
         Step::By(
             8,
-            Asked::Write(A, 4_227_072, 1, b"z"),
+            Asked::Write(A, 4_299_194_368, 1, b"z"),
             Wanted::Refused(Status::Acces),
         ),
         Step::By(
             7,
-            Asked::Write(A, 4_227_072, 1, b"z"),
+            Asked::Write(A, 4_299_194_368, 1, b"z"),
             Wanted::Refused(Status::FBig),
         ),
         Step::By(7, Asked::Write(A, 0, 1, b"z"), Wanted::Done),

@@ -18,22 +18,27 @@ const FIVE_BYTES: NewAttributes = NewAttributes {
     ..UNSET
 };
 
-const LAST_BYTE: Rows = Rows {
-    says: "the last byte of the largest file",
+const FAR_BYTES: Rows = Rows {
+    says: "past the largest file, and behind what the indirect block reaches",
     planted: Planted::Small(64),
     apart: false,
     steps: &[
         Step::By(
             7,
-            Asked::Write(A, 4_227_072, 1, b"z"),
+            Asked::Write(A, 4_299_194_368, 1, b"z"),
             Wanted::NotWritten(Status::FBig, 0, 0),
         ),
         Step::By(
             7,
-            Asked::Write(A, 4_227_071, 1, b"z"),
+            Asked::Write(A, 4_227_071, 1, b"y"),
             Wanted::Sizes(4_227_072, 8192),
         ),
-        Step::By(7, Asked::Read(A, 4_227_071, 100), Wanted::Ends(b"z")),
+        Step::By(
+            7,
+            Asked::Write(A, 4_227_072, 1, b"z"),
+            Wanted::Sizes(4_227_073, 20_480),
+        ),
+        Step::By(7, Asked::Read(A, 4_227_071, 100), Wanted::Ends(b"yz")),
     ],
 };
 
@@ -161,7 +166,7 @@ const COMMITTED: Rows = Rows {
 };
 
 const ALL: [Rows; 9] = [
-    LAST_BYTE,
+    FAR_BYTES,
     HOLE,
     SHRUNK,
     ONE_FREE_BLOCK,

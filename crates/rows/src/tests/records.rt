@@ -40,6 +40,7 @@ fn inode_of_file() -> Inode {
         verifier: None,
         direct: [527, 0, 0, 528, 0, 0, 0, 0],
         indirect: 529,
+        double: 0,
     }
 }
 
@@ -102,7 +103,7 @@ const OBJECTS: u32 = 200;
 #[test]
 fn room_is_made_for_many_objects(rt: HostRuntime) -> Result<(), Fail> {
     let bytes = largest(rt.alloc())?;
-    let geometry = Super::read(&bytes)?.geometry;
+    let geometry = Super::read(&bytes)?.geometry.newest();
     let mut snap = Snap::new(rt.alloc(), geometry, 0, Mode::Shared);
     for number in 0..OBJECTS {
         add(rt.alloc(), &mut snap, number)?;

@@ -116,7 +116,7 @@ impl State {
                 core.counted();
                 let (blocks, inodes) = core.counts();
                 let geometry = Geometry {
-                    version: FormatVersion::First,
+                    version: FormatVersion::Second,
                     blocks,
                     inodes,
                 };

@@ -1,5 +1,5 @@
-//! With ample memory nothing is refused for want of it, at sizes far past the smallest, and 256 blocks stay in memory
-//! that nobody needs.
+//! With ample memory nothing is refused for want of it, at sizes far past the smallest, and 256 blocks or more stay in
+//! memory that nobody needs.
 
 use crate::tests::bench::{Bench, Ended, Seen, Step};
 use crate::tests::toys::{At, change_of};
@@ -27,18 +27,33 @@ fn many_blocks_are_held_at_once(rt: HostRuntime) -> Result<(), Fail> {
     Ok(())
 }
 
+// The blocks are unpinned in their order. With the 512th the first 256 go, and the last 8 come after that: 264 stay.
 #[test]
 fn the_blocks_that_were_needed_last_stay(rt: HostRuntime) -> Result<(), Fail> {
     let mut bench = Bench::new(rt.alloc(), 0, &[])?;
-    let steps = reads(rt.alloc(), 300)?;
-    let zeros = vec![in rt.alloc(); Seen::Bytes(0); 300]?;
+    let steps = reads(rt.alloc(), 520)?;
+    let zeros = vec![in rt.alloc(); Seen::Bytes(0); 520]?;
     assert!(rt; bench.sees(1, steps.as_slice(), zeros.as_slice()));
     let later = [
-        Step::Want(At::Whole(299)),
-        Step::Want(At::Whole(44)),
-        Step::Want(At::Whole(43)),
+        Step::Want(At::Whole(519)),
+        Step::Want(At::Whole(256)),
+        Step::Want(At::Whole(255)),
+        Step::Want(At::Whole(0)),
     ];
-    assert!(rt; bench.sees(2, &later, &[Seen::Bytes(0), Seen::Bytes(0), Seen::Fetched]));
+    let wanted = [Seen::Bytes(0), Seen::Bytes(0), Seen::Fetched, Seen::Fetched];
+    assert!(rt; bench.sees(2, &later, &wanted));
+    Ok(())
+}
+
+// Of 511 blocks all stay, since none goes before there are twice 256.
+#[test]
+fn fewer_than_512_blocks_stay(rt: HostRuntime) -> Result<(), Fail> {
+    let mut bench = Bench::new(rt.alloc(), 0, &[])?;
+    let steps = reads(rt.alloc(), 511)?;
+    let zeros = vec![in rt.alloc(); Seen::Bytes(0); 511]?;
+    assert!(rt; bench.sees(1, steps.as_slice(), zeros.as_slice()));
+    let later = [Step::Want(At::Whole(0)), Step::Want(At::Whole(510))];
+    assert!(rt; bench.sees(2, &later, &[Seen::Bytes(0), Seen::Bytes(0)]));
     Ok(())
 }
 

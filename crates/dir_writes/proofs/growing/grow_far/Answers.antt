@@ -31,7 +31,7 @@ returns-in-Ok-store_far-clause-ok c = λ blocks tree node name number draft grow
     let base = image_of blocks c.args.draft.now in
     let middle = image_of blocks c.take_block.new.draft in
     let size = BLOCK_BYTES * (span_of inode + 1) in
-    let new = mapping inode size inode.direct far in
+    let new = mapping inode size inode.direct far inode.double in
     let taken : HasTaken g base tree (b ∷ []) middle =
     rw c.in-Ok-Some.field-0-is at
     (c.in-Ok-Some.ensures.ok blocks base tree [] draft.shows (none_taken g base tree draft.holds)) in
@@ -48,7 +48,8 @@ returns-in-Ok-store_far-clause-ok c = λ blocks tree node name number draft grow
     let named : numbers ≡ names =
     c.in_ok-numbers-in-Ok-Some.ensures.made ∙ (λ i. spliced (old i) (place i) (four_bytes b)) in
     let size_is : c.size_with.result ≡ size = c.size_with.ensures ∙ ap (λ k. BLOCK_BYTES * (k + 1)) at in
-    let same : c.sized-same.result ≡ new = c.sized-same.ensures ∙ ap (λ k. mapping inode k inode.direct far) size_is in
+    let same : c.sized-same.result ≡ new =
+    c.sized-same.ensures ∙ ap (λ k. mapping inode k inode.direct far inode.double) size_is in
     let image = with_inode g (with_bytes (with_bytes middle far 0 names) b 0 block) n new in
     let written : with_inode c.take_block.new.draft.there.geometry
     (with_bytes (with_bytes middle far 0 numbers) b 0 c.args.bytes.items) n c.sized-same.result ≡ image =

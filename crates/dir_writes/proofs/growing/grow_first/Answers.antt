@@ -32,7 +32,7 @@ returns-in-Ok-clause-ok c = λ blocks tree node name number draft grows bytes_is
     let first = image_of blocks c.take_block.new.draft in
     let middle = image_of blocks c.take_block-2.new.draft in
     let size = BLOCK_BYTES * (span_of inode + 1) in
-    let new = mapping inode size inode.direct far in
+    let new = mapping inode size inode.direct far inode.double in
     let one : HasTaken g base tree (b ∷ []) first =
     rw c.in-Ok-Some.field-0-is at
     (c.in-Ok-Some.ensures.ok blocks base tree [] draft.shows (none_taken g base tree draft.holds)) in
@@ -49,7 +49,8 @@ returns-in-Ok-clause-ok c = λ blocks tree node name number draft grows bytes_is
     let named : numbers ≡ names =
     c.in_ok-numbers-in-Ok-Some-take_block.ensures.made ∙ (λ i. spliced (replicate BLOCK_BYTES 0) (place i) (four_bytes b)) in
     let size_is : c.size_with.result ≡ size = c.size_with.ensures ∙ ap (λ k. BLOCK_BYTES * (k + 1)) at in
-    let led : c.led_far-led.result ≡ new = c.led_far-led.ensures ∙ ap (λ k. mapping inode k inode.direct far) size_is in
+    let led : c.led_far-led.result ≡ new =
+    c.led_far-led.ensures ∙ ap (λ k. mapping inode k inode.direct far inode.double) size_is in
     let image = with_inode g (with_bytes (with_bytes middle far 0 names) b 0 block) n new in
     let written : with_inode c.take_block-2.new.draft.there.geometry
     (with_bytes (with_bytes middle far 0 numbers) b 0 c.args.bytes.items) n c.led_far-led.result ≡ image =

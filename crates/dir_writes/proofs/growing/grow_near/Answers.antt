@@ -25,14 +25,14 @@ returns-in-Ok-clause-ok c = λ blocks tree node name number draft grows bytes_is
     let base = image_of blocks c.args.draft.now in
     let middle = image_of blocks c.take_block.new.draft in
     let size = BLOCK_BYTES * (span_of inode + 1) in
-    let new = mapping inode size (set inode.direct (span_of inode) b) inode.indirect in
+    let new = mapping inode size (set inode.direct (span_of inode) b) inode.indirect inode.double in
     let taken : HasTaken g base tree (b ∷ []) middle =
     rw c.in-Ok-Some.field-0-is at
     (c.in-Ok-Some.ensures.ok blocks base tree [] draft.shows (none_taken g base tree draft.holds)) in
     let seen = c.in-Ok-Some.ensures.shows blocks draft.shows in
     let size_is : c.size_with.result ≡ size = c.size_with.ensures ∙ ap (λ k. BLOCK_BYTES * (k + 1)) at in
     let named : c.naming-named.result ≡ new =
-    c.naming-named.ensures ∙ (λ i. mapping inode (size_is i) (set inode.direct (at i) b) inode.indirect) in
+    c.naming-named.ensures ∙ (λ i. mapping inode (size_is i) (set inode.direct (at i) b) inode.indirect inode.double) in
     let image = with_inode g (with_bytes middle b 0 block) n new in
     let written : with_inode c.take_block.new.draft.there.geometry (with_bytes middle b 0 c.args.bytes.items) n
     c.naming-named.result ≡ image =

@@ -1,25 +1,31 @@
-use Rattle.std.proofs.Common.{rules, ◌≡◌, true, false, nat_eq, arith}
-use Rattle.file_writes.proofs.FilledUp.{far_added, first_added, near_added}
+use Rattle.std.proofs.Common.{◌≡◌, cond, nat_lt, inl, inr, ap, ℕ, arith}
+use Rattle.std.proofs.lemmas.Bool.{cases_lt, le-ltb, lt-ltb}
+use Rattle.limits.specs.declared.TheConstants.{FIRST_DOUBLE_INDEX}
+use Rattle.layout.specs.Parts.{content_in}
+use Rattle.file_writes.specs.Adding.{new_inner}
+use Rattle.file_writes.proofs.FilledUp.{double_added, near_added}
 use Rattle.file_writes.proofs.adding.unmapped_between.Goals as goal
 
-pub returns-then-last-lt-DIRECT_INDEXES-clause-ok : goal.returns-then-last-lt-DIRECT_INDEXES-clause-ok
-returns-then-last-lt-DIRECT_INDEXES-clause-ok c = λ blocks tree file has held.
-    near_added c.args.snap.now.geometry blocks tree file c.args.inode.now has c.args.first c.args.last
-    c.in-Ok.missing c.requires.order c.requires.within (c.in-Ok.ensures.ok blocks tree file held)
-    c.if-last-lt-DIRECT_INDEXES.true
-
-pub returns-then-inode-eq0-clause-ok : goal.returns-then-inode-eq0-clause-ok
-returns-then-inode-eq0-clause-ok c = λ blocks tree file has held.
-    let none : nat_eq c.args.inode.now.indirect 0 ≡ true = (let h = c.if-inode-eq0.true in search rules) in
-    let past = c.if-last-lt-DIRECT_INDEXES.false in
-    first_added c.args.snap.now.geometry blocks tree file c.args.inode.now has c.args.first c.args.last
-    c.in-Ok.missing c.requires.order c.requires.within (c.in-Ok.ensures.ok blocks tree file held)
-    (omega (arith, past)) none
-
-pub returns-clause-ok : goal.returns-clause-ok
-returns-clause-ok c = λ blocks tree file has held.
-    let some : nat_eq c.args.inode.now.indirect 0 ≡ false = (let h = c.if-inode-eq0.false in search rules) in
-    let past = c.if-last-lt-DIRECT_INDEXES.false in
-    far_added c.args.snap.now.geometry blocks tree file c.args.inode.now has c.args.first c.args.last
-    c.in-Ok.missing c.requires.order c.requires.within (c.in-Ok.ensures.ok blocks tree file held)
-    (omega (arith, past)) some
+pub returns-in-Ok-new_pointers-clause-ok : goal.returns-in-Ok-new_pointers-clause-ok
+returns-in-Ok-new_pointers-clause-ok c = λ blocks tree file has held.
+    let g = c.args.snap.now.geometry in
+    let inode = c.args.inode.now in
+    let first = c.args.first in
+    let last = c.args.last in
+    let missing = c.in-Ok.missing in
+    let pointers = c.in-Ok-new_pointers.ensures.ok blocks tree file held in
+    let sum = c.in-Ok.ensures.ok blocks tree file held in
+    let inner = new_inner (content_in g blocks) inode first last in
+    elim (cases_lt last FIRST_DOUBLE_INDEX) [
+      | inl low ↦
+          let none : ◌≡◌ {A = ℕ} (cond (nat_lt last FIRST_DOUBLE_INDEX) 0 inner) 0 =
+          ap (λ t. cond t 0 inner) (lt-ltb last FIRST_DOUBLE_INDEX low) in
+          let added = near_added g blocks tree file inode has first last missing c.requires.order c.requires.within low
+          sum in omega (arith, pointers, none, added)
+      | inr past ↦
+          let some : ◌≡◌ {A = ℕ} (cond (nat_lt last FIRST_DOUBLE_INDEX) 0 inner) inner =
+          ap (λ t. cond t 0 inner) (le-ltb last FIRST_DOUBLE_INDEX past) in
+          let added = double_added g blocks tree file inode has first last missing c.requires.order c.requires.within
+          past
+          sum in omega (arith, pointers, some, added)
+    ]

@@ -13,14 +13,14 @@ returns-in-Ok-clause-shows c =
     c.in-Ok.ensures.geometry (shows written (c.in-Ok.ensures.shows image is))) c.put_inode.ensures.shows
 
 pub returns-in-Ok-clause-once : goal.returns-in-Ok-clause-once
-returns-in-Ok-clause-once c = λ far.
-    let block = one_spent c.args.draft.now c.put_block.new.draft c.args.number far c.put_block.ensures.geometry
+returns-in-Ok-clause-once c = λ far double.
+    let block = one_spent c.args.draft.now c.put_block.new.draft c.args.number far double c.put_block.ensures.geometry
     c.put_block.ensures.stays c.put_block.ensures.spent in
-    let inode = inode_spent c.put_block.new.draft c.put_inode.new.self c.args.number far c.put_inode.ensures.geometry
-    c.put_inode.ensures.stays c.put_inode.ensures.once in
+    let inode = inode_spent c.put_block.new.draft c.put_inode.new.self c.args.number far double
+    c.put_inode.ensures.geometry c.put_inode.ensures.stays c.put_inode.ensures.once in
     omega (arith, block, inode)
 
 pub returns-in-Err-clause-once : goal.returns-in-Err-clause-once
-returns-in-Err-clause-once c = λ far.
-    one_spent c.args.draft.now c.put_block.new.draft c.args.number far c.put_block.ensures.geometry
+returns-in-Err-clause-once c = λ far double.
+    one_spent c.args.draft.now c.put_block.new.draft c.args.number far double c.put_block.ensures.geometry
     c.put_block.ensures.stays c.put_block.ensures.spent

@@ -2,7 +2,7 @@ use Rattle.std.proofs.Common.{subst, arith}
 use Rattle.std.proofs.lemmas.Result.{on_ok_weaker}
 use Rattle.layout.specs.Parts.{with_bytes, with_inode}
 use Rattle.drafts.specs.Drafted.{Shows}
-use Rattle.file_writes.proofs.Once.{far_spent}
+use Rattle.file_writes.proofs.Once.{far_spent, one_spent}
 use Rattle.file_writes.proofs.inodes.store_far.Goals as goal
 
 pub returns-in-Ok-clause-shows : goal.returns-in-Ok-clause-shows
@@ -14,14 +14,29 @@ returns-in-Ok-clause-shows c =
     c.in-Ok.ensures.geometry (shows named (c.in-Ok.ensures.shows image is))) c.store.ensures.shows
 
 pub returns-in-Ok-clause-once : goal.returns-in-Ok-clause-once
-returns-in-Ok-clause-once c =
-    let block = far_spent c.args.draft.now c.put_block.new.draft c.args.number c.args.far c.put_block.ensures.geometry
-    c.put_block.ensures.stays c.args.draft.now.there.geometry c.requires.far c.put_block.ensures.once in
-    let rest = c.store.ensures.once c.args.far in
+returns-in-Ok-clause-once c = λ double.
+    let block = far_spent c.args.draft.now c.put_block.new.draft c.args.number c.args.far double
+    c.put_block.ensures.geometry c.put_block.ensures.stays c.args.draft.now.there.geometry c.requires.far
+    c.put_block.ensures.once in
+    let rest = c.store.ensures.once c.args.far double in
     omega (arith, block, rest)
 
 pub returns-in-Err-clause-once : goal.returns-in-Err-clause-once
-returns-in-Err-clause-once c =
-    let block = far_spent c.args.draft.now c.put_block.new.draft c.args.number c.args.far c.put_block.ensures.geometry
-    c.put_block.ensures.stays c.args.draft.now.there.geometry c.requires.far c.put_block.ensures.once in
+returns-in-Err-clause-once c = λ double.
+    let block = far_spent c.args.draft.now c.put_block.new.draft c.args.number c.args.far double
+    c.put_block.ensures.geometry c.put_block.ensures.stays c.args.draft.now.there.geometry c.requires.far
+    c.put_block.ensures.once in
+    omega (arith, block)
+
+pub returns-in-Ok-clause-twice : goal.returns-in-Ok-clause-twice
+returns-in-Ok-clause-twice c = λ indirect double.
+    let block = one_spent c.args.draft.now c.put_block.new.draft c.args.number indirect double
+    c.put_block.ensures.geometry c.put_block.ensures.stays c.put_block.ensures.spent in
+    let rest = c.store.ensures.once indirect double in
+    omega (arith, block, rest)
+
+pub returns-in-Err-clause-twice : goal.returns-in-Err-clause-twice
+returns-in-Err-clause-twice c = λ indirect double.
+    let block = one_spent c.args.draft.now c.put_block.new.draft c.args.number indirect double
+    c.put_block.ensures.geometry c.put_block.ensures.stays c.put_block.ensures.spent in
     omega (arith, block)

@@ -1,5 +1,5 @@
 use Rattle.std.proofs.Common.{ℕ, ◌≡◌, ◌≤◌, ◌<◌, ◌*◌, ◌-◌, ◌/◌, [], ◌∷◌, List, length, sym, ap, ◌∙◌, subst, arith}
-use Rattle.limits.specs.declared.TheConstants.{BLOCK_BYTES, DIRECT_INDEXES}
+use Rattle.limits.specs.declared.TheConstants.{BLOCK_BYTES, DIRECT_INDEXES, FIRST_DOUBLE_INDEX}
 use Rattle.nfs_types.specs.Fits.{AreBytes}
 use Rattle.objects.specs.Spliced.{spliced}
 use Rattle.layout.specs.declared.geometry.Geometry.{Geometry}
@@ -36,7 +36,7 @@ returns-in-Ok-store_far-clause-ok c =
     λ done blocks tree offset piece draft write at none.
     let base = image_of blocks c.args.draft.now in
     let middle = image_of blocks c.take_block.new.draft in
-    let new = mapping inode size inode.direct far in
+    let new = mapping inode size inode.direct far inode.double in
     let taken : HasTaken g base tree (b ∷ []) middle =
     rw c.in-Ok-Some.field-0-is at
     (c.in-Ok-Some.ensures.ok blocks base tree [] draft.shows (none_taken g base tree draft.holds)) in
@@ -48,7 +48,8 @@ returns-in-Ok-store_far-clause-ok c =
     (over_of c.args.draft.now blocks tree draft))) in
     let place : 4 * (c.args.index - DIRECT_INDEXES) ≡ 4 * (offset / BLOCK_BYTES - DIRECT_INDEXES) =
     ap (λ k. 4 * (k - DIRECT_INDEXES)) at in
-    let old : c.deref.result.now ≡ content_in g base far = c.deref.ensures.value ∙ c.in_ok-old-in-Ok.ensures.items ∙ was in
+    let old : c.deref.result.now ≡ content_in g base far = c.deref.ensures.value ∙ c.in_ok-old-in-Ok.ensures.items
+    ∙ was in
     let named : numbers ≡ spliced (content_in g base far) (4 * (offset / BLOCK_BYTES - DIRECT_INDEXES)) (four_bytes b) =
     c.in_ok-numbers-in-Ok-Some.ensures.made ∙ (λ i. spliced (old i) (place i) (four_bytes b)) in
     let image = with_bytes (with_bytes middle far 0 numbers) b 0 bytes in
@@ -62,7 +63,7 @@ returns-in-Ok-store_far-clause-ok c =
     write.has.less write.has.regular c.sized-same.ensures
     (stored_far g base tree n inode offset piece bytes size write (b ∷ []) middle taken
     (λ q low. seen.long q (subst (λ (s : Geometry). q < s.blocks) (sym c.take_block.ensures.geometry) low))
-    c.requires.len b inode.direct far numbers
+    c.requires.len b inode.direct far inode.double far numbers
     (subst (λ (l : List ℕ). AreBytes l) (sym named)
     (named_are (content_in g base far) (4 * (offset / BLOCK_BYTES - DIRECT_INDEXES)) b
     (content_are g base tree draft.holds far c.requires.far)))
@@ -71,10 +72,12 @@ returns-in-Ok-store_far-clause-ok c =
     (long_content g base tree n inode write.has far)
     (let within = c.requires.within in let past = c.requires.past in omega (arith, at, within, past)))
     c.requires.far
-    (subst (λ l. Fills g base inode offset piece b inode.direct far (put (put (content_in g base) far l) b bytes)
-    (b ∷ [])) (sym named)
-    (block_named_far g base tree n inode (as_mapped g base tree n inode write.has) offset piece write.fits b bytes taken.were_free.0 none
-    write.bytes_are (subst (λ k. DIRECT_INDEXES ≤ k) at c.requires.past) (not_zero g far c.requires.far))))
+    (subst (λ l. Fills g base inode offset piece b inode.direct far inode.double
+    (put (put (content_in g base) far l) b bytes) (b ∷ [])) (sym named)
+    (block_named_far g base tree n inode (as_mapped g base tree n inode write.has) offset piece write.fits b bytes
+    taken.were_free.0 none
+    write.bytes_are (subst (λ k. DIRECT_INDEXES ≤ k) at c.requires.past)
+    (subst (λ k. k < FIRST_DOUBLE_INDEX) at c.requires.within) (not_zero g far c.requires.far))))
 
 pub returns-in-Ok-None-clause-room : goal.returns-in-Ok-None-clause-room
 returns-in-Ok-None-clause-room c = λ blocks tree draft room.
@@ -93,37 +96,39 @@ returns-clause-pause c = λ blocks tree draft less.
 pub returns-in-Ok-store_far-clause-once : goal.returns-in-Ok-store_far-clause-once
 returns-in-Ok-store_far-clause-once c =
     let taken = nothing_spent c.args.draft.now c.take_block.new.draft c.args.number c.args.inode.now.indirect
-    c.take_block.ensures.geometry c.take_block.ensures.stays c.take_block.ensures.spent in
-    let once = c.store_far.ensures.once in
-    let same : ◌≡◌ {A = ℕ} (unspent c.store_far.new.draft c.args.number c.sized-same.result.indirect)
-    (unspent c.store_far.new.draft c.args.number c.args.inode.now.indirect) =
-    ap (λ (one : Inode). unspent c.store_far.new.draft c.args.number one.indirect) c.sized-same.ensures in
+    c.args.inode.now.double c.take_block.ensures.geometry c.take_block.ensures.stays c.take_block.ensures.spent in
+    let once = c.store_far.ensures.once c.args.inode.now.double in
+    let same : ◌≡◌ {A = ℕ} (unspent c.store_far.new.draft c.args.number c.sized-same.result.indirect
+    c.sized-same.result.double)
+    (unspent c.store_far.new.draft c.args.number c.args.inode.now.indirect c.args.inode.now.double) =
+    ap (λ (one : Inode). unspent c.store_far.new.draft c.args.number one.indirect one.double) c.sized-same.ensures in
     omega (arith, taken, once, same)
 
 pub returns-in-Ok-Some-clause-once : goal.returns-in-Ok-Some-clause-once
 returns-in-Ok-Some-clause-once c =
     let taken = nothing_spent c.args.draft.now c.take_block.new.draft c.args.number c.args.inode.now.indirect
-    c.take_block.ensures.geometry c.take_block.ensures.stays c.take_block.ensures.spent in
-    let once = c.store_far.ensures.once in
-    let same : ◌≡◌ {A = ℕ} (unspent c.store_far.new.draft c.args.number c.sized-same.result.indirect)
-    (unspent c.store_far.new.draft c.args.number c.args.inode.now.indirect) =
-    ap (λ (one : Inode). unspent c.store_far.new.draft c.args.number one.indirect) c.sized-same.ensures in
+    c.args.inode.now.double c.take_block.ensures.geometry c.take_block.ensures.stays c.take_block.ensures.spent in
+    let once = c.store_far.ensures.once c.args.inode.now.double in
+    let same : ◌≡◌ {A = ℕ} (unspent c.store_far.new.draft c.args.number c.sized-same.result.indirect
+    c.sized-same.result.double)
+    (unspent c.store_far.new.draft c.args.number c.args.inode.now.indirect c.args.inode.now.double) =
+    ap (λ (one : Inode). unspent c.store_far.new.draft c.args.number one.indirect one.double) c.sized-same.ensures in
     omega (arith, taken, once, same)
 
 pub returns-in-Ok-None-clause-once : goal.returns-in-Ok-None-clause-once
 returns-in-Ok-None-clause-once c =
     let taken = nothing_spent c.args.draft.now c.take_block.new.draft c.args.number c.args.inode.now.indirect
-    c.take_block.ensures.geometry c.take_block.ensures.stays c.take_block.ensures.spent in
+    c.args.inode.now.double c.take_block.ensures.geometry c.take_block.ensures.stays c.take_block.ensures.spent in
     omega (arith, taken)
 
 pub returns-clause-once : goal.returns-clause-once
 returns-clause-once c =
     let taken = nothing_spent c.args.draft.now c.take_block.new.draft c.args.number c.args.inode.now.indirect
-    c.take_block.ensures.geometry c.take_block.ensures.stays c.take_block.ensures.spent in
+    c.args.inode.now.double c.take_block.ensures.geometry c.take_block.ensures.stays c.take_block.ensures.spent in
     omega (arith, taken)
 
 pub returns-in_err-numbers-in-Ok-Some-clause-once : goal.returns-in_err-numbers-in-Ok-Some-clause-once
 returns-in_err-numbers-in-Ok-Some-clause-once c =
     let taken = nothing_spent c.args.draft.now c.take_block.new.draft c.args.number c.args.inode.now.indirect
-    c.take_block.ensures.geometry c.take_block.ensures.stays c.take_block.ensures.spent in
+    c.args.inode.now.double c.take_block.ensures.geometry c.take_block.ensures.stays c.take_block.ensures.spent in
     omega (arith, taken)

@@ -1,6 +1,7 @@
-use Rattle.std.proofs.Common.{refl, ℕ, ◌≡◌, ◌≤◌, ◌<◌, ◌*◌, ◌-◌, ◌/◌, [], ◌∷◌, List, length, replicate, sym, ap, ◌∙◌, subst}
+use Rattle.std.proofs.Common.{refl, ℕ, ◌≡◌, ◌≤◌, ◌<◌, ◌*◌, ◌-◌, ◌/◌, [], ◌∷◌, List}
+use Rattle.std.proofs.Common.{length, replicate, sym, ap, ◌∙◌, subst}
 use Rattle.std.proofs.Common.{arith}
-use Rattle.limits.specs.declared.TheConstants.{BLOCK_BYTES, DIRECT_INDEXES}
+use Rattle.limits.specs.declared.TheConstants.{BLOCK_BYTES, DIRECT_INDEXES, FIRST_DOUBLE_INDEX}
 use Rattle.nfs_types.specs.Fits.{AreBytes}
 use Rattle.objects.specs.Spliced.{spliced}
 use Rattle.layout.specs.declared.geometry.Geometry.{Geometry}
@@ -50,7 +51,7 @@ returns-in-Ok-clause-ok c =
     let base = image_of blocks c.args.draft.now in
     let first = image_of blocks c.take_block.new.draft in
     let middle = image_of blocks c.take_block-2.new.draft in
-    let new = mapping inode size inode.direct far in
+    let new = mapping inode size inode.direct far inode.double in
     let one : HasTaken g base tree (b ∷ []) first =
     rw c.in-Ok-Some.field-0-is at
     (c.in-Ok-Some.ensures.ok blocks base tree [] draft.shows (none_taken g base tree draft.holds)) in
@@ -63,8 +64,10 @@ returns-in-Ok-clause-ok c =
     let seen = c.in-Ok-Some-take_block.ensures.shows blocks shown in
     let place : 4 * (c.args.index - DIRECT_INDEXES) ≡ 4 * (offset / BLOCK_BYTES - DIRECT_INDEXES) =
     ap (λ k. 4 * (k - DIRECT_INDEXES)) at in
-    let named : numbers ≡ spliced (replicate BLOCK_BYTES 0) (4 * (offset / BLOCK_BYTES - DIRECT_INDEXES)) (four_bytes b) =
-    c.in_ok-numbers-in-Ok-Some-take_block.ensures.made ∙ (λ i. spliced (replicate BLOCK_BYTES 0) (place i) (four_bytes b)) in
+    let named : numbers ≡ spliced (replicate BLOCK_BYTES 0) (4 * (offset / BLOCK_BYTES - DIRECT_INDEXES)) (four_bytes
+    b) =
+    c.in_ok-numbers-in-Ok-Some-take_block.ensures.made ∙ (λ i. spliced (replicate BLOCK_BYTES 0) (place i) (four_bytes
+    b)) in
     let image = with_bytes (with_bytes middle far 0 numbers) b 0 bytes in
     let written : with_inode c.take_block-2.new.draft.there.geometry image n c.led_far-led.result
     ≡ with_inode g image n new =
@@ -76,17 +79,19 @@ returns-in-Ok-clause-ok c =
     write.has.less write.has.regular c.led_far-led.ensures
     (stored_far g base tree n inode offset piece bytes size write (far ∷ b ∷ []) middle taken
     (λ q low. seen.long q (subst (λ (s : Geometry). q < s.blocks) (sym geometry) low))
-    c.requires.len b inode.direct far numbers
+    c.requires.len b inode.direct far inode.double far numbers
     (subst (λ (l : List ℕ). AreBytes l) (sym named)
     (named_are (replicate BLOCK_BYTES 0) (4 * (offset / BLOCK_BYTES - DIRECT_INDEXES)) b zeros_are))
     (ap (λ (l : List ℕ). length l) named
     ∙ named_count (replicate BLOCK_BYTES 0) (offset / BLOCK_BYTES - DIRECT_INDEXES) b refl
     (let within = c.requires.within in let past = c.requires.past in omega (arith, at, within, past)))
     taken.were_free.0.lies
-    (subst (λ l. Fills g base inode offset piece b inode.direct far (put (put (content_in g base) far l) b bytes)
-    (far ∷ b ∷ [])) (sym named)
-    (block_named_first g base tree n inode (as_mapped g base tree n inode write.has) offset piece write.fits b bytes taken.were_free.1.0 none
-    write.bytes_are (subst (λ k. DIRECT_INDEXES ≤ k) at c.requires.past) c.requires.none far
+    (subst (λ l. Fills g base inode offset piece b inode.direct far inode.double
+    (put (put (content_in g base) far l) b bytes) (far ∷ b ∷ [])) (sym named)
+    (block_named_first g base tree n inode (as_mapped g base tree n inode write.has) offset piece write.fits b bytes
+    taken.were_free.1.0 none
+    write.bytes_are (subst (λ k. DIRECT_INDEXES ≤ k) at c.requires.past)
+    (subst (λ k. k < FIRST_DOUBLE_INDEX) at c.requires.within) c.requires.none far
     taken.were_free.0 taken.once)))
 
 pub returns-in-Ok-None-take_block-clause-room : goal.returns-in-Ok-None-take_block-clause-room
@@ -118,63 +123,68 @@ returns-in-Err-take_block-clause-pause c = λ blocks tree draft less.
 pub returns-in-Ok-clause-once : goal.returns-in-Ok-clause-once
 returns-in-Ok-clause-once c =
     let first = nothing_spent c.args.draft.now c.take_block.new.draft c.args.number c.args.inode.now.indirect
-    c.take_block.ensures.geometry c.take_block.ensures.stays c.take_block.ensures.spent in
+    c.args.inode.now.double c.take_block.ensures.geometry c.take_block.ensures.stays c.take_block.ensures.spent in
     let second = nothing_spent c.take_block.new.draft c.take_block-2.new.draft c.args.number c.args.inode.now.indirect
-    c.take_block-2.ensures.geometry c.take_block-2.ensures.stays c.take_block-2.ensures.spent in
+    c.args.inode.now.double c.take_block-2.ensures.geometry c.take_block-2.ensures.stays c.take_block-2.ensures.spent in
     let far = c.in-Ok-Some-take_block.far in
-    let new = unspent_first c.take_block-2.new.draft c.args.number far c.args.inode.now.indirect c.requires.none in
-    let once = c.store_far.ensures.once in
-    let same : ◌≡◌ {A = ℕ} (unspent c.store_far.new.draft c.args.number c.led_far-led.result.indirect)
-    (unspent c.store_far.new.draft c.args.number far) =
-    ap (λ (one : Inode). unspent c.store_far.new.draft c.args.number one.indirect) c.led_far-led.ensures in
+    let new = unspent_first c.take_block-2.new.draft c.args.number far c.args.inode.now.indirect
+    c.args.inode.now.double c.requires.none in
+    let once = c.store_far.ensures.once c.args.inode.now.double in
+    let same : ◌≡◌ {A = ℕ} (unspent c.store_far.new.draft c.args.number c.led_far-led.result.indirect
+    c.led_far-led.result.double)
+    (unspent c.store_far.new.draft c.args.number far c.args.inode.now.double) =
+    ap (λ (one : Inode). unspent c.store_far.new.draft c.args.number one.indirect one.double) c.led_far-led.ensures in
     omega (arith, first, second, new, once, same)
 
 pub returns-in-Err-store_far-clause-once : goal.returns-in-Err-store_far-clause-once
 returns-in-Err-store_far-clause-once c =
     let first = nothing_spent c.args.draft.now c.take_block.new.draft c.args.number c.args.inode.now.indirect
-    c.take_block.ensures.geometry c.take_block.ensures.stays c.take_block.ensures.spent in
+    c.args.inode.now.double c.take_block.ensures.geometry c.take_block.ensures.stays c.take_block.ensures.spent in
     let second = nothing_spent c.take_block.new.draft c.take_block-2.new.draft c.args.number c.args.inode.now.indirect
-    c.take_block-2.ensures.geometry c.take_block-2.ensures.stays c.take_block-2.ensures.spent in
+    c.args.inode.now.double c.take_block-2.ensures.geometry c.take_block-2.ensures.stays c.take_block-2.ensures.spent in
     let far = c.in-Ok-Some-take_block.far in
-    let new = unspent_first c.take_block-2.new.draft c.args.number far c.args.inode.now.indirect c.requires.none in
-    let once = c.store_far.ensures.once in
-    let same : ◌≡◌ {A = ℕ} (unspent c.store_far.new.draft c.args.number c.led_far-led.result.indirect)
-    (unspent c.store_far.new.draft c.args.number far) =
-    ap (λ (one : Inode). unspent c.store_far.new.draft c.args.number one.indirect) c.led_far-led.ensures in
+    let new = unspent_first c.take_block-2.new.draft c.args.number far c.args.inode.now.indirect
+    c.args.inode.now.double c.requires.none in
+    let once = c.store_far.ensures.once c.args.inode.now.double in
+    let same : ◌≡◌ {A = ℕ} (unspent c.store_far.new.draft c.args.number c.led_far-led.result.indirect
+    c.led_far-led.result.double)
+    (unspent c.store_far.new.draft c.args.number far c.args.inode.now.double) =
+    ap (λ (one : Inode). unspent c.store_far.new.draft c.args.number one.indirect one.double) c.led_far-led.ensures in
     omega (arith, first, second, new, once, same)
 
 pub returns-in-Ok-None-clause-once : goal.returns-in-Ok-None-clause-once
 returns-in-Ok-None-clause-once c =
     let first = nothing_spent c.args.draft.now c.take_block.new.draft c.args.number c.args.inode.now.indirect
-    c.take_block.ensures.geometry c.take_block.ensures.stays c.take_block.ensures.spent in
+    c.args.inode.now.double c.take_block.ensures.geometry c.take_block.ensures.stays c.take_block.ensures.spent in
     omega (arith, first)
 
 pub returns-in-Err-clause-once : goal.returns-in-Err-clause-once
 returns-in-Err-clause-once c =
     let first = nothing_spent c.args.draft.now c.take_block.new.draft c.args.number c.args.inode.now.indirect
-    c.take_block.ensures.geometry c.take_block.ensures.stays c.take_block.ensures.spent in
+    c.args.inode.now.double c.take_block.ensures.geometry c.take_block.ensures.stays c.take_block.ensures.spent in
     omega (arith, first)
 
 pub returns-in-Ok-None-take_block-clause-once : goal.returns-in-Ok-None-take_block-clause-once
 returns-in-Ok-None-take_block-clause-once c =
     let first = nothing_spent c.args.draft.now c.take_block.new.draft c.args.number c.args.inode.now.indirect
-    c.take_block.ensures.geometry c.take_block.ensures.stays c.take_block.ensures.spent in
+    c.args.inode.now.double c.take_block.ensures.geometry c.take_block.ensures.stays c.take_block.ensures.spent in
     let second = nothing_spent c.take_block.new.draft c.take_block-2.new.draft c.args.number c.args.inode.now.indirect
-    c.take_block-2.ensures.geometry c.take_block-2.ensures.stays c.take_block-2.ensures.spent in
+    c.args.inode.now.double c.take_block-2.ensures.geometry c.take_block-2.ensures.stays c.take_block-2.ensures.spent in
     omega (arith, first, second)
 
 pub returns-in-Err-take_block-clause-once : goal.returns-in-Err-take_block-clause-once
 returns-in-Err-take_block-clause-once c =
     let first = nothing_spent c.args.draft.now c.take_block.new.draft c.args.number c.args.inode.now.indirect
-    c.take_block.ensures.geometry c.take_block.ensures.stays c.take_block.ensures.spent in
+    c.args.inode.now.double c.take_block.ensures.geometry c.take_block.ensures.stays c.take_block.ensures.spent in
     let second = nothing_spent c.take_block.new.draft c.take_block-2.new.draft c.args.number c.args.inode.now.indirect
-    c.take_block-2.ensures.geometry c.take_block-2.ensures.stays c.take_block-2.ensures.spent in
+    c.args.inode.now.double c.take_block-2.ensures.geometry c.take_block-2.ensures.stays c.take_block-2.ensures.spent in
     omega (arith, first, second)
 
-pub returns-in_err-numbers-in-Ok-Some-take_block-clause-once : goal.returns-in_err-numbers-in-Ok-Some-take_block-clause-once
+pub returns-in_err-numbers-in-Ok-Some-take_block-clause-once :
+    goal.returns-in_err-numbers-in-Ok-Some-take_block-clause-once
 returns-in_err-numbers-in-Ok-Some-take_block-clause-once c =
     let first = nothing_spent c.args.draft.now c.take_block.new.draft c.args.number c.args.inode.now.indirect
-    c.take_block.ensures.geometry c.take_block.ensures.stays c.take_block.ensures.spent in
+    c.args.inode.now.double c.take_block.ensures.geometry c.take_block.ensures.stays c.take_block.ensures.spent in
     let second = nothing_spent c.take_block.new.draft c.take_block-2.new.draft c.args.number c.args.inode.now.indirect
-    c.take_block-2.ensures.geometry c.take_block-2.ensures.stays c.take_block-2.ensures.spent in
+    c.args.inode.now.double c.take_block-2.ensures.geometry c.take_block-2.ensures.stays c.take_block-2.ensures.spent in
     omega (arith, first, second)

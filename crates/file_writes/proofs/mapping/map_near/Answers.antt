@@ -27,13 +27,13 @@ returns-in-Ok-clause-ok c =
     let base = image_of blocks c.args.draft.now in
     let middle = image_of blocks c.take_block.new.draft in
     let direct = set inode.direct (offset / BLOCK_BYTES) b in
-    let new = mapping inode size direct inode.indirect in
+    let new = mapping inode size direct inode.indirect inode.double in
     let taken : HasTaken g base tree (b ∷ []) middle =
     rw c.in-Ok-Some.field-0-is at
     (c.in-Ok-Some.ensures.ok blocks base tree [] draft.shows (none_taken g base tree draft.holds)) in
     let seen = c.in-Ok-Some.ensures.shows blocks draft.shows in
     let named : c.naming-named.result ≡ new =
-    c.naming-named.ensures ∙ ap (λ k. mapping inode size (set inode.direct k b) inode.indirect) at in
+    c.naming-named.ensures ∙ ap (λ k. mapping inode size (set inode.direct k b) inode.indirect inode.double) at in
     let written : with_inode c.take_block.new.draft.there.geometry (with_bytes middle b 0 bytes) n c.naming-named.result
     ≡ with_inode g (with_bytes middle b 0 bytes) n new =
     λ i. with_inode (c.take_block.ensures.geometry i) (with_bytes middle b 0 bytes) n (named i) in
@@ -44,8 +44,9 @@ returns-in-Ok-clause-ok c =
     write.has.less write.has.regular named
     (stored g base tree n inode offset piece bytes size write (b ∷ []) middle taken
     (λ q low. seen.long q (subst (λ (s : Geometry). q < s.blocks) (sym c.take_block.ensures.geometry) low))
-    c.requires.len b direct inode.indirect
-    (block_named g base tree n inode (as_mapped g base tree n inode write.has) offset piece write.fits b bytes taken.were_free.0 none
+    c.requires.len b direct inode.indirect inode.double
+    (block_named g base tree n inode (as_mapped g base tree n inode write.has) offset piece write.fits b bytes
+    taken.were_free.0 none
     write.bytes_are (subst (λ k. k < DIRECT_INDEXES) at c.requires.near)))
 
 pub returns-in-Ok-None-clause-room : goal.returns-in-Ok-None-clause-room
@@ -65,31 +66,33 @@ returns-in-Err-clause-pause c = λ blocks tree draft less.
 pub returns-in-Ok-clause-once : goal.returns-in-Ok-clause-once
 returns-in-Ok-clause-once c =
     let taken = nothing_spent c.args.draft.now c.take_block.new.draft c.args.number c.args.inode.now.indirect
-    c.take_block.ensures.geometry c.take_block.ensures.stays c.take_block.ensures.spent in
-    let once = c.store.ensures.once c.args.inode.now.indirect in
-    let same : ◌≡◌ {A = ℕ} (unspent c.store.new.draft c.args.number c.naming-named.result.indirect)
-    (unspent c.store.new.draft c.args.number c.args.inode.now.indirect) =
-    ap (λ (one : Inode). unspent c.store.new.draft c.args.number one.indirect) c.naming-named.ensures in
+    c.args.inode.now.double c.take_block.ensures.geometry c.take_block.ensures.stays c.take_block.ensures.spent in
+    let once = c.store.ensures.once c.args.inode.now.indirect c.args.inode.now.double in
+    let same : ◌≡◌ {A = ℕ} (unspent c.store.new.draft c.args.number c.naming-named.result.indirect
+    c.naming-named.result.double)
+    (unspent c.store.new.draft c.args.number c.args.inode.now.indirect c.args.inode.now.double) =
+    ap (λ (one : Inode). unspent c.store.new.draft c.args.number one.indirect one.double) c.naming-named.ensures in
     omega (arith, taken, once, same)
 
 pub returns-in-Err-store-clause-once : goal.returns-in-Err-store-clause-once
 returns-in-Err-store-clause-once c =
     let taken = nothing_spent c.args.draft.now c.take_block.new.draft c.args.number c.args.inode.now.indirect
-    c.take_block.ensures.geometry c.take_block.ensures.stays c.take_block.ensures.spent in
-    let once = c.store.ensures.once c.args.inode.now.indirect in
-    let same : ◌≡◌ {A = ℕ} (unspent c.store.new.draft c.args.number c.naming-named.result.indirect)
-    (unspent c.store.new.draft c.args.number c.args.inode.now.indirect) =
-    ap (λ (one : Inode). unspent c.store.new.draft c.args.number one.indirect) c.naming-named.ensures in
+    c.args.inode.now.double c.take_block.ensures.geometry c.take_block.ensures.stays c.take_block.ensures.spent in
+    let once = c.store.ensures.once c.args.inode.now.indirect c.args.inode.now.double in
+    let same : ◌≡◌ {A = ℕ} (unspent c.store.new.draft c.args.number c.naming-named.result.indirect
+    c.naming-named.result.double)
+    (unspent c.store.new.draft c.args.number c.args.inode.now.indirect c.args.inode.now.double) =
+    ap (λ (one : Inode). unspent c.store.new.draft c.args.number one.indirect one.double) c.naming-named.ensures in
     omega (arith, taken, once, same)
 
 pub returns-in-Ok-None-clause-once : goal.returns-in-Ok-None-clause-once
 returns-in-Ok-None-clause-once c =
     let taken = nothing_spent c.args.draft.now c.take_block.new.draft c.args.number c.args.inode.now.indirect
-    c.take_block.ensures.geometry c.take_block.ensures.stays c.take_block.ensures.spent in
+    c.args.inode.now.double c.take_block.ensures.geometry c.take_block.ensures.stays c.take_block.ensures.spent in
     omega (arith, taken)
 
 pub returns-in-Err-clause-once : goal.returns-in-Err-clause-once
 returns-in-Err-clause-once c =
     let taken = nothing_spent c.args.draft.now c.take_block.new.draft c.args.number c.args.inode.now.indirect
-    c.take_block.ensures.geometry c.take_block.ensures.stays c.take_block.ensures.spent in
+    c.args.inode.now.double c.take_block.ensures.geometry c.take_block.ensures.stays c.take_block.ensures.spent in
     omega (arith, taken)

@@ -23,23 +23,26 @@ returns-clause-ok c =
     let size = c.args.size in
     both_ok c.store.result (λ shows images blocks tree offset piece draft write at.
     let base = image_of blocks c.args.draft.now in
-    let new = mapping inode size inode.direct inode.indirect in
+    let new = mapping inode size inode.direct inode.indirect inode.double in
     let written : with_inode g (with_bytes base b 0 bytes) n c.sized-same.result
     ≡ with_inode g (with_bytes base b 0 bytes) n new =
     λ i. with_inode g (with_bytes base b 0 bytes) n (c.sized-same.ensures i) in
     moved_piece c.args.draft.now c.store.new.draft blocks (with_inode g (with_bytes base b 0 bytes) n new) tree n
     inode new c.sized-same.result offset piece c.store.ensures.geometry (images blocks ∙ written)
-    (subst (Shows c.store.new.draft) written (shows base draft.shows)) write.has.less write.has.regular c.sized-same.ensures
+    (subst (Shows c.store.new.draft) written (shows base draft.shows)) write.has.less write.has.regular
+    c.sized-same.ensures
     (stored g base tree n inode offset piece bytes size write [] base (none_taken g base tree draft.holds)
-    draft.shows.long c.requires.len b inode.direct inode.indirect
-    (block_there g base tree n inode (as_mapped g base tree n inode write.has) offset piece write.fits b bytes at (not_zero g b c.requires.lies)
+    draft.shows.long c.requires.len b inode.direct inode.indirect inode.double
+    (block_there g base tree n inode (as_mapped g base tree n inode write.has) offset piece write.fits b bytes at
+    (not_zero g b c.requires.lies)
     write.bytes_are)))
     c.store.ensures.shows c.store.ensures.image
 
 pub returns-clause-once : goal.returns-clause-once
 returns-clause-once c =
-    let once = c.store.ensures.once c.args.inode.now.indirect in
-    let same : ◌≡◌ {A = ℕ} (unspent c.store.new.draft c.args.number c.sized-same.result.indirect)
-    (unspent c.store.new.draft c.args.number c.args.inode.now.indirect) =
-    ap (λ (one : Inode). unspent c.store.new.draft c.args.number one.indirect) c.sized-same.ensures in
+    let once = c.store.ensures.once c.args.inode.now.indirect c.args.inode.now.double in
+    let same : ◌≡◌ {A = ℕ} (unspent c.store.new.draft c.args.number c.sized-same.result.indirect
+    c.sized-same.result.double)
+    (unspent c.store.new.draft c.args.number c.args.inode.now.indirect c.args.inode.now.double) =
+    ap (λ (one : Inode). unspent c.store.new.draft c.args.number one.indirect one.double) c.sized-same.ensures in
     omega (arith, once, same)

@@ -20,7 +20,7 @@ use Rattle.drafts.proofs.PutThere.{over_of}
 use Rattle.bitmap.proofs.OfResults.{mapped}
 use Rattle.file_writes.specs.Filling.{HasRegular}
 use Rattle.file_writes.specs.Written.{IsWrite}
-use Rattle.file_writes.proofs.Whole.{far_placed, filled_are, has_inode, piece_text, regular_node_is, regular_of}
+use Rattle.file_writes.proofs.Whole.{filled_are, has_inode, piece_text, regular_node_is, regular_of}
 use Rattle.file_writes.proofs.pieces.write_piece.Goals as goal
 
 -- what is to be written
@@ -95,7 +95,7 @@ returns-in-Ok-filled-clause-room c =
 pub returns-in-Ok-filled-clause-pause : goal.returns-in-Ok-filled-clause-pause
 returns-in-Ok-filled-clause-pause c =
     IfErr-weaker c.place.result _ _ (λ why pauses blocks tree draft names.
-    pauses blocks tree draft names.less
-    (far_placed c.args.draft.now.there.geometry (image_of blocks c.args.draft.now) tree c.args.number
-    c.args.inode.now (regular_of c.args.draft.now blocks tree c.args.number c.args.inode.now draft names)))
+    pauses blocks tree draft
+    (has_inode c.args.draft.now blocks tree c.args.number c.args.inode.now draft
+    (regular_of c.args.draft.now blocks tree c.args.number c.args.inode.now draft names)))
     c.place.ensures.pause

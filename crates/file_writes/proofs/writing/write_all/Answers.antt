@@ -54,7 +54,7 @@ pieces-preserved c =
     let border = c.pieces.invariant.2 low in
     let within = c.piece_len-len.ensures.within in
     let whole = c.piece_len-len.ensures.whole in
-    let spends = c.in-Ok-true-write_piece.ensures.once in
+    let spends = c.in-Ok-true-write_piece.ensures.twice in
     let spent = c.pieces.invariant.5 in (
       omega (arith, some),
       omega (arith, most, low),
@@ -67,7 +67,8 @@ pieces-preserved c =
             one_more offset done len text some more (omega (arith, most, low)) border tree n c.pieces.draft
                 c.write_piece-in-pieces.new.draft blocks had
                 (subst (λ k. WritesText c.write_piece-in-pieces.new.draft blocks
-                (with_node tree n (rewritten offset (take done text) had.node)) n (offset + done) (take k (drop done text)))
+                (with_node tree n (rewritten offset (take done text) had.node)) n (offset + done) (take k (drop done
+                text)))
                 (part_len done len) has.0),
             has.1,
           ),
@@ -77,18 +78,21 @@ pieces-preserved c =
 
 pub returns-in-Ok-false-clause-spent : goal.returns-in-Ok-false-clause-spent
 returns-in-Ok-false-clause-spent c = λ few.
-    let most = unspent_few c.args.draft.now c.args.number c.args.inode.now.indirect in
-    let once = c.write_piece.ensures.once in omega (arith, most, once)
+    let most = unspent_few c.args.draft.now c.args.number c.args.inode.now.indirect
+    c.args.inode.now.double in
+    let once = c.write_piece.ensures.twice in omega (arith, most, once)
 
 pub returns-in-Err-clause-spent : goal.returns-in-Err-clause-spent
 returns-in-Err-clause-spent c = λ few.
-    let most = unspent_few c.args.draft.now c.args.number c.args.inode.now.indirect in
-    let once = c.write_piece.ensures.once in omega (arith, most, once)
+    let most = unspent_few c.args.draft.now c.args.number c.args.inode.now.indirect
+    c.args.inode.now.double in
+    let once = c.write_piece.ensures.twice in omega (arith, most, once)
 
 pub returns-in-Ok-false-write_piece-clause-spent : goal.returns-in-Ok-false-write_piece-clause-spent
 returns-in-Ok-false-write_piece-clause-spent c = λ few.
-    let most = unspent_few c.args.draft.now c.args.number c.args.inode.now.indirect in
-    let once = c.write_piece-in-pieces.ensures.once in
+    let most = unspent_few c.args.draft.now c.args.number c.args.inode.now.indirect
+    c.args.inode.now.double in
+    let once = c.write_piece-in-pieces.ensures.twice in
     let spent = c.pieces.invariant.5 in
     let some = c.pieces.invariant.0 in
     let low = c.pieces-test.true in
@@ -96,8 +100,9 @@ returns-in-Ok-false-write_piece-clause-spent c = λ few.
 
 pub returns-in-Err-write_piece-clause-spent : goal.returns-in-Err-write_piece-clause-spent
 returns-in-Err-write_piece-clause-spent c = λ few.
-    let most = unspent_few c.args.draft.now c.args.number c.args.inode.now.indirect in
-    let once = c.write_piece-in-pieces.ensures.once in
+    let most = unspent_few c.args.draft.now c.args.number c.args.inode.now.indirect
+    c.args.inode.now.double in
+    let once = c.write_piece-in-pieces.ensures.twice in
     let spent = c.pieces.invariant.5 in
     let some = c.pieces.invariant.0 in
     let low = c.pieces-test.true in
@@ -105,7 +110,8 @@ returns-in-Err-write_piece-clause-spent c = λ few.
 
 pub returns-clause-spent : goal.returns-clause-spent
 returns-clause-spent c = λ few.
-    let most = unspent_few c.args.draft.now c.args.number c.args.inode.now.indirect in
+    let most = unspent_few c.args.draft.now c.args.number c.args.inode.now.indirect
+    c.args.inode.now.double in
     let spent = c.pieces.invariant.5 in
     let some = c.pieces.invariant.0 in
     let within = c.pieces.invariant.1 in omega (arith, most, spent, some, within, few)

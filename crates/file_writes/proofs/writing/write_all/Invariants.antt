@@ -1,5 +1,5 @@
 -- the bytes so far are written, up to a border of blocks or to the last
-use Rattle.std.proofs.Common.{◌≡◌, ◌+◌, ◌-◌, ◌/◌, ◌%◌, ◌<◌, ◌≤◌, length, take}
+use Rattle.std.proofs.Common.{◌≡◌, ◌+◌, ◌-◌, ◌*◌, ◌/◌, ◌%◌, ◌<◌, ◌≤◌, length, take}
 use Rattle.limits.specs.declared.TheConstants.{BLOCK_BYTES}
 use Rattle.disk.specs.Crash.{Image}
 use Rattle.model.specs.Tree.{Tree}
@@ -16,9 +16,9 @@ invariant-pieces l =
     → WritesText l.draft blocks tree l.number l.offset (take l.done l.text)
     × NamesRegular l.draft blocks l.number l.file)
     × (l.draft.seen ≡ l.fn.draft.seen)
-    × (spent l.draft + unspent l.draft l.number l.file.indirect
-    ≤ spent l.fn.draft + unspent l.fn.draft l.number l.inode.indirect
-    + ((l.offset + l.done - 1) / BLOCK_BYTES - l.offset / BLOCK_BYTES + 1))
+    × (spent l.draft + unspent l.draft l.number l.file.indirect l.file.double
+    ≤ spent l.fn.draft + unspent l.fn.draft l.number l.inode.indirect l.inode.double
+    + 2 * ((l.offset + l.done - 1) / BLOCK_BYTES - l.offset / BLOCK_BYTES + 1))
 
 abbrev pub decreases-pieces : goal.decreases-pieces
 decreases-pieces l = length l.text - l.done

@@ -1,11 +1,7 @@
 use Rattle.std.proofs.Common.{◌≡◌, sym, ap, ◌∙◌, true, false}
 use Rattle.layout.specs.InodeForm.{is_data_block_or_none}
-use Rattle.inode.proofs.Placed.{indirect_placed, placed_at}
+use Rattle.inode.proofs.Placed.{placed_at}
 use Rattle.inode.proofs.map.block_number.Goals as goal
-
-pub returns-in-Err-clause-pause : goal.returns-in-Err-clause-pause
-returns-in-Err-clause-pause c = λ blocks tree file has.
-    c.in-Err.ensures.pause (indirect_placed c.args.snap.now blocks tree file c.args.inode.now has)
 
 pub returns-else-is_data_or_none-clause-pause : goal.returns-else-is_data_or_none-clause-pause
 returns-else-is_data_or_none-clause-pause c = λ blocks tree file has.

@@ -1,46 +1,49 @@
-use Rattle.std.proofs.Common.{◌≡◌, ap, ◌∙◌, ◌∷◌, filter, take, arith}
-use Rattle.std.proofs.lemmas.Bool.{eq-eqb}
-use Rattle.std.proofs.lemmas.List.{take_all}
-use Rattle.limits.specs.declared.TheConstants.{DIRECT_INDEXES}
-use Rattle.layout.specs.Decode.{numbers_of}
+use Rattle.std.proofs.Common.{ap, sym, ◌∙◌, ◌++◌, ◌∷◌, ℕ, List, filter, nat_eq, rules}
+use Rattle.std.specs.List.{flat_map, list_all}
+use Rattle.layout.specs.Decode.{numbers_in}
+use Rattle.layout.specs.InodeForm.{is_data_block_or_none}
 use Rattle.layout.specs.Parts.{content_in}
-use Rattle.layout.proofs.AllNumbers.{all-length}
-use Rattle.layout.proofs.NumbersIn.{none_owned}
-use Rattle.inode.proofs.Pieces.{direct}
-use Rattle.inode_writes.specs.Frees.{is_some}
-use Rattle.inode_writes.proofs.MoreBlocks.{more_blocks}
-use Rattle.inode_writes.proofs.numbers.blocks_of.Goals.{then-inode-eq0, else-inode-eq0}
+use Rattle.layout.proofs.NumbersIn.{doubled_pass}
+use Rattle.inode.proofs.Placed.{inner_placed}
+use Rattle.inode.proofs.Stops.{at_err}
+use Rattle.inode_writes.specs.Frees.{is_some, named_by}
+use Rattle.inode_writes.proofs.OwnedBlocks.{all_owned, near_owned}
 use Rattle.inode_writes.proofs.numbers.blocks_of.Goals as goal
 
-pub indexes-preserved : goal.indexes-preserved
-indexes-preserved c = λ blocks tree file has.
+pub add_below-requires : goal.add_below-requires
+add_below-requires c =
+    ap (list_all (is_data_block_or_none c.args.snap.now.geometry)) c.deref-4.ensures.value ∙ c.in_ok-inner.ensures.placed
+
+pub returns-then-inode-eq0-clause-ok : goal.returns-then-inode-eq0-clause-ok
+returns-then-inode-eq0-clause-ok c = λ blocks tree file has.
+    let inode = c.args.inode.now in
     let content = content_in c.args.snap.now.geometry blocks in
-    let long = all-length content c.args.inode.now (direct c.args.snap.now blocks tree file c.args.inode.now has) in
-    let below = c.indexes-test.true in
-    more_blocks (numbers_of content c.args.inode.now) c.args.inode.now.indirect c.indexes.index c.in-Ok.number
-    c.indexes.numbers.items c.add-in-Ok.new.numbers.items (omega (arith, long, below))
-    (c.in-Ok.ensures.ok blocks tree file has) (c.indexes.invariant blocks tree file has)
-    c.in_ok-add-in-Ok.ensures
+    c.in_ok-near_blocks.ensures
+    ∙ ap (λ (far : List ℕ). filter is_some (inode.indirect ∷ inode.double ∷ inode.direct ++ far))
+    (c.deref.ensures.value ∙ c.in_ok-far.ensures.ok blocks tree file has)
+    ∙ near_owned content inode (ap (λ n. nat_eq n 0) c.if-inode-eq0.true)
 
 pub returns-clause-ok : goal.returns-clause-ok
 returns-clause-ok c = λ blocks tree file has.
     let inode = c.args.inode.now in
     let content = content_in c.args.snap.now.geometry blocks in
-    let few = direct c.args.snap.now blocks tree file inode has in
-    let long = all-length content inode few in
-    let past = c.indexes-test.false in
-    let most = c.indexes.auto.index-end in
-    let rest : filter is_some (inode.indirect ∷ take c.indexes.index (numbers_of content inode))
-    ≡ filter is_some (inode.indirect ∷ numbers_of content inode) =
-    elim c.if-inode-eq0.branch [
-      | then-inode-eq0 w ↦
-          let count = w.count-is in
-          let end : c.indexes.index ≡ DIRECT_INDEXES = omega (arith, past, most, count) in
-          ap (λ n. filter is_some (inode.indirect ∷ take n (numbers_of content inode))) end
-          ∙ none_owned content inode few (eq-eqb inode.indirect 0 w.if-inode-eq0.true)
-      | else-inode-eq0 w ↦
-          let count = w.count-is in
-          ap (λ l. filter is_some (inode.indirect ∷ l))
-          (take_all c.indexes.index (numbers_of content inode) (omega (arith, long, past, count)))
-    ] in
-    c.indexes.invariant blocks tree file has ∙ rest
+    let inner = c.in_ok-inner.ensures.ok blocks tree file has in
+    let first = c.deref-2.ensures.value ∙ inner in
+    let far = c.deref-3.ensures.value ∙ c.in_ok-far.ensures.ok blocks tree file has in
+    c.in_ok-add_below.ensures.ok blocks tree has.over
+    ∙ (λ i. (c.in_ok-numbers.ensures
+    ∙ (λ j. filter is_some (inode.indirect ∷ inode.double ∷ first j ++ inode.direct ++ far j))) i
+    ++ flat_map (named_by content) ((c.deref-4.ensures.value ∙ inner) i))
+    ∙ all_owned content inode
+
+pub returns-in_err-add_below-clause-pause : goal.returns-in_err-add_below-clause-pause
+returns-in_err-add_below-clause-pause c =
+    at_err c.from_residual-in_err-add_below.result c.in_err-add_below.field-0.0 _ (search rules) (λ blocks tree file has.
+    let inode = c.args.inode.now in
+    let content = content_in c.args.snap.now.geometry blocks in
+    let test = is_data_block_or_none c.args.snap.now.geometry in
+    let inner = c.deref-4.ensures.value ∙ c.in_ok-inner.ensures.ok blocks tree file has in
+    c.in_err-add_below.ensures.pause blocks tree has.over
+    (ap (list_all (λ pointer. list_all test (numbers_in content pointer))) inner
+    ∙ sym (doubled_pass content inode.double test)
+    ∙ (inner_placed c.args.snap.now blocks tree file inode has).named))

@@ -1,4 +1,3 @@
-use Rattle.std.proofs.Common.{◌≡◌, ◌∙◌, sym, false, true}
 use Rattle.inspection.specs.Refused.{refused_numbers, refused_slots}
 use Rattle.inspection.proofs.blocks.has_refused_block.Goals as goal
 
@@ -9,8 +8,6 @@ returns-in-Directory-clause-some c = λ is blocks are.
 
 pub returns-in-Directory-clause-none : goal.returns-in-Directory-clause-none
 returns-in-Directory-clause-none c = λ is blocks are refused. elim refused [
-  | refused_numbers read others ↦
-      (let clash : true ≡ false =
-      sym (c.is_refused_far.ensures.none c.if-is_refused_far.false blocks are read) ∙ others in cc)
+  | refused_numbers pointer ↦ c.is_refused_far.ensures.none c.if-is_refused_far.false blocks are pointer
   | refused_slots kind index less at ↦ c.is_refused_directory.ensures.none is blocks index are less at
 ]

@@ -1,21 +1,20 @@
-use Rattle.std.proofs.Common.{◌∙◌, ap, sym}
-use Rattle.std.specs.List.{list_all}
-use Rattle.limits.specs.declared.TheConstants.{INDIRECT_INDEXES}
-use Rattle.layout.specs.Fields.{numbers_at}
-use Rattle.layout.specs.InodeForm.{is_data_block_or_none}
-use Rattle.inspection.specs.Refused.{refused_numbers}
+use Rattle.std.proofs.Common.{inl, inr}
+use Rattle.inspection.specs.Refused.{refused_double, refused_indirect, refused_inner}
 use Rattle.inspection.proofs.blocks.is_refused_far.Goals as goal
 
-pub returns-in-Some-clause-some : goal.returns-in-Some-clause-some
-returns-in-Some-clause-some c = λ is blocks are.
-    refused_numbers (c.in-Some.ensures.read blocks are)
-    (ap (λ l. list_all (is_data_block_or_none c.args.snap.now.geometry) (numbers_at INDIRECT_INDEXES 0 l))
-    (sym (c.in-Some.ensures.is blocks are.saw (c.in-Some.ensures.read blocks are))) ∙ c.names_others.ensures.some is)
+pub returns-then-is_refused_pointer-clause-some : goal.returns-then-is_refused_pointer-clause-some
+returns-then-is_refused_pointer-clause-some c = λ is blocks are.
+    refused_indirect (c.is_refused_pointer.ensures.some c.if-is_refused_pointer.true blocks are)
 
-pub returns-in-Some-clause-none : goal.returns-in-Some-clause-none
-returns-in-Some-clause-none c = λ is blocks saw read.
-    ap (λ l. list_all (is_data_block_or_none c.args.snap.now.geometry) (numbers_at INDIRECT_INDEXES 0 l))
-    (sym (c.in-Some.ensures.is blocks saw read)) ∙ c.names_others.ensures.none is
+pub returns-clause-some : goal.returns-clause-some
+returns-clause-some c = λ is blocks are. elim (c.is_refused_double.ensures.some is blocks are) [
+  | inl one ↦ refused_double one
+  | inr below ↦ refused_inner below
+]
 
-pub returns-in-None-clause-none : goal.returns-in-None-clause-none
-returns-in-None-clause-none c = λ is blocks saw read. absurd (c.in-None.ensures.none blocks read)
+pub returns-clause-none : goal.returns-clause-none
+returns-clause-none c = λ is blocks saw refused. elim refused [
+  | refused_indirect one ↦ c.is_refused_pointer.ensures.none c.if-is_refused_pointer.false blocks saw one
+  | refused_double one ↦ c.is_refused_double.ensures.none is blocks saw (inl one)
+  | refused_inner below ↦ c.is_refused_double.ensures.none is blocks saw (inr below)
+]

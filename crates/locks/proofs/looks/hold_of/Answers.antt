@@ -1,44 +1,12 @@
-use Rattle.std.proofs.Common.{◌≡◌, ◌-◌, ◌<◌, ℕ, true, false, Some, ap, sym, ◌∙◌, arith, subst}
-use Rattle.std.proofs.lemmas.List.{get_or_read}
-use Rattle.txn_law.specs.Holds.{is_hold_of}
+use Rattle.std.proofs.Common.{◌-◌, ◌<◌, Some, ap, arith, ◌∙◌}
 use Rattle.txn_law.specs.declared.hold.Hold.{Hold}
-use Rattle.locks.specs.Walks.{IsPassed}
-use Rattle.locks.proofs.IndexLemmas.{numbers-length}
-use Rattle.locks.proofs.Walks.{begun, none_held, one_held, stepped}
+use Rattle.locks.proofs.Walks.{one_held}
 use Rattle.locks.proofs.looks.hold_of.Goals as goal
 
-pub loop-name-init : goal.loop-name-init
-loop-name-init c =
-    begun (λ (hold : Hold). is_hold_of c.args.transaction c.args.addr hold ≡ false) c.args.holds.now
-    c.args.addr.block.0 c.last_of-name.result c.last_of-name.ensures
-
-pub loop-name-preserved : goal.loop-name-preserved
-loop-name-preserved c =
-    let some : 0 < c.loop-name.name = omega arith in
-    let within = c.loop-name.invariant.within in
-    let size = numbers-length c.args.holds.now in
-    let each = c.requires.index.each in
-    stepped (λ (hold : Hold). is_hold_of c.args.transaction c.args.addr hold ≡ false) c.args.holds.now
-    c.args.index.now.last.items c.args.index.now.before.items c.args.addr.block.0 c.loop-name.name
-    c.index-name.result.now c.index-holds-name.result c.requires.index c.loop-name.invariant some
-    (get_or_read c.args.index.now.before.items (c.loop-name.name - 1) c.index-name.result.now
-    (omega (arith, some, within, size, each)) c.index-name.ensures 0)
-    (subst (λ (hold : Hold). is_hold_of c.args.transaction c.args.addr hold ≡ false) c.index-holds-name.is
-    (sym c.if-is_hold_of.ensures))
-
-pub returns-then-is_hold_of : goal.returns-then-is_hold_of
-returns-then-is_hold_of c =
-    let some : 0 < c.loop-name.name = omega arith in
-    let within = c.loop-name.invariant.within in
+pub returns-then-name-gt0 : goal.returns-then-name-gt0
+returns-then-name-gt0 c =
+    let some : 0 < c.name_of-name.result = omega arith in
+    let within = c.name_of-name.ensures.within in
     ap (λ (hold : Hold). Some hold) c.index-holds-name.is
-    ∙ one_held c.args.holds.now c.args.transaction c.args.addr (c.loop-name.name - 1) c.index-holds-name.result
-    c.requires.apart (omega (arith, some, within))
-    (subst (λ (hold : Hold). is_hold_of c.args.transaction c.args.addr hold ≡ true) c.index-holds-name.is
-    (sym c.if-is_hold_of.ensures))
-
-pub returns : goal.returns
-returns c =
-    let end : c.loop-name.name ≡ 0 = omega arith in
-    none_held c.args.holds.now c.args.transaction c.args.addr
-    (subst (λ (n : ℕ). IsPassed (λ (hold : Hold). is_hold_of c.args.transaction c.args.addr hold ≡ false)
-    c.args.holds.now c.args.addr.block.0 n) end c.loop-name.invariant)
+    ∙ one_held c.args.holds.now c.args.transaction c.args.addr (c.name_of-name.result - 1) c.index-holds-name.result
+    c.requires.apart (omega (arith, some, within)) (c.name_of-name.ensures.mine some c.index-holds-name.result)

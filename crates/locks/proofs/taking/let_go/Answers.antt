@@ -1,21 +1,35 @@
-use Rattle.std.proofs.Common.{rules, ◌≡◌, Bool, List, length, sym, subst, ◌∙◌, not}
-use Rattle.std.specs.List.{filter}
-use Rattle.std.proofs.lemmas.Fn.{filter_same}
-use Rattle.txn_law.specs.Holds.{is_hold_of}
+use Rattle.std.proofs.Common.{◌≡◌, Bool, List, length, sym, subst, ◌∙◌, not, arith}
+use Rattle.txn_law.specs.Holds.{is_hold_of, without_hold}
 use Rattle.txn_law.specs.declared.hold.Hold.{Hold}
 use Rattle.locks.specs.Index.{AreHomed, numbers}
+use Rattle.locks.specs.Looks.{IsNameOf}
 use Rattle.locks.proofs.IndexLemmas.{homed_filter}
+use Rattle.locks.proofs.NoneLeft.{none_left}
+use Rattle.locks.proofs.OneGone.{named_gone}
 use Rattle.locks.proofs.taking.let_go.Goals as goal
 
-pub note_all-requires-clause-homed : goal.note_all-requires-clause-homed
-note_all-requires-clause-homed c =
+pub note_from-requires-clause-homed : goal.note_from-requires-clause-homed
+note_from-requires-clause-homed c =
     let keep : Hold → Bool = λ (hold : Hold). not (is_hold_of c.args.transaction c.args.addr hold) in
-    let kept : c.retain.new.self.items ≡ filter keep c.args.holds.now.items =
-    filter_same _ keep _ (λ x b f r. search rules) _ _ c.retain.ensures.filtered in
-    subst (λ (xs : List Hold). AreHomed (length c.args.index.now.last.items) (numbers xs))
-    (sym (c.deref.ensures.value ∙ kept))
-    (homed_filter keep (length c.args.index.now.last.items) c.args.holds.now.items c.requires.index.homed)
+    let more = c.cut.ensures.more in
+    let homed : AreHomed (length c.cut.new.self.last.items) (numbers c.args.holds.now.items) =
+    λ k lt. (let home = c.requires.index.homed k lt in omega (arith, home, more)) in
+    let stays : c.remove.new.self.items ≡ without_hold c.args.holds.now.items c.args.transaction c.args.addr =
+    c.remove.ensures.items
+    ∙ named_gone c.args.holds.now.items c.deref.result.now c.args.transaction c.args.addr c.name_of-name.result
+    c.remove.result c.requires.apart c.deref.ensures.value c.name_of-name.ensures (omega arith) in
+    subst (λ (xs : List Hold). AreHomed (length c.cut.new.self.last.items) (numbers xs))
+    (sym (c.deref-then-name-gt0-2.ensures.value ∙ stays))
+    (homed_filter keep (length c.cut.new.self.last.items) c.args.holds.now.items homed)
 
-pub returns-clause-items : goal.returns-clause-items
-returns-clause-items c = filter_same _ (λ (hold : Hold). not (is_hold_of c.args.transaction c.args.addr hold)) _
-    (λ x b f r. search rules) _ _ c.retain.ensures.filtered
+pub returns-then-name-gt0-clause-items : goal.returns-then-name-gt0-clause-items
+returns-then-name-gt0-clause-items c =
+    c.remove.ensures.items
+    ∙ named_gone c.args.holds.now.items c.deref.result.now c.args.transaction c.args.addr c.name_of-name.result
+    c.remove.result c.requires.apart c.deref.ensures.value c.name_of-name.ensures (omega arith)
+
+pub returns-else-name-gt0-clause-items : goal.returns-else-name-gt0-clause-items
+returns-else-name-gt0-clause-items c =
+    let is = subst (λ (holds : List Hold). IsNameOf holds c.args.transaction c.args.addr c.name_of-name.result)
+    c.deref.ensures.value c.name_of-name.ensures in
+    sym (none_left c.args.holds.now.items c.args.transaction c.args.addr (sym (is.none (omega arith))))

@@ -1,7 +1,8 @@
 -- What a beginning comes to: it is refused by what it has read, or all is at home.
-use Rattle.std.proofs.Common.{rules, ◌≡◌, ◌∙◌, refl, sym, subst, ℕ, All, Err, List}
+use Rattle.std.proofs.Common.{rules, ◌≡◌, ◌+◌, ◌∙◌, refl, sym, ap, subst, ℕ, All, Err, List}
 use Rattle.disk.specs.Device.{Content, Device}
 use Rattle.disk.specs.declared.block.BlockNo.{BlockNo}
+use Rattle.layout.specs.declared.geometry.Geometry.{Geometry}
 use Rattle.layout.specs.declared.super_block.Super.{Super}
 use Rattle.layout.specs.SuperForm.{super_bytes}
 use Rattle.wal_law.specs.Log.{IsHomeOn, blocks_of}
@@ -10,6 +11,7 @@ use Rattle.wal_law.proofs.OnlyRead.{reads_then, unspoiled_then}
 use Rattle.store_promise.proofs.Later.{past_more, read_later}
 use Rattle.store_images.specs.BringingHome.{next_super}
 use Rattle.store_images.proofs.Opens.{read_refused}
+use Rattle.replays.specs.AtHome.{HoldsAtHome}
 use Rattle.replays.specs.Putting.{HasComeHome, with_log_home}
 use Rattle.replays.proofs.AtHome.{tree_then}
 use Rattle.replays.proofs.Begun.{begins_at_home, refused_begins, refused_begins_log, refused_log, shows_nothing}
@@ -92,14 +94,16 @@ returns-in-Ok-begin_home-clause-begun g c = λ tree first holds kept.
     let kept_mid = c.find_log.ensures.model kept_now in
     let came : HasComeHome now later (with_log_home (image_of now) logged end (super_bytes raised)) =
     subst (λ (bytes : Content). HasComeHome now later (with_log_home (image_of now) logged end bytes))
-    (c.deref-2.ensures.value ∙ c.in-Ok.ensures.bytes)
+    (c.deref-2.ensures.value ∙ c.in-Ok.ensures.bytes
+    ∙ ap (λ (g : Geometry). super_bytes (record { geometry = g; boot = found.boot + 1 })) c.newest-geometry.ensures.is)
     (subst (λ (xs : List (BlockNo × Content)). HasComeHome now later
     (with_log_home (image_of now) xs end c.deref-2.result.now))
     c.deref.ensures.value c.in-Ok-begin_home.ensures.home) in
-    begins_at_home before mid now later tree first holds super.reads c.find_log.ensures.reads found raised
+    subst (λ (g : Geometry). HoldsAtHome g later tree (first + 1)) (sym c.newest-geometry.ensures.is)
+    (begins_at_home before mid now later tree first holds super.reads c.find_log.ensures.reads found raised
     (super_bytes raised) logged end (super.found kept_mid holds.rest.unspoiled) super.blocks refl refl
     (c.a_super_block_is_its_bytes.ensures raised found.geometry.lawful super.boot)
     (c.in_ok-logged.ensures.found kept_now (unspoiled_then before mid super.reads holds.rest.unspoiled))
     (subst (λ n. All (IsHomeOn n) (blocks_of logged)) (sym c.find_log.ensures.reads.size)
     c.in_ok-logged.ensures.homes)
-    c.in_ok-logged.ensures.fits c.begin_home.ensures.later.size came
+    c.in_ok-logged.ensures.fits c.begin_home.ensures.later.size came)

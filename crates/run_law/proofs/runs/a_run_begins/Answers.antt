@@ -63,9 +63,10 @@ returns c = λ b base core position opens new.
         geometry = record {
           blocks = has.blocks ∙ sym size;
           inodes = ap (λ (g : model.Geometry). g.inodes) (sym has.stands.parts.geometry);
+          newest = has.newest;
         };
         running = c.an_opening_begins_a_run.ensures.runs b.before b.opened base core b.tree b.first o opens new
-            (has.blocks ∙ sym size) has.inodes (λ place. refl);
+            has.newest (has.blocks ∙ sym size) has.inodes (λ place. refl);
         told = c.an_opening_begins_a_run.ensures.told b.before b.opened base core b.tree b.first o opens new;
         moved = c.a_device_counts_the_calls_of_its_steps.ensures.first b.opened;
         did = λ index made same. absurd (no_some made same);

@@ -17,6 +17,7 @@ returns-in-Ok-make-clause-formatted g c =
       search rules,
       subst (λ (m : Moment). IsMade (device c.make.new.disk) image.geometry m) c.in_ok-image.ensures.made
           c.in-Ok-make.ensures.made,
+      search rules,
     )
 
 pub returns-in-Ok-make-clause-left : goal.returns-in-Ok-make-clause-left
@@ -33,6 +34,7 @@ returns-in-Ok-make-clause-left g c = λ keeps.
           (g.met.D.CrashDisk.whole c.make.new.disk keeps) c.in-Ok-make.ensures.stops
           c.in-Ok-make.ensures.failure
           c.in-Ok-make.ensures.rest c.in-Ok-make.ensures.made),
+      search rules,
     )
 
 pub returns-clause-left : goal.returns-clause-left
@@ -47,4 +49,5 @@ returns-clause-left g c = λ keeps.
           image.geometry m) c.in_ok-image.ensures.made
           (not_formatted (device c.args.disk.now) (device c.make.new.disk) image.geometry image.made sizes
           (g.met.D.CrashDisk.whole c.make.new.disk keeps) c.in-Err.ensures.stops c.in-Err.ensures.failure),
+      search rules,
     )

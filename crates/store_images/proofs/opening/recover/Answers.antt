@@ -2,8 +2,10 @@
 use Rattle.std.proofs.Common.{ap, ap₂, ℕ, arith, ◌≡◌, ◌+◌, ◌∙◌, refl, sym, inl, inr, length, subst}
 use Rattle.limits.specs.declared.TheConstants.{BLOCK_BYTES}
 use Rattle.disk.specs.Device.{Device}
+use Rattle.layout.specs.declared.geometry.Geometry.{Geometry}
 use Rattle.layout.specs.declared.super_block.Super.{Super}
 use Rattle.layout.specs.Fields.{eight_bytes, four_bytes}
+use Rattle.layout.specs.Newest.{newest}
 use Rattle.layout.specs.SuperForm.{super_bytes, super_head}
 use Rattle.store_promise.specs.Openings.{IsCauseOf}
 use Rattle.store_promise.specs.declared.fault.OpenFault.TheVariants as fault
@@ -11,15 +13,21 @@ use Rattle.wal_law.proofs.OnlyRead.{unspoiled_then}
 use Rattle.store_promise.proofs.Later.{past_none}
 use Rattle.store_images.proofs.Opens.{begins, is_new, is_opened, later_refused, next_boot}
 use Rattle.store_images.proofs.Opens.{none_home, read_refused}
+use Rattle.store_images.proofs.Raising.{raised_keeps}
 use Rattle.wal_law.proofs.OnlyRead.{no_read}
 use Rattle.txn.specs.Core.{CoreState}
 use Rattle.wal_law.specs.Log.{Log}
-use Rattle.store_images.specs.BringingHome.{BringsHome, next_super, unused}
+use Rattle.store_images.specs.BringingHome.{BringsHome, HasRaised, KeepsBlocks, next_super, unused}
 use Rattle.store_images.proofs.opening.recover.Goals as goal
 
 full : (super : Super) → length (super_bytes super) ≡ BLOCK_BYTES
 unfolding super_head four_bytes eight_bytes
 full super = refl
+
+-- what is written is the super block in the newest version
+raised_is : (found : Super) (geometry : Geometry) → geometry ≡ newest found.geometry
+    → super_bytes (record { geometry = geometry; boot = found.boot + 1 }) ≡ super_bytes (next_super found)
+raised_is found geometry is = ap (λ (g : Geometry). super_bytes (record { geometry = g; boot = found.boot + 1 })) is
 
 pub returns-in_default-clause-keeps : goal.returns-in_default-clause-keeps
 returns-in_default-clause-keeps g c = λ tree first holds kept.
@@ -64,7 +72,43 @@ returns-in-Err-raise-clause-left g c = λ rest kept.
     let none = c.in_default-install.ensures.none in
     let empty = none_home log c.lawful-3.ensures.log none.0 c.install.ensures.quiet.installing none.1
     brings.coming.logged in
-    inr (found, is.is_super, c.in-Err-raise.ensures.raised before log c.lawful-3.ensures.log empty brings)
+    let home = g.D.CrashDisk.device c.install.new.disk in
+    let same = raised_is found c.newest-geometry.result c.newest-geometry.ensures.is in
+    inr (
+      found,
+      is.is_super,
+      subst (KeepsBlocks before (g.D.CrashDisk.device c.raise.new.disk)) same
+          (c.in-Err-raise.ensures.raised before log c.lawful-3.ensures.log empty
+          (subst (λ bytes. BringsHome before bytes home log) (sym same) brings)),
+    )
+
+pub returns-clause-left : goal.returns-clause-left
+returns-clause-left g c = λ rest kept.
+    let before = g.D.CrashDisk.device c.args.disk.now in
+    let now = g.D.CrashDisk.device c.find.new.disk in
+    let found = c.in-Ok-find.found.0 in
+    let log = c.install.new.core.log in
+    let kept_now = c.install.ensures.model (c.raise.ensures.model kept) in
+    let is = c.in-Ok-find.ensures.found kept_now rest.unspoiled in
+    let brings = c.install.ensures.home before (super_bytes (next_super found))
+    (subst (λ (log : Log). BringsHome before (super_bytes (next_super found)) now log)
+    (sym (ap (λ (core : CoreState). core.log) c.new-core.ensures))
+    (begins before rest found c.in-Ok-find.found.1 now (super_bytes (next_super found))
+    c.in-Ok-find.ensures.reads is c.lawful.ensures (g.met.D.CrashDisk.whole c.find.new.disk kept_now))) in
+    let none = c.in_default-install.ensures.none in
+    let empty = none_home log c.lawful-3.ensures.log none.0 c.install.ensures.quiet.installing none.1
+    brings.coming.logged in
+    let home = g.D.CrashDisk.device c.install.new.disk in
+    let same = raised_is found c.newest-geometry.result c.newest-geometry.ensures.is in
+    inr (
+      found,
+      is.is_super,
+      raised_keeps before home
+          (g.D.CrashDisk.device c.raise.new.disk) log (super_bytes (next_super found)) c.lawful-3.ensures.log empty
+          (subst (λ bytes. HasRaised before bytes home (g.D.CrashDisk.device c.raise.new.disk) log) same
+          (c.in_default-raise.ensures.raised before log c.lawful-3.ensures.log empty
+          (subst (λ bytes. BringsHome before bytes home log) (sym same) brings))),
+    )
 
 pub returns-in-Err-clause-keeps : goal.returns-in-Err-clause-keeps
 returns-in-Err-clause-keeps g c = λ tree first holds kept.
@@ -114,7 +158,10 @@ returns-in-Err-raise-clause-keeps g c = λ tree first holds kept.
     let none = c.in_default-install.ensures.none in
     let empty = none_home log c.lawful-3.ensures.log none.0 c.install.ensures.quiet.installing none.1
     brings.coming.logged in
-    let keeps = c.in-Err-raise.ensures.raised before log c.lawful-3.ensures.log empty brings in
+    let same = raised_is found c.newest-geometry.result c.newest-geometry.ensures.is in
+    let keeps = subst (KeepsBlocks before later) same
+    (c.in-Err-raise.ensures.raised before log c.lawful-3.ensures.log empty
+    (subst (λ bytes. BringsHome before bytes home log) (sym same) brings)) in
     later_refused before tree first holds found (next_super found) (super_bytes (next_super found)) is.is_super refl refl
     (c.a_super_block_is_its_bytes.ensures (next_super found) found.geometry.lawful c.in-Ok-find.ensures.boot)
     (full (next_super found)) later c.in-Err-raise.fault (g.met.D.CrashDisk.whole c.raise.new.disk kept) keeps
@@ -145,7 +192,10 @@ returns-clause-keeps g c = λ tree first holds kept.
     let none = c.in_default-install.ensures.none in
     let empty = none_home log c.lawful-3.ensures.log none.0 c.install.ensures.quiet.installing none.1
     brings.coming.logged in
-    let raises = c.in_default-raise.ensures.raised before log c.lawful-3.ensures.log empty brings in
+    let same = raised_is found c.newest-geometry.result c.newest-geometry.ensures.is in
+    let raises = subst (λ bytes. HasRaised before bytes home later log) same
+    (c.in_default-raise.ensures.raised before log c.lawful-3.ensures.log empty
+    (subst (λ bytes. BringsHome before bytes home log) (sym same) brings)) in
     let is_raised = c.a_super_block_is_its_bytes.ensures (next_super found) found.geometry.lawful
     c.in-Ok-find.ensures.boot in
     let blocks = g.met.D.CrashDisk.whole c.raise.new.disk kept in

@@ -7,7 +7,9 @@ use Rattle.disk.specs.Device.{Device}
 use Rattle.procedures.specs.After.{after}
 use Rattle.model.specs.Tree.{Tree}
 use Rattle.layout.specs.Homes.{homes_of}
+use Rattle.layout.specs.Newest.{newest}
 use Rattle.layout.specs.Stands.{Stands}
+use Rattle.layout.proofs.NewestVersion.{newest_stands}
 use Rattle.wal.specs.Overlay.{over}
 use Rattle.model.specs.Tree as model
 use Rattle.store_promise.specs.Headline.{IsGeometryOf, LeavesFiles, WasPromised, by_answer, by_commit, by_steps}
@@ -99,10 +101,11 @@ either before later tree first position clock image blocks opened whole from to 
     at_end before later tree first position clock image blocks opened whole (omega (arith, to, reached)) crash
 
 geometry_of_image : (size boot : ℕ) (tree : Tree) (image : Image) (good : IsGoodImage size image tree boot)
-    → IsGeometryOf size tree good.super.geometry
+    → IsGeometryOf size tree (newest good.super.geometry)
 geometry_of_image size boot tree image good = record {
   blocks = good.size_is;
   inodes = ap (λ (g : model.Geometry). g.inodes) (sym good.stands.parts.geometry);
+  newest = refl;
 }
 
 no_entry_after : (tree : Tree) (place : ℕ) → after tree (take place []) tree
@@ -116,7 +119,7 @@ returns c = λ before later tree first position workers blocks opened whole.
     record {
       opened = later;
       setting = record {
-        geometry = good.super.geometry;
+        geometry = newest good.super.geometry;
         position = position;
         blocks = λ place. blocks;
       };
@@ -160,8 +163,9 @@ returns c = λ before later tree first position workers blocks opened whole.
         files = λ place. record {
           left = tree;
           leads = no_entry_after tree place;
-          stands = subst (λ (image : Image). Stands good.super.geometry image tree)
-              (whole there.0 there.1) good.stands;
+          stands = subst (λ (image : Image). Stands (newest good.super.geometry) image tree)
+              (whole there.0 there.1)
+              (newest_stands good.super.geometry (homes_of later.size (over there.0)) tree good.stands);
         };
       };
     }

@@ -18,6 +18,7 @@ returns-clause-beside c =
       position = subst (λ log. o.position ≤ log.start + length log.changes) (sym beside.log) run.position;
       blocks = run.blocks ∙ sym (ap (λ log. log.blocks) beside.log);
       inodes = run.inodes ∙ sym beside.inodes;
+      newest = run.newest;
       stands = subst StandsAtHome (sym beside.log) run.stands;
       fetched = brought;
       placed = stay_placed o base base old new (same_places base old new
@@ -38,6 +39,7 @@ returns-clause-read c =
       position = run.position;
       blocks = run.blocks;
       inodes = run.inodes;
+      newest = run.newest;
       stands = run.stands;
       fetched = brought;
       placed = run.placed;
@@ -69,6 +71,7 @@ returns-clause-commit c =
             omega (arith, before, logged, taken, starts, tail, more, held, holds, within);
         blocks = run.blocks ∙ sym took.still.blocks;
         inodes = run.inodes ∙ sym (ap (λ (core : CoreState). core.inodes) took.only);
+        newest = run.newest;
         stands = stands_after_commit old.log new.log took.group.group run.since.over.lawful grown
             took.still run.stands;
         fetched = brought;

@@ -135,12 +135,13 @@ no_commit base core none count =
     ∙ sym (ap (λ (rs : List Footprint). after_commits homes rs) none)
 
 pub returns-clause-runs : goal.returns-clause-runs
-returns-clause-runs c = λ before opened base core tree first o opens new blocks inodes files. record {
+returns-clause-runs c = λ before opened base core tree first o opens new newest blocks inodes files. record {
   since = c.an_opening_leaves_an_open_store.ensures before opened base core tree first o.position opens new;
   position = (let at = position_is before opened base core tree first o.position opens new in
       omega (arith, at));
   blocks = blocks ∙ new.agrees.agrees.size;
   inodes = inodes;
+  newest = newest;
   placed = λ count. files (installed_place core.log + count) ∙ sym (no_commit base core new.records count);
   stands = stands before opened base core tree first o.position opens new;
   fetched = λ k fetch less. absurd (omega (arith, less));

@@ -1,51 +1,42 @@
-use Rattle.std.proofs.Common.{◌≡◌, ℕ, ◌+◌, nat_le, length, Bool, cond, List, ap, ◌∙◌, sym, true, false, ◌≤◌}
-use Rattle.std.proofs.Common.{arith}
+use Rattle.std.proofs.Common.{◌≡◌, ℕ, ◌+◌, ◌≤◌, length, Bool, cond, List, ap, ◌∙◌, sym, true, false, arith}
 use Rattle.std.specs.List.{list_any}
 use Rattle.std.specs.Ordering.{nat_cmp}
 use Rattle.std.specs.FinSet as set
-use Rattle.limits.specs.declared.TheConstants.{DIRECT_INDEXES, FILE_INDEXES}
-use Rattle.model.specs.Cost.{file_cost}
+use Rattle.limits.specs.declared.TheConstants.{INDIRECT_INDEXES}
+use Rattle.model.specs.Cost.{file_cost, inner_cost, is_double, is_indirect}
 use Rattle.model.proofs.Sets.{any_items}
-use Rattle.plain_server.specs.Indexes.{AreIndexes}
 use Rattle.plain_server.proofs.Few.{few_indexes}
 use Rattle.plain_server.proofs.mapped.MappedIndexes.cost.Goals as goal
-use Rattle.plain_server.proofs.mapped.MappedIndexes.cost.Goals.{then-any_is_indirect, else-any_is_indirect}
 
-cost_listed : (ks : List ℕ) (len extra : ℕ) (b : Bool) → set.len (set.from_list {R = nat_cmp} ks) ≡ length ks
-    → len ≡ length ks
-    → b ≡ list_any (λ index. nat_le DIRECT_INDEXES index) ks → extra ≡ cond b 1 0
-    → len + extra ≡ file_cost (set.from_list {R = nat_cmp} ks)
-cost_listed ks len extra b distinct len_is b_is extra_is =
-    let any : list_any (λ index. nat_le DIRECT_INDEXES index) (set.items (set.from_list {R = nat_cmp} ks))
-    ≡ b = any_items (λ index. nat_le DIRECT_INDEXES index) ks ∙ sym b_is in
-    (λ i. (len_is ∙ sym distinct) i + (extra_is ∙ ap (λ v. cond v 1 0) (sym any)) i)
+-- 1 where some index passes
+one : (p : ℕ → Bool) (ks listed : List ℕ) (b : Bool) (extra : ℕ) → listed ≡ ks → b ≡ list_any p listed
+    → extra ≡ cond b 1 0 → extra ≡ cond (list_any p (set.items (set.from_list {R = nat_cmp} ks))) 1 0
+one p ks listed b extra same b_is extra_is =
+    extra_is ∙ ap (λ v. cond v 1 0) (b_is ∙ ap (list_any p) same ∙ sym (any_items p ks))
+
+one_at_most : (b : Bool) (extra : ℕ) → extra ≡ cond b 1 0 → extra ≤ 1
+one_at_most true extra is = omega (arith, is)
+one_at_most false extra is = omega (arith, is)
 
 pub returns-clause-cost : goal.returns-clause-cost
 returns-clause-cost c =
-    cost_listed c.self.inside.indexes.items c.len.result c.if-any_is_indirect.indirect
-    c.any_is_indirect.result c.self.invariant.0 (cc) (c.any_is_indirect.ensures
-    ∙ ap (list_any (λ index. nat_le DIRECT_INDEXES index)) c.deref.ensures.value)
-    (elim c.if-any_is_indirect.branch [
-      | then-any_is_indirect w ↦ w.indirect-is
-          ∙ ap (λ b. cond b 1 0) (sym w.if-any_is_indirect.true)
-      | else-any_is_indirect w ↦ w.indirect-is
-          ∙ ap (λ b. cond b 1 0) (sym w.if-any_is_indirect.false)
-    ])
-    ∙ ap file_cost c.self.view_is
-
-small_cost : (items : List ℕ) (len extra : ℕ) (b : Bool)
-    → set.len (set.from_list {R = nat_cmp} items) ≡ length items → AreIndexes (set.from_list items)
-    → len ≡ length items → extra ≡ cond b 1 0 → len + extra ≤ FILE_INDEXES + 1
-small_cost items len extra true distinct are len_is extra_is =
-    let few = few_indexes (set.from_list items) are in omega (arith, few, distinct, len_is, extra_is)
-small_cost items len extra false distinct are len_is extra_is =
-    let few = few_indexes (set.from_list items) are in omega (arith, few, distinct, len_is, extra_is)
+    let ks : List ℕ = c.self.inside.indexes.items in
+    let long : c.len.result ≡ length ks = cc in
+    let len : c.len.result ≡ set.len (set.from_list {R = nat_cmp} ks) = long ∙ sym c.self.invariant.0 in
+    let indirect = one is_indirect ks c.deref.result.now c.any_is_indirect.result c.one_if-indirect.result
+    c.deref.ensures.value c.any_is_indirect.ensures c.one_if-indirect.ensures in
+    let double = one is_double ks c.deref-2.result.now c.any_is_double.result c.one_if-double.result
+    c.deref-2.ensures.value c.any_is_double.ensures c.one_if-double.ensures in
+    let inner : c.inner_cost.result ≡ inner_cost INDIRECT_INDEXES (set.from_list ks) =
+    c.inner_cost.ensures.is ∙ ap (λ l. inner_cost INDIRECT_INDEXES (set.from_list l)) c.deref-3.ensures.value in
+    (λ i. len i + indirect i + double i + inner i) ∙ ap file_cost c.self.view_is
 
 pub returns-clause-small : goal.returns-clause-small
 returns-clause-small c =
-    elim c.if-any_is_indirect.branch [
-      | then-any_is_indirect w ↦ small_cost c.self.inside.indexes.items c.len.result
-          c.if-any_is_indirect.indirect true c.self.invariant.0 c.self.invariant.1 (cc) w.indirect-is
-      | else-any_is_indirect w ↦ small_cost c.self.inside.indexes.items c.len.result
-          c.if-any_is_indirect.indirect false c.self.invariant.0 c.self.invariant.1 (cc) w.indirect-is
-    ]
+    let ks : List ℕ = c.self.inside.indexes.items in
+    let few = few_indexes (set.from_list ks) c.self.invariant.1 in
+    let long : c.len.result ≡ length ks = cc in
+    let len : c.len.result ≡ set.len (set.from_list {R = nat_cmp} ks) = long ∙ sym c.self.invariant.0 in
+    let indirect = one_at_most c.any_is_indirect.result c.one_if-indirect.result c.one_if-indirect.ensures in
+    let double = one_at_most c.any_is_double.result c.one_if-double.result c.one_if-double.ensures in
+    omega (arith, few, len, indirect, double, c.inner_cost.ensures.few)

@@ -64,7 +64,7 @@ returns-clause-goes c =
     let left_of = left_at o.geometry store.core worker
     (subst (HasTakenWell o.geometry) so.progress
     (taken_well o b.workers b.events t.steps going.run.well.taken (length t.steps) number))
-    run.blocks run.inodes one_geometry so.at_work.plans in
+    run.newest run.blocks run.inodes one_geometry so.at_work.plans in
     let counted : store.core.log.places ≡ length before.history.items =
     sym run.since.counted ∙ length-map before.history.items _ in
     let notes = c.a_run_notes_its_workers_steps.ensures boot number clock old (side new core) made before

@@ -1,0 +1,15 @@
+use Rattle.std.proofs.lemmas.Result.{IfErr-weaker, IfOk-weaker}
+use Rattle.inode.proofs.HeldThere.{far_placed}
+use Rattle.inode.proofs.Placed.{indirect_placed}
+use Rattle.inode.proofs.map.indirect_numbers.Goals as goal
+
+pub returns-clause-ok : goal.returns-clause-ok
+returns-clause-ok c =
+    IfOk-weaker c.pointer_numbers.result _ _ (λ numbers is blocks tree file has. is blocks tree has.over)
+    c.pointer_numbers.ensures.ok
+
+pub returns-clause-pause : goal.returns-clause-pause
+returns-clause-pause c =
+    IfErr-weaker c.pointer_numbers.result _ _ (λ stop pause blocks tree file has.
+    pause blocks tree has.over (indirect_placed c.args.snap.now blocks tree file c.args.inode.now has)
+    (far_placed c.args.snap.now blocks tree file c.args.inode.now has)) c.pointer_numbers.ensures.pause
