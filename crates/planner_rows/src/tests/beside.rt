@@ -64,7 +64,7 @@ pub(crate) fn plans_alike(
     requires spelled { CallFits call.now }
 {
     are_told(ctx.credential.uid, ctx.credential.gid);
-    let mut planner = Planner::new(alloc, geometry, from, reading_mode(call));
+    let mut planner = Planner::new(alloc, geometry.newest(), from, reading_mode(call));
     for _ in 0..MOST_ASKED {
         planner.make_room()?;
         let anew = plan(alloc, ctx, call, &planner.snap);
