@@ -207,11 +207,7 @@ fn add(
 fn are_alike(alloc: Global, disk: &MemDisk, entries: &[(Ctx, Call)]) -> Result<bool, Fail>
     requires { All CanBeReplayed entries.now }
 {
-    let geometry = Geometry {
-        version: FormatVersion::Second,
-        blocks: disk.blocks(),
-        inodes: INODES,
-    };
+    let geometry = Geometry::new(FormatVersion::Second, disk.blocks(), INODES)?;
     for entry in entries {
         if !begins_transaction(&entry.1) {
             return Ok(false);
@@ -251,6 +247,49 @@ fn take_all(alloc: Global, disk: &mut MemDisk, piece: u32) -> Result<(), Fail> {
     Ok(())
 }
 
+// The same for WRITEs of so many bytes of a file at these offsets, of which the first has this number. The number of the
+// next, where all were alike.
+fn writes_go_alike(
+    alloc: Global,
+    disk: &mut MemDisk,
+    transaction: u64,
+    file: File,
+    count: u32,
+    offsets: &[u64],
+) -> Result<Option<u64>, Fail> {
+    let mut next = transaction;
+    for offset in offsets {
+        let asked = Asked::WriteMany(file, *offset, count);
+        if !goes_alike(alloc, disk, next, &asked)? {
+            return Ok(None);
+        }
+        next = next.saturating_add(1);
+    }
+    Ok(Some(next))
+}
+
+// The same for SETATTRs that give a file these sizes.
+fn sizes_go_alike(
+    alloc: Global,
+    disk: &mut MemDisk,
+    transaction: u64,
+    file: File,
+    sizes: &[u64],
+) -> Result<Option<u64>, Fail> {
+    let mut next = transaction;
+    for size in sizes {
+        let wanted = NewAttributes {
+            size: Some(*size),
+            ..UNSET
+        };
+        if !goes_alike(alloc, disk, next, &Asked::SetAttr(file, wanted, None))? {
+            return Ok(None);
+        }
+        next = next.saturating_add(1);
+    }
+    Ok(Some(next))
+}
+
 // The same for each of the calls of a row, of which the first has this number. The number of the next, where all were.
 fn row_goes_alike(
     alloc: Global,
@@ -285,26 +324,9 @@ fn row_goes_alike(
             }
         }
         Row::Writes(file, count, offsets) => {
-            for offset in offsets {
-                let asked = Asked::WriteMany(file, *offset, count);
-                if !goes_alike(alloc, disk, next, &asked)? {
-                    return Ok(None);
-                }
-                next = next.saturating_add(1);
-            }
+            return writes_go_alike(alloc, disk, next, file, count, offsets);
         }
-        Row::Sizes(file, sizes) => {
-            for size in sizes {
-                let wanted = NewAttributes {
-                    size: Some(*size),
-                    ..UNSET
-                };
-                if !goes_alike(alloc, disk, next, &Asked::SetAttr(file, wanted, None))? {
-                    return Ok(None);
-                }
-                next = next.saturating_add(1);
-            }
-        }
+        Row::Sizes(file, sizes) => return sizes_go_alike(alloc, disk, next, file, sizes),
         Row::Takes(piece) => take_all(alloc, disk, piece)?,
     }
     Ok(Some(next))
