@@ -17,6 +17,7 @@ pub mod Used
 pub mod FreshHomes
 pub mod Respelled
 pub mod ZeroWords
+mod ZeroParts
 pub mod ReadBytes
 pub mod Refused
 pub mod SlotBytes

@@ -1,11 +1,12 @@
 //! Slots: what the disk has of a name in a directory in 128 bytes.
-ghost use Rattle.std.specs.Prelude.{◌≡◌, ◌*◌, ◌<◌, ◌≤◌, ℕ, length, take, drop, false, IfOk, IfErr, Ok, Option, Some};
+ghost use Rattle.std.specs.Prelude.{◌≡◌, ◌+◌, ◌*◌, ◌<◌, ◌≤◌, ℕ, length, take, drop, true, false, IfOk, IfErr, IsOk, Ok, Err};
+ghost use Rattle.std.specs.Prelude.{◌&&◌, Option, Some};
 ghost use Rattle.limits.specs.declared.TheConstants.{BLOCK_BYTES, NAME_BYTES, SLOTS_PER_BLOCK};
 ghost use Rattle.layout.specs.Fields.{four_at, is_zeros};
 ghost use Rattle.layout.specs.SlotForm.{is_sound_slot, number_under, read_slot, used_bytes, IsInDirectory};
 
 use crate::LayoutFault;
-use crate::fields::{four_at, is_zeros, put_four};
+use crate::fields::{are_zeros_at, four_at, is_zeros, put_four};
 use limits::{BLOCK_BYTES, NAME_BYTES, SLOTS_PER_BLOCK};
 use nfs_types::Octets;
 use std::alloc::{AllocError, Global};
@@ -94,6 +95,18 @@ impl Slot {
         name.cmp(name_in(bytes)).is_eq()
     }
 
+    /// Whether a slot is refused, as reading it is: nothing is made of it.
+    pub fn is_refused(inodes: u32, bytes: &[u8]) -> bool
+        requires { length bytes.now ≡ SLOT_BYTES }
+        ensures some { result ≡ true → read_slot inodes bytes.now ≡ Err LayoutFault.Range }
+        ensures none { result ≡ false → IsOk (read_slot inodes bytes.now) }
+    {
+        if four_at(bytes, NUMBER_AT) == 0 {
+            return !is_zeros(bytes);
+        }
+        !is_sound_slot(inodes, bytes)
+    }
+
     /// The number that a slot has under a name: None where it is free or has another name. It is refused
     /// where reading it is.
     pub fn number_under(inodes: u32, bytes: &[u8], name: &[u8]) -> Result<Option<u32>, LayoutFault>
@@ -163,6 +176,32 @@ fn is_sound_slot(inodes: u32, bytes: &[u8]) -> bool
     if four_at(bytes, NUMBER_AT) >= inodes || count < 1 || count > NAME_BYTES {
         return false;
     }
-    let (_, rest) = bytes.split_at(NAME_AT + count);
-    is_zeros(rest)
+    is_clear_behind(bytes, count)
+}
+
+// Whether nothing but zeros is behind a name of so many bytes.
+fn is_clear_behind(bytes: &[u8], count: usize) -> bool
+    requires len { length bytes.now ≡ SLOT_BYTES }
+    requires count { count ≤ NAME_BYTES }
+    ensures { result ≡ is_zeros (drop (NAME_AT + count) bytes.now) }
+{
+    if count > 24 {
+        let (_, rest) = bytes.split_at(NAME_AT + count);
+        return is_zeros(rest);
+    }
+    has_clear_parts(bytes, count)
+}
+
+// Whether four parts of a slot are zeros, which are all that is behind a short name: one from its end on, and three that are
+// the same for each.
+fn has_clear_parts(bytes: &[u8], count: usize) -> bool
+    requires len { length bytes.now ≡ SLOT_BYTES }
+    requires count { count ≤ 24 }
+    ensures { result ≡ (is_zeros (take 32 (drop (NAME_AT + count) bytes.now)) && is_zeros (take 32 (drop 32 bytes.now))
+        && is_zeros (take 32 (drop 64 bytes.now)) && is_zeros (take 32 (drop 96 bytes.now))) }
+{
+    are_zeros_at(bytes, NAME_AT + count)
+        && are_zeros_at(bytes, 32)
+        && are_zeros_at(bytes, 64)
+        && are_zeros_at(bytes, 96)
 }
