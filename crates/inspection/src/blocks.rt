@@ -52,9 +52,8 @@ fn has_refused_slot(inodes: u32, block: &[u8]) -> bool
     ensures none { result ≡ false → HasRefusedSlot inodes block.now → ⊥ }
 {
     'slots: for slot in 0..SLOTS_PER_BLOCK {
-        match Slot::number_under(inodes, Slot::bytes_in(block, slot), &[]) {
-            Ok(_) => {}
-            Err(_) => return true,
+        if Slot::is_refused(inodes, Slot::bytes_in(block, slot)) {
+            return true;
         }
     }
     false
