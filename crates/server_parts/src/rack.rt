@@ -117,7 +117,7 @@ impl Rack {
     pub fn is_one_out(&self) -> bool
         ensures { IsTrue result ↔ (length self.now.keys.items + 1 ≡ self.now.count) }
     {
-        self.count - self.keys.len() == 1
+        self.count > 0 && self.keys.len() == self.count - 1
     }
 
     /// Whether the key of each seat is there.
