@@ -6,13 +6,13 @@ ghost use Rattle.layout.specs.SlotForm.{number_under, read_slot};
 ghost use Rattle.dir.specs.Slots.{HasFault, IsFound, IsNext, block_slot};
 
 use files::{Entry, SlotName};
-use layout::{LayoutFault, Slot};
+use layout::{LayoutFault, NamePattern, Slot};
 use limits::SLOTS_PER_BLOCK;
 use std::alloc::{AllocError, Global};
 
 /// Compares a name with what may be one in a slot, and counts that it did. Where they differ the slot has no number
 /// under the name. Nothing else compares names.
-pub fn compare(slot: &[u8], name: &[u8], compared: &mut u64) -> bool
+pub fn compare(slot: &[u8], name: &NamePattern, compared: &mut u64) -> bool
     requires len { length slot.now ≡ SLOT_BYTES }
     requires room { compared.old + 1 < 2 ^ 64 }
     ensures differ { result ≡ false → (inodes number : ℕ)
@@ -38,9 +38,13 @@ pub(crate) fn find_in_block(
     ensures found { IsFound (block_slot inodes first block.now) name.now first (first + SLOTS_PER_BLOCK) result }
     ensures count { compared.new ≤ compared.old + SLOTS_PER_BLOCK }
 {
+    let pattern = match NamePattern::of(name) {
+        Some(pattern) => pattern,
+        None => return None,
+    };
     'slots: for slot in first..first + SLOTS_PER_BLOCK {
         let bytes = Slot::bytes_in(block, slot - first);
-        if compare(bytes, name, compared) {
+        if compare(bytes, &pattern, compared) {
             match Slot::number_under(inodes, bytes, name) {
                 Ok(Some(number)) => return Some(Entry { number, slot }),
                 Ok(None) => {}

@@ -66,6 +66,28 @@ impl Block {
         })
     }
 
+    /// A block of these bytes.
+    pub fn from_slice(alloc: Global, bytes: &[u8]) -> Result<Block, AllocError>
+        requires { length bytes.now ≡ BLOCK_BYTES }
+        ensures { IfOk result (λ b. b ≡ bytes.now) }
+    {
+        let Ok(bytes) = <&[u8; BLOCK_BYTES]>::try_from(bytes) else {
+            unreachable!();
+        };
+        Ok(Block {
+            bytes: Box::new(alloc, *bytes)?,
+        })
+    }
+
+    /// The same bytes, of another owner.
+    pub fn copied(&self, alloc: Global) -> Result<Block, AllocError>
+        ensures { IfOk result (λ b. b ≡ self.now) }
+    {
+        Ok(Block {
+            bytes: Box::new(alloc, *self.bytes)?,
+        })
+    }
+
     /// The bytes.
     pub fn as_slice(&self) -> &[u8]
         ensures bytes { result.now ≡ self.now }

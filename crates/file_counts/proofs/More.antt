@@ -1,5 +1,6 @@
 -- One number more, and all of them.
-use Rattle.std.proofs.Common.{◌≡◌, ℕ, zero, suc, ◌+◌, ◌<◌, ◌≤◌, sym, ap, ◌∙◌, refl, subst, Bool, true, false, cond, not, ◌||◌}
+use Rattle.std.proofs.Common.{◌≡◌, ℕ, zero, suc, ◌+◌, ◌<◌, ◌≤◌, sym, ap, ◌∙◌, refl, subst, Bool, true, false, cond, not}
+use Rattle.std.proofs.Common.{◌||◌}
 use Rattle.std.proofs.Common.{List, [], ◌∷◌, ◌++◌, filter, length, map, take, get_or, nat_eq, nat_lt, Option, arith}
 use Rattle.std.specs.List.{flat_map, list_all}
 use Rattle.std.proofs.lemmas.Bool.{ltb-true}
@@ -9,7 +10,7 @@ use Rattle.std.proofs.lemmas.List.Elements.{filter-append}
 use Rattle.layout.specs.declared.inode.Inode.{Inode}
 use Rattle.layout.specs.declared.slot.Slot.{Slot}
 use Rattle.tallies.specs.Tally.{AreCounts, IsOwned, Owned}
-use Rattle.image_links.specs.declared.links.Links.{Links}
+use Rattle.file_counts.specs.declared.links.Links.{Links}
 use Rattle.layout.proofs.Respelled.{all_two}
 use Rattle.file_counts.specs.Adds.{AreNamed, for_directories, is_none_or_below, is_some, named_children}
 
@@ -44,11 +45,13 @@ module _ (met : List ℕ) where
     first_blocks owned = owned
 
     pub more_blocks : (place : ℕ) → place < length numbers
-        → IsOwned ((met ++ filter is_some (indirect ∷ take place numbers)) ++ filter is_some (get_or numbers place 0 ∷ []))
+        → IsOwned ((met ++ filter is_some (indirect ∷ take place numbers))
+        ++ filter is_some (get_or numbers place 0 ∷ []))
         owners → IsOwned (met ++ filter is_some (indirect ∷ take (place + 1) numbers)) owners
     more_blocks place less owned =
         subst (λ l. IsOwned l owners)
-        (append_assoc met (filter is_some (indirect ∷ take place numbers)) (filter is_some (get_or numbers place 0 ∷ []))
+        (append_assoc met (filter is_some (indirect ∷ take place numbers))
+        (filter is_some (get_or numbers place 0 ∷ []))
         ∙ ap (λ l. met ++ l) (sym (filter-append is_some (indirect ∷ take place numbers) (get_or numbers place 0 ∷ [])))
         ∙ ap (λ l. met ++ filter is_some (indirect ∷ l)) (sym (take_more numbers place 0 less))) owned
 

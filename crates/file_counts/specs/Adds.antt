@@ -4,8 +4,8 @@ use Rattle.std.specs.Prelude.{Option, Some, None}
 use Rattle.std.specs.List.{flat_map}
 use Rattle.layout.specs.declared.inode.Inode.{Inode}
 use Rattle.tallies.specs.Tally.{AreCounts}
-use Rattle.image_links.specs.declared.links.Links.{Links}
-use Rattle.image_links.specs.Linked.{is_directory_in, is_directory_kind}
+use Rattle.file_counts.specs.declared.links.Links.{Links}
+use Rattle.file_counts.specs.Linked.{is_directory_in, is_directory_kind}
 
 -- a number is that of a block
 abbrev pub is_some : ℕ → Bool

@@ -4,10 +4,10 @@ ghost use Rattle.std.specs.List.{list_all};
 ghost use Rattle.limits.specs.declared.TheConstants.{MOST_INODES};
 ghost use Rattle.layout.specs.declared.slot.Slot.{Slot};
 ghost use Rattle.tallies.specs.Tally.{AreCounts};
-ghost use Rattle.image_links.specs.Linked.{HasCounts, is_directory_in};
+ghost use Rattle.file_counts.specs.Linked.{HasCounts, is_directory_in};
 ghost use Rattle.file_counts.specs.Adds.{AreNamed, for_directories, is_child_in, named_children};
 
-use image_links::Links;
+use crate::links::Links;
 use layout::{Inode, InodeKind, Slot};
 use tallies::Named;
 

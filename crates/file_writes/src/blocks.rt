@@ -1,5 +1,5 @@
 //! Bytes that are put in a block of a file.
-ghost use Rattle.std.specs.Prelude.{ℕ, ◌≡◌, ◌+◌, ◌≤◌, length, true, IfErr, IfOk, OnOk};
+ghost use Rattle.std.specs.Prelude.{ℕ, ◌≡◌, ◌+◌, ◌≤◌, length, replicate, true, IfErr, IfOk, OnOk};
 ghost use Rattle.limits.specs.declared.TheConstants.{BLOCK_BYTES};
 ghost use Rattle.disk.specs.Crash.{Image};
 ghost use Rattle.objects.specs.Spliced.{spliced};
@@ -17,7 +17,7 @@ use inode::{Snap, Stop, data_block};
 use layout_records::with_piece;
 use limits::BLOCK_BYTES;
 use objects::Addr;
-use std::alloc::Global;
+use std::alloc::{AllocError, Global};
 
 // The bytes that take the place of all that a block has. It is claimed where it wasn't read.
 fn whole(alloc: Global, snap: &Snap, number: u32, bytes: &[u8]) -> Result<Vec<u8>, Stop>
@@ -31,6 +31,18 @@ fn whole(alloc: Global, snap: &Snap, number: u32, bytes: &[u8]) -> Result<Vec<u8
         return Err(Stop::Claim(block));
     }
     Ok(Vec::from_slice(alloc, bytes)?)
+}
+
+// The bytes of a block that begins with a piece: zeros around it, where it isn't the whole block.
+fn begun(alloc: Global, from: usize, piece: &[u8]) -> Result<Vec<u8>, AllocError>
+    requires { from + length piece.now ≤ BLOCK_BYTES }
+    ensures { IfOk result (λ bytes. bytes.items ≡ spliced (replicate BLOCK_BYTES 0) from piece.now) }
+{
+    if piece.len() < BLOCK_BYTES {
+        let zeros = [0; BLOCK_BYTES];
+        return with_piece(alloc, &zeros, from, piece);
+    }
+    Vec::from_slice(alloc, piece)
 }
 
 /// The bytes of the block of a number, zeros where there is none, with a piece in them. A block that is wholly written
@@ -51,8 +63,7 @@ pub(crate) fn filled(
     ensures pause { IfErr result (λ stop. IsPause stop) }
 {
     if number == 0 {
-        let zeros = [0; BLOCK_BYTES];
-        return Ok(with_piece(alloc, &zeros, from, piece)?);
+        return Ok(begun(alloc, from, piece)?);
     }
     if piece.len() == BLOCK_BYTES {
         return whole(alloc, snap, number, piece);

@@ -1,6 +1,7 @@
 -- What was found in all files of an image.
-use Rattle.std.proofs.Common.{◌≡◌, ℕ, ◌+◌, ◌<◌, ◌≤◌, inl, inr, sym, ap, ◌∙◌, refl, subst, Bool, true, false, cond, ◌&&◌}
-use Rattle.std.proofs.Common.{List, [], ◌∷◌, ◌++◌, count_by, get_or, length, map, min, nat_eq, sum_by, Option, Some, None, Result, Ok, Err, arith}
+use Rattle.std.proofs.Common.{◌≡◌, ℕ, ◌+◌, ◌<◌, ◌≤◌, inl, inr, sym, ap, ◌∙◌, refl, subst, cond, ◌&&◌}
+use Rattle.std.proofs.Common.{List, [], ◌∷◌, count_by, get_or, length, min, nat_eq, sum_by, Option, Some, None, Result}
+use Rattle.std.proofs.Common.{Ok, Err, arith}
 use Rattle.std.specs.List.{flat_map, range_with_len}
 use Rattle.std.proofs.lemmas.Bool.{cases_lt, le-ltb}
 use Rattle.std.proofs.lemmas.Bool.Decides.{nat_tests}
@@ -23,10 +24,10 @@ use Rattle.layout.specs.Parts.{content_in, parts_of, table_of}
 use Rattle.layout.proofs.Frame.{counts}
 use Rattle.bitmap.proofs.Ranges.{one_if, same_sums}
 use Rattle.tallies.specs.Tally.{AreCounts, IsOwned, times}
-use Rattle.image_links.specs.Linked.{is_directory_in, is_directory_kind}
+use Rattle.file_counts.specs.Linked.{is_directory_in, is_directory_kind}
 use Rattle.image_law.specs.TreeOf.{all_named, named_numbers, named_of, numbers_named, tree_of}
 use Rattle.image_law.proofs.Made.{files_are}
-use Rattle.link_law.specs.Counted.{IsCounted}
+use Rattle.found_law.specs.Counted.{IsCounted}
 use Rattle.file_counts.specs.Adds.{for_directories, is_child_in, named_children}
 use Rattle.image_bodies.specs.declared.found.Found.{Found}
 use Rattle.image_bodies.specs.Bodies.{FitsFound, IsFound, all_owned, names_at}
@@ -42,7 +43,8 @@ module _ (g : Geometry) (blocks : Image) (table : List (Option Inode))
 
   pub owned_are : owned g (parts_of g blocks) ≡ all_owned content table g.inodes
   unfolding owned
-  owned_are = same_flat (λ n. owned_by content (table_of g blocks n)) (λ n. owned_by content (Ok (get_or table n None))) 0
+  owned_are = same_flat (λ n. owned_by content (table_of g blocks n))
+      (λ n. owned_by content (Ok (get_or table n None))) 0
       g.inodes (λ n less. ap (owned_by content) (are n (omega (arith, less))))
 
   named_are : all_named g (parts_of g blocks) ≡ flat_map names (range_with_len 0 g.inodes)
@@ -107,7 +109,8 @@ module _ (g : Geometry) (blocks : Image) (table : List (Option Inode))
 
     -- ---- directories that name directories
 
-    by_kind : (kind : InodeKind) (inode : Inode) → is_directory (body_of g.inodes content kind inode) ≡ is_directory_kind kind
+    by_kind : (kind : InodeKind) (inode : Inode)
+        → is_directory (body_of g.inodes content kind inode) ≡ is_directory_kind kind
     by_kind Directory inode = refl
     by_kind Regular inode = refl
     by_kind Link inode = refl
@@ -116,7 +119,8 @@ module _ (g : Geometry) (blocks : Image) (table : List (Option Inode))
     by_inode (Some inode) = by_kind inode.kind inode
     by_inode None = refl
 
-    directory_is : (number : ℕ) → is_directory_at (node_at (tree_of g blocks) number) ≡ is_directory_in (get_or table number None)
+    directory_is : (number : ℕ)
+        → is_directory_at (node_at (tree_of g blocks) number) ≡ is_directory_in (get_or table number None)
     directory_is number =
         let file : is_directory_at (file_of g.inodes content (table_of g blocks number))
         ≡ is_directory_in (get_or table number None) =

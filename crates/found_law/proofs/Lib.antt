@@ -1,2 +1,6 @@
-mod Sums
+pub mod Below
 pub mod Counting
+pub mod Facts
+pub mod Linked
+pub mod Whole
+mod Sums

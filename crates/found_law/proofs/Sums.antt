@@ -1,8 +1,8 @@
 -- How often a number is in lists, one for each of a range.
 use Rattle.std.proofs.Common.{◌≡◌, ℕ, zero, suc, ◌+◌, ◌<◌, ◌≤◌, inl, inr, sym, ap, ◌∙◌, refl, Bool, true, false, cond}
-use Rattle.std.proofs.Common.{List, [], ◌∷◌, ◌++◌, count_by, map, nat_eq, sum_by, arith}
+use Rattle.std.proofs.Common.{List, [], ◌∷◌, ◌++◌, count_by, nat_eq, sum_by, arith}
 use Rattle.std.specs.List.{flat_map, range_with_len}
-use Rattle.std.proofs.lemmas.Bool.{cases_eq, eq-eqb, eqb-true, ne_eqb}
+use Rattle.std.proofs.lemmas.Bool.{cases_eq, eq-eqb, ne_eqb}
 use Rattle.std.proofs.lemmas.List.Sums.{sum_by-append, sum_by-cons}
 use Rattle.bitmap.proofs.Ranges.{nothing, one_if, same_sums}
 use Rattle.tallies.specs.Tally.{times}

@@ -6,7 +6,7 @@ ghost use Rattle.layout.specs.declared.inode.Inode.{Inode};
 ghost use Rattle.layout.specs.Owners.{owned};
 ghost use Rattle.layout.specs.Parts.{content_in, parts_of, table_of};
 ghost use Rattle.tallies.specs.Tally.{IsOwned};
-ghost use Rattle.link_law.specs.Counted.{IsCounted};
+ghost use Rattle.found_law.specs.Counted.{IsCounted};
 ghost use Rattle.image_bodies.specs.declared.found.Found.{Found};
 ghost use Rattle.image_bodies.specs.Bodies.{FitsFound, IsFound};
 

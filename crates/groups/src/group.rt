@@ -1,14 +1,17 @@
 //! The blocks that objects lie in, and these blocks with the objects laid over what is current.
-ghost use Rattle.std.specs.Prelude.{◌≡◌, ◌≤◌, length, IfOk, All};
+ghost use Rattle.std.specs.Prelude.{◌≡◌, ◌≤◌, length, replicate, All, IfOk, IfSome, MatchOption};
 ghost use Rattle.limits.specs.declared.TheConstants.{BLOCK_BYTES, CHANGED_BLOCKS};
+ghost use Rattle.disk.specs.Device.{Content};
 ghost use Rattle.wal_law.specs.Log.{blocks_of as group_blocks};
 ghost use Rattle.wal_law.specs.Log.{newest};
 ghost use Rattle.txn_law.specs.Group.{blocks_of, is_among, base_in, laid, IsLaid};
 ghost use Rattle.objects.specs.Present.{present_of, content_in};
+ghost use Rattle.objects.specs.Spliced.{spliced};
+ghost use Rattle.std.specs.Option.{unwrap_or};
 
 use arrayvec::ArrayVec;
 use disk::{Block, BlockNo};
-use limits::CHANGED_BLOCKS;
+use limits::{BLOCK_BYTES, CHANGED_BLOCKS};
 use objects::{Object, Residency, splice};
 use std::alloc::{AllocError, Global};
 use wal::Wal;
@@ -47,34 +50,101 @@ pub fn are_sized(objects: &[Object])
     }
 }
 
-// The block's current content again: from memory, or zeros where a change writes all of it.
-fn base_of(
+// The block's current content: from memory, or what the log has. It may be zeros where a change writes all of it.
+fn base_of<'a>(present: &'a Residency, wal: &'a Wal, block: BlockNo) -> Option<&'a Block>
+    ensures base { MatchOption result
+        (base_in (content_in (present_of present.now.blocks block)) (newest wal.now block.0) ≡ replicate BLOCK_BYTES 0)
+        (λ base. base_in (content_in (present_of present.now.blocks block)) (newest wal.now block.0) ≡ base.now) }
+    ensures whole { length (base_in (content_in (present_of present.now.blocks block)) (newest wal.now block.0))
+        ≡ BLOCK_BYTES }
+{
+    let base = match present.content_of(block) {
+        Some(content) => content,
+        None => wal.latest(block)?,
+    };
+    let _ = base.as_slice();
+    Some(base)
+}
+
+// An object laid over its block: over what it was made so far, or over what is current. That isn't copied where the
+// object is the whole block.
+fn laid_over(
+    alloc: Global,
+    present: &Residency,
+    wal: &Wal,
+    made: Option<Block>,
+    object: &Object,
+) -> Result<Block, AllocError>
+    ensures { IfOk result (λ content. content ≡ spliced (unwrap_or made
+        (base_in (content_in (present_of present.now.blocks object.now.addr.block))
+        (newest wal.now object.now.addr.block.0)))
+        object.now.addr.offset object.now.bytes) }
+{
+    match made {
+        Some(content) => {
+            let mut content = content;
+            splice(&mut content, object);
+            Ok(content)
+        }
+        None => laid_first(alloc, present, wal, object),
+    }
+}
+
+// An object laid over what is current of its block.
+#[tactic(auto, using(crate::proofs::Whole::all_of_it))]
+fn laid_first(
+    alloc: Global,
+    present: &Residency,
+    wal: &Wal,
+    object: &Object,
+) -> Result<Block, AllocError>
+    ensures { IfOk result (λ content. content ≡ spliced
+        (base_in (content_in (present_of present.now.blocks object.now.addr.block))
+        (newest wal.now object.now.addr.block.0))
+        object.now.addr.offset object.now.bytes) }
+{
+    let addr = object.addr();
+    let base = base_of(present, wal, addr.block);
+    let bytes = object.bytes();
+    if bytes.len() == BLOCK_BYTES {
+        return Block::from_slice(alloc, bytes);
+    }
+    let mut content = copied(alloc, base)?;
+    splice(&mut content, object);
+    Ok(content)
+}
+
+// A block of one owner again, or zeros.
+fn copied(alloc: Global, block: Option<&Block>) -> Result<Block, AllocError>
+    ensures { MatchOption block.entry (IfOk result (λ content. content ≡ replicate BLOCK_BYTES 0))
+        (λ block. IfOk result (λ content. content ≡ block.now)) }
+{
+    match block {
+        Some(block) => block.copied(alloc),
+        None => Block::zeros(alloc),
+    }
+}
+
+// The block with those of the objects that lie in it laid over what is current.
+fn content_with(
     alloc: Global,
     present: &Residency,
     wal: &Wal,
     block: BlockNo,
+    objects: &[Object],
 ) -> Result<Block, AllocError>
-    ensures { IfOk result (λ base. base
-        ≡ base_in (content_in (present_of present.now.blocks block)) (newest wal.now block.0)) }
+    ensures { IfOk result (λ content. IsLaid present.now.blocks wal.now objects.now (block, content)) }
 {
-    let mut base = Block::zeros(alloc)?;
-    if let Some(content) = present.content_of(block) {
-        base.copy_from(content);
-    } else if let Some(content) = wal.latest(block) {
-        base.copy_from(content);
-    }
-    Ok(base)
-}
-
-// Lays those of the objects that lie in the block over its content.
-fn lay(content: &mut Block, objects: &[Object], block: BlockNo)
-    ensures { content.new ≡ laid content.old objects.now block }
-{
+    let mut made = None;
     for object in objects {
         let addr = object.addr();
         if addr.block == block {
-            splice(content, object);
+            made = Some(laid_over(alloc, present, wal, made, object)?);
         }
+    }
+    match made {
+        Some(content) => Ok(content),
+        None => copied(alloc, base_of(present, wal, block)),
     }
 }
 
@@ -92,8 +162,7 @@ pub fn group_of(
 {
     let mut group = Vec::with_capacity(alloc, blocks.len())?;
     for block in blocks {
-        let mut content = base_of(alloc, present, wal, *block)?;
-        lay(&mut content, objects, *block);
+        let content = content_with(alloc, present, wal, *block, objects)?;
         let _ = content.as_slice();
         group.push((*block, content))?;
     }

@@ -10,7 +10,7 @@ use Rattle.layout.specs.declared.geometry.Geometry.{Geometry}
 use Rattle.layout.specs.declared.inode.Inode.{Inode}
 use Rattle.layout.specs.Owners.{owned_by}
 use Rattle.tallies.specs.Tally.{AreCounts, IsOwned, Owned}
-use Rattle.image_links.specs.declared.links.Links.{Links}
+use Rattle.file_counts.specs.declared.links.Links.{Links}
 use Rattle.image_files.proofs.SlotBlocks.{range_more}
 use Rattle.file_counts.specs.Adds.{AreNamed, for_directories, named_children}
 use Rattle.image_bodies.specs.declared.found.Found.{Found}
@@ -109,7 +109,8 @@ module _ (g : Geometry) (content : Image) (table : List (Option Inode)) where
               let at : count ≡ number = omega (arith, less, past) in
               subst (λ n. HasBlocks g content (get_or table n None)) at blocks
         ];
-        owned = subst (λ l. IsOwned l new.owners) (sym (flat_more (λ n. owned_by content (Ok (get_or table n None))) count))
+        owned = subst (λ l. IsOwned l new.owners)
+            (sym (flat_more (λ n. owned_by content (Ok (get_or table n None))) count))
             (added.owned (all_owned content table count) before.owned);
         named = relisted _ _ _ _ _ _ new.links (sym (flat_more names count)) (sym (flat_more met count))
             (sym (flat_more naming count))

@@ -19,12 +19,12 @@ use Rattle.layout.proofs.Respelled.{all_two}
 use Rattle.image_files.specs.Content.{AreLong}
 use Rattle.image_files.specs.Far.{near_of}
 use Rattle.image_files.specs.Slots.{HasSlots, IsSpanned, used_slots}
-use Rattle.image_links.specs.declared.links.Links.{Links}
+use Rattle.file_counts.specs.declared.links.Links.{Links}
 use Rattle.image_law.specs.TreeOf.{named_numbers}
-use Rattle.slot_names.specs.Names.{AreNames}
+use Rattle.directory_names.specs.Names.{AreNames}
 use Rattle.file_counts.specs.Adds.{AreNamed, for_directories, is_none_or_below, named_children}
-use Rattle.directory_law.specs.SlotsOf.{slots_of_directory}
-use Rattle.directory_law.proofs.Entries.{numbers as entry_numbers}
+use Rattle.directory_names.specs.SlotsOf.{slots_of_directory}
+use Rattle.directory_names.proofs.Entries.{numbers as entry_numbers}
 use Rattle.image_bodies.specs.Bodies.{HasBlocksOf, IsLookedAt, IsSpannedOf}
 use Rattle.image_bodies.specs.Inner.{is_zero_below}
 use Rattle.image_bodies.proofs.BelowBytes.{whole_zeros, zero_doubled}
@@ -96,7 +96,8 @@ module _ (g : Geometry) (content : Image) (inode : Inode) where
           spans = spanned_all content inode direct none g.inodes few
               (subst (λ l. IsSpanned g.inodes content inode l) are spans);
           named = λ all met naming before.
-              subst (λ l. AreNamed (all ++ l) (met ++ named_children table number l) (naming ++ for_directories table number l)
+              subst (λ l. AreNamed (all ++ l) (met ++ named_children table number l)
+              (naming ++ for_directories table number l)
               new) names (counted all met naming before);
           yes = λ t. subst (λ l. AreNames l) is (lawful t);
           no = λ f are_names. unlawful f (subst (λ l. AreNames l) (sym is) are_names);

@@ -1,5 +1,6 @@
 -- The files of an image, each by itself, and what is counted of them.
-use Rattle.std.specs.Prelude.{◌≡◌, ℕ, ◌<◌, Bool, true, false, ◌⊎◌, List, ◌++◌, take, drop, length, get_or, Option, Some, None, Ok}
+use Rattle.std.specs.Prelude.{◌≡◌, ℕ, ◌<◌, Bool, true, false, ◌⊎◌, List, ◌++◌, take, drop, length, get_or, Option, Some}
+use Rattle.std.specs.Prelude.{None, Ok}
 use Rattle.std.specs.List.{flat_map, range_with_len}
 use Rattle.limits.specs.declared.TheConstants.{BLOCK_BYTES}
 use Rattle.disk.specs.Crash.{Image}
@@ -13,12 +14,12 @@ use Rattle.layout.specs.InodeForm.{SoundInode}
 use Rattle.layout.specs.Owners.{owned_by}
 use Rattle.tallies.specs.Tally.{IsOwned}
 use Rattle.image_files.specs.Slots.{IsSpanned}
-use Rattle.image_links.specs.declared.links.Links.{Links}
-use Rattle.image_links.specs.Linked.{HasCounts}
+use Rattle.file_counts.specs.declared.links.Links.{Links}
+use Rattle.file_counts.specs.Linked.{HasCounts}
 use Rattle.image_law.specs.TreeOf.{named_numbers, named_of}
-use Rattle.slot_names.specs.Names.{AreNames}
+use Rattle.directory_names.specs.Names.{AreNames}
 use Rattle.file_counts.specs.Adds.{AreNamed, for_directories, named_children}
-use Rattle.directory_law.specs.SlotsOf.{slots_of_directory}
+use Rattle.directory_names.specs.SlotsOf.{slots_of_directory}
 use Rattle.image_bodies.specs.declared.found.Found.{Found}
 
 -- the blocks of a file are numbered as they are to be, and the layout refuses none of a directory's slots
@@ -105,13 +106,15 @@ abbrev pub names_at : ℕ → Image → List (Option Inode) → ℕ → List ℕ
 names_at inodes content table n = named_of inodes content (Ok (get_or table n None))
 
 -- of the first files of a table that of this number isn't tidy, and those of lower numbers are
-pub record IsFirstUntidy (g : Geometry) (content : Image) (table : List (Option Inode)) (count number : ℕ) : Type 0 where
+pub record IsFirstUntidy (g : Geometry) (content : Image) (table : List (Option Inode))
+    (count number : ℕ) : Type 0 where
   pub within : number < count
   pub is : IsTidy g content (get_or table number None) → ⊥
   pub first : (lower : ℕ) → lower < number → IsTidy g content (get_or table lower None)
 
 -- this was found in the first files of a table
-pub record IsFound (g : Geometry) (content : Image) (table : List (Option Inode)) (count : ℕ) (found : Found) : Type 0 where
+pub record IsFound (g : Geometry) (content : Image) (table : List (Option Inode)) (count : ℕ)
+    (found : Found) : Type 0 where
   pub blocks : (number : ℕ) → number < count → HasBlocks g content (get_or table number None)
   pub owned : IsOwned (all_owned content table count) found.owners
   pub named : AreNamed (flat_map (names_at g.inodes content table) (range_with_len 0 count))

@@ -4,7 +4,7 @@ ghost use Rattle.tallies.specs.Tally.{IsOwned};
 ghost use Rattle.file_counts.specs.Adds.{AreNamed};
 ghost use Rattle.image_bodies.specs.Bodies.{FitsFound};
 
-use image_links::Links;
+use file_counts::Links;
 use layout::Geometry;
 use std::alloc::{AllocError, Global};
 use tallies::{Named, Owners};

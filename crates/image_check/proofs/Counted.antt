@@ -39,7 +39,8 @@ module _ (file : ℕ → Option Node) where
       len-insert nat_cmp_total nodes k node
       ∙ ap (λ b. cond b (len nodes) (len nodes + 1)) (ap is_some none)
 
-  module _ (table : List (Option Inode)) (same : (n : ℕ) → n < length table → is_some (file n) ≡ is_some (get_or table n None)) where
+  module _ (table : List (Option Inode))
+      (same : (n : ℕ) → n < length table → is_some (file n) ≡ is_some (get_or table n None)) where
     pub len_below : (n : ℕ) → n ≤ length table
         → len (files_below file n) ≡ count_by (λ (o : Option Inode). is_some o) (take n table)
     unfolding files_below

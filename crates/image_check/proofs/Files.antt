@@ -16,7 +16,7 @@ use Rattle.image_files.specs.Slots.{IsSpanned}
 use Rattle.image_files.proofs.AllMapped.{all_mapped, near_mapped, no_below, no_row}
 use Rattle.image_law.proofs.SoundKinds.{few_spanned, no_double_of_link, no_indirect_of_link}
 use Rattle.image_law.specs.TreeOf.{HasNames}
-use Rattle.directory_law.proofs.Directory.{are_names, has_names, once}
+use Rattle.directory_names.proofs.Directory.{are_names, has_names, once}
 use Rattle.image_bodies.specs.Bodies.{HasBlocksOf, IsTidyOf}
 use Rattle.image_check.proofs.SlotBytes.{slots_are_bytes}
 

@@ -1,6 +1,8 @@
 -- What the passes over an image tell of the trees that it stands for.
-use Rattle.std.proofs.Common.{◌≡◌, ℕ, ◌<◌, ◌≤◌, inl, inr, sym, ap, ◌∙◌, refl, subst, true, false, Bool, cond, List, count_by, length}
-use Rattle.std.proofs.Common.{take, drop, get_or, is_some, replicate, IfSome, IsOk, Option, Some, None, Result, Ok, Err, arith}
+use Rattle.std.proofs.Common.{◌≡◌, ℕ, ◌<◌, ◌≤◌, inl, inr, sym, ap, ◌∙◌, refl, subst, true, false, Bool, cond, List}
+use Rattle.std.proofs.Common.{count_by, length}
+use Rattle.std.proofs.Common.{take, drop, get_or, is_some, replicate, IfSome, IsOk, Option, Some, None, Result, Ok, Err}
+use Rattle.std.proofs.Common.{arith}
 use Rattle.std.specs.Prelude.{IfErr, IfOk}
 use Rattle.std.proofs.lemmas.Bool.{cases_lt}
 use Rattle.limits.specs.declared.TheConstants.{BLOCK_BYTES, INODE_BYTES}
@@ -35,15 +37,16 @@ use Rattle.image_law.proofs.Marks.{not_shared}
 use Rattle.image_law.proofs.Room.{used_are}
 use Rattle.image_law.proofs.Whole.{stands_whole}
 use Rattle.image_law.proofs.WholeBack.{whole_of}
-use Rattle.link_law.specs.Counted.{IsCounted}
-use Rattle.link_law.proofs.Facts.{below, same_option}
-use Rattle.link_law.proofs.Linked.{are_linked}
-use Rattle.link_law.proofs.Whole.{is_whole}
+use Rattle.found_law.specs.Counted.{IsCounted}
+use Rattle.found_law.proofs.Facts.{below, same_option}
+use Rattle.found_law.proofs.Linked.{are_linked}
+use Rattle.found_law.proofs.Whole.{is_whole}
 use Rattle.image_bodies.specs.declared.found.Found.{Found}
 use Rattle.image_bodies.specs.Bodies.{AreAsRead, FitsFound, HasBlocks, IsFound, IsTidy, IsSoundIfAny}
 use Rattle.found_law.proofs.Counting.{is_counted, is_owned}
 use Rattle.image_check.specs.Refused.{IsRefusal}
-use Rattle.image_check.specs.Searched.{AreBlocksOf, AreMadeBy, IsJudged, IsNoTree, IsRead, IsSearched, IsTreeBy, IsTreeWith}
+use Rattle.image_check.specs.Searched.{AreBlocksOf, AreMadeBy, IsJudged, IsNoTree, IsRead, IsSearched, IsTreeBy}
+use Rattle.image_check.specs.Searched.{IsTreeWith}
 use Rattle.image_check.specs.declared.fault.CheckFault.{CheckFault}
 use Rattle.image_check.specs.declared.judging.Counts.{Counts}
 use Rattle.image_check.proofs.Counted.{files_are_counted}
@@ -83,7 +86,8 @@ module _ (g : Geometry) (boot : ℕ) (image : Image) where
     content_long : (number : ℕ) → length (content number) ≡ BLOCK_BYTES
     content_long number = by_test (is_data g number) refl
       where
-        by_test : (b : Bool) → is_data g number ≡ b → length (cond b (image number) (replicate BLOCK_BYTES 0)) ≡ BLOCK_BYTES
+        by_test : (b : Bool) → is_data g number ≡ b
+            → length (cond b (image number) (replicate BLOCK_BYTES 0)) ≡ BLOCK_BYTES
         by_test true is = (read.blocks number (in_blocks g number is)).0
         by_test false is = refl
 
@@ -130,7 +134,8 @@ module _ (g : Geometry) (boot : ℕ) (image : Image) where
         → HasBlocks g content (get_or table number None)
     has_blocks_at number less = by_entry (get_or table number None) (sound_at number less)
       where
-        by_entry : (o : Option Inode) → ((inode : Inode) → o ≡ Some inode → SoundInode g inode) → IsFile g content (Ok o)
+        by_entry : (o : Option Inode) → ((inode : Inode) → o ≡ Some inode → SoundInode g inode)
+            → IsFile g content (Ok o)
             → HasBlocks g content o
         by_entry (Some inode) sound is = files.has_blocks g content inode (sound inode refl) is
         by_entry None sound is = tt
@@ -164,7 +169,8 @@ module _ (g : Geometry) (boot : ℕ) (image : Image) where
 
       -- ---- the files make no tree
 
-      tidy_at : (whole : IsWhole g home) (number : ℕ) → number < g.inodes → IsFile g content (Ok (get_or table number None))
+      tidy_at : (whole : IsWhole g home) (number : ℕ) → number < g.inodes
+          → IsFile g content (Ok (get_or table number None))
           → IsTidy g content (get_or table number None)
       tidy_at whole number less =
           by_entry (get_or table number None) (sound_at number less) (λ inode is kind.
@@ -187,7 +193,8 @@ module _ (g : Geometry) (boot : ℕ) (image : Image) where
       made_at : (tree : Tree) → Stands g home tree → IsMadeBy boot tree → AreMadeBy boot table
       made_at tree stands made number less =
           by_entry (get_or table number None)
-          (stands.parts.has.files number ∙ ap (file_of g.inodes (content_in g home)) (are number (omega (arith, less, long))))
+          (stands.parts.has.files number
+          ∙ ap (file_of g.inodes (content_in g home)) (are number (omega (arith, less, long))))
         where
           by_entry : (o : Option Inode) → node_at tree number ≡ file_of g.inodes (content_in g home) (Ok o)
               → IfSome o (λ inode. inode.stamp.boot ≤ boot)
@@ -267,7 +274,8 @@ module _ (g : Geometry) (boot : ℕ) (image : Image) where
           made = made;
           are = record {
             files = files_is ∙ sym (files_are_counted g home table long are);
-            blocks = blocks_is ∙ kept.count once ∙ sym (used_are g home (tree_of g home) (holds_of g home (tree_of g home) stands));
+            blocks = blocks_is ∙ kept.count once
+                ∙ sym (used_are g home (tree_of g home) (holds_of g home (tree_of g home) stands));
           };
         }
 

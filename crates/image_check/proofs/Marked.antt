@@ -1,5 +1,6 @@
 -- Whether the bitmaps mark what is in use, by the bits of the image and by the parts of its homes.
-use Rattle.std.proofs.Common.{◌≡◌, ℕ, ◌+◌, ◌<◌, ◌≤◌, inl, inr, sym, ap, ◌∙◌, refl, Bool, true, false, ◌||◌, List, length, get_or}
+use Rattle.std.proofs.Common.{◌≡◌, ℕ, ◌+◌, ◌<◌, ◌≤◌, inl, inr, sym, ap, ◌∙◌, refl, Bool, true, false, ◌||◌, List}
+use Rattle.std.proofs.Common.{length, get_or}
 use Rattle.std.proofs.Common.{is_some, nat_eq, nat_le, Option, Some, None, Ok, arith}
 use Rattle.std.proofs.lemmas.Bool.{cases_lt, le-leb}
 use Rattle.limits.specs.declared.TheConstants.{FIRST_HOME_BLOCK}
@@ -26,7 +27,8 @@ used_is None = refl
 
 module _ (g : Geometry) (image : Image) (table : List (Option Inode)) (kept : Owned)
     (long : length table ≡ g.inodes)
-    (are : (number : ℕ) → number < g.inodes → table_of g (homes_of g.blocks image) number ≡ Ok (get_or table number None))
+    (are : (number : ℕ) → number < g.inodes
+    → table_of g (homes_of g.blocks image) number ≡ Ok (get_or table number None))
     (is : IsOwned (owned g (parts_of g (homes_of g.blocks image))) kept) (size : length kept.has ≡ g.blocks) where
   abbrev parts : Parts
   parts = parts_of g (homes_of g.blocks image)
@@ -41,7 +43,8 @@ module _ (g : Geometry) (image : Image) (table : List (Option Inode)) (kept : Ow
         | inr more ↦
             sym (past (nat_eq number 0) (nat_le g.inodes number) (is_some (get_or table number None))
             (le-leb g.inodes number more))
-            ∙ past (nat_eq number 0) (nat_le g.inodes number) (is_used (parts.table number)) (le-leb g.inodes number more)
+            ∙ past (nat_eq number 0) (nat_le g.inodes number) (is_used (parts.table number))
+            (le-leb g.inodes number more)
       ]
 
   blocks_room : FIRST_HOME_BLOCK + bitmap_blocks g.blocks ≤ g.blocks

@@ -103,8 +103,10 @@ module _ (size : ℕ) (image : Image) where
   shown : (cause : OpenFault) → IsShownBy cause size image → IsRefusal (IsNotGood size image) (of_open cause)
   shown opening.Magic (inl none) = λ tree boot good.
       absurd (has_blocks size (image SUPER_BLOCK) good.super good.is_super good.size_is none)
-  shown opening.Magic (inr other) = λ tree boot good. absurd (not_magic (image SUPER_BLOCK) good.super good.is_super other)
-  shown opening.Version other = λ tree boot good. absurd (not_version (image SUPER_BLOCK) good.super good.is_super other)
+  shown opening.Magic (inr other) =
+      λ tree boot good. absurd (not_magic (image SUPER_BLOCK) good.super good.is_super other)
+  shown opening.Version other =
+      λ tree boot good. absurd (not_version (image SUPER_BLOCK) good.super good.is_super other)
   shown opening.Range (inl other) = λ tree boot good.
       absurd (not_range (image SUPER_BLOCK) good.super good.is_super other)
   shown opening.Range (inr (super, is, inl other)) = λ tree boot good.
@@ -145,7 +147,8 @@ module _ (size : ℕ) (image : Image) where
         (subst (λ (g : Geometry). Stands g (homes_of size (over image)) tree) same good.stands))
         (subst (λ (n : ℕ). IsMadeBy n tree) boot_is good.stamps))
 
-    good_with : (counts : Counts) → IsTreeWith found.geometry found.boot (over image) counts → IsGoodWith size image counts
+    good_with : (counts : Counts) → IsTreeWith found.geometry found.boot (over image) counts
+        → IsGoodWith size image counts
     good_with counts has = record {
       tree = has.tree;
       boot = found.boot;

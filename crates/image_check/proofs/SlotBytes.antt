@@ -1,6 +1,7 @@
 -- The names in a directory's slots are bytes.
 use Rattle.std.proofs.Common.{◌≡◌, ℕ, ◌+◌, ◌*◌, inl, inr, sym, subst, Bool, true, false, cond}
-use Rattle.std.proofs.Common.{List, [], ◌∷◌, take, drop, replicate, nat_eq, length-take, Option, Some, None, Result, Ok, Err, arith}
+use Rattle.std.proofs.Common.{List, [], ◌∷◌, take, drop, replicate, nat_eq, length-take, Option, Some, None, Result, Ok}
+use Rattle.std.proofs.Common.{Err, arith}
 use Rattle.std.proofs.lemmas.Bool.{cases_lt}
 use Rattle.std.proofs.lemmas.List.{get_or-drop, get_or-take, get_or_past}
 use Rattle.disk.specs.Crash.{Image}
@@ -15,7 +16,7 @@ use Rattle.layout.specs.Decode.{bytes_of, numbers_of, slot_bytes, span_of}
 use Rattle.layout.specs.Fields.{four_at, is_zeros}
 use Rattle.layout.specs.SlotForm.{is_sound_slot, read_slot, slot_of}
 use Rattle.layout.proofs.FreshBytes.{IsBytes, join, zero_block}
-use Rattle.directory_law.specs.SlotsOf.{AreSlotsOf}
+use Rattle.directory_names.specs.SlotsOf.{AreSlotsOf}
 
 pub taken : (count : ℕ) (xs : List ℕ) → AreBytes xs → AreBytes (take count xs)
 taken count xs are index = elim (cases_lt index count) [
@@ -45,7 +46,8 @@ module _ (inodes : ℕ) (bytes : List ℕ) where
   from_used false slot e = cc
 
   from_free : (free : Bool) (slot : Slot)
-      → ◌≡◌ {A = Result (Option Slot) LayoutFault} (cond free (Ok None) (Err Range)) (Ok (Some slot)) → slot ≡ slot_of bytes
+      → ◌≡◌ {A = Result (Option Slot) LayoutFault} (cond free (Ok None) (Err Range)) (Ok (Some slot))
+      → slot ≡ slot_of bytes
   from_free true slot e = cc
   from_free false slot e = cc
 

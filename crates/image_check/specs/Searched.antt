@@ -1,5 +1,6 @@
 -- What is said of the files of an image.
-use Rattle.std.specs.Prelude.{◌≡◌, ◌≢◌, ℕ, ◌<◌, ◌≤◌, List, count_by, length, get_or, is_some, IfSome, Option, Some, None}
+use Rattle.std.specs.Prelude.{◌≡◌, ◌≢◌, ℕ, ◌<◌, ◌≤◌, List, count_by, length, get_or, is_some, IfSome, Option, Some}
+use Rattle.std.specs.Prelude.{None}
 use Rattle.std.specs.Prelude.{Result, Ok, Err}
 use Rattle.limits.specs.declared.TheConstants.{BLOCK_BYTES}
 use Rattle.disk.specs.Crash.{Image}
@@ -10,8 +11,8 @@ use Rattle.layout.specs.declared.geometry.Geometry.{Geometry}
 use Rattle.layout.specs.declared.inode.Inode.{Inode}
 use Rattle.layout.specs.Homes.{homes_of}
 use Rattle.layout.specs.Stands.{Stands}
-use Rattle.image_links.specs.declared.links.Links.{Links}
-use Rattle.image_links.specs.Linked.{AreLinked}
+use Rattle.file_counts.specs.declared.links.Links.{Links}
+use Rattle.file_counts.specs.Linked.{AreLinked}
 use Rattle.image_parts.specs.Table.{IsTable}
 use Rattle.image_bodies.specs.declared.found.Found.{Found}
 use Rattle.image_check.specs.Checked.{AreCounts}

@@ -39,8 +39,8 @@ pub enum CheckFault {
     #[error("Bitmap")]
     Bitmap,
     /// Something lies past a file's size, a name in a directory is none or stands twice, a file was made in a later
-    /// boot, or the files make no tree. Where the links alone are wrong, it has the first file that isn't named as often
-    /// as it has links, of those that are no directories.
+    /// boot, or the files make no tree. Where the links alone are wrong, it has the first file that isn't named as
+    /// often as it has links, of those that are no directories.
     #[error("Tree")]
     Tree(Option<Unlinked>),
 }

@@ -6,7 +6,7 @@ ghost use Rattle.disk.specs.Memory.{memory_device};
 mod bodies;
 
 use disk::{Block, BlockNo, CrashDisk, MemDisk};
-use image_links::{Links, are_linked};
+use file_counts::{Links, are_linked};
 use image_parts::{PartFault, are_marked, read_table};
 use layout::{FormatVersion, FreshImage, Geometry};
 use limits::{BLOCK_BYTES, FIRST_HOME_BLOCK, LEAST_BLOCKS, LEAST_INODES, MOST_INODES};

@@ -13,7 +13,7 @@ ghost use Rattle.inode.specs.Read.{IsAskedInode};
 ghost use Rattle.inode.specs.Over.{AreInnerPlaced, HasInode, IsOver, IsPause, MayStop, are_far_placed};
 ghost use Rattle.inode.specs.Shown.{double_held, IsInodeOf, IsShown, body_in, file_kind};
 
-use crate::map::data_block;
+use crate::map::{data_block, data_object};
 use crate::read::inode_of;
 use crate::snap::Snap;
 use crate::stop::Stop;
@@ -65,8 +65,8 @@ pub fn far_used(snap: &Snap, indirect: u32) -> Result<u32, Stop>
     if !snap.geometry.is_data(indirect) {
         return Err(Stop::Io);
     }
-    let bytes = data_block(snap, indirect)?;
-    match Numbers::mapped_in(&snap.geometry, bytes) {
+    let block = data_object(snap, indirect)?;
+    match Numbers::mapped_in(&snap.geometry, block) {
         Ok(mapped) => Ok(mapped + 1),
         Err(_) => Err(Stop::Io),
     }

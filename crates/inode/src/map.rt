@@ -12,14 +12,28 @@ ghost use Rattle.inode.specs.Asked.{AreFarNumbers, IsBlockAddr, IsFarNumber, IsN
 ghost use Rattle.inode.specs.Asked.{MayStopFor, WasReadBlock};
 ghost use Rattle.inode.specs.Over.{HasInode, IsOver, IsPause, MayStop, are_far_placed, far_at, number_at};
 
-use crate::read::bytes_at;
+use crate::read::object_at;
 use crate::snap::Snap;
 use crate::stop::Stop;
 use disk::BlockNo;
 use layout::{Inode, Numbers};
 use limits::{DIRECT_INDEXES, FIRST_DOUBLE_INDEX, INDIRECT_INDEXES};
-use objects::Addr;
+use objects::{Addr, Object};
 use std::alloc::Global;
+
+/// A data block, once it was read.
+pub(crate) fn data_object(snap: &Snap, number: u32) -> Result<&Object, Stop>
+    requires { is_data snap.now.geometry number ≡ true }
+    ensures len { IfOk result (λ object. object.now.addr.len ≡ BLOCK_BYTES) }
+    ensures ok { IfOk result (λ object. (blocks : Image) (tree : Tree) → IsOver snap.now blocks tree
+        → object.now.bytes ≡ content_in snap.now.geometry blocks number) }
+    ensures read { IfOk result (λ object. WasReadBlock snap.now.objects.items number object.now.bytes) }
+    ensures err { IfErr result (λ stop. MayStop snap.now stop) }
+    ensures asks { IfErr result (λ stop. IsStopFor (IsBlockAddr number) stop) }
+    ensures pause { IfErr result (λ stop. IsPause stop) }
+{
+    object_at(snap, Addr::whole(BlockNo(number)))
+}
 
 /// The bytes of a data block, once they were read.
 pub fn data_block(snap: &Snap, number: u32) -> Result<&[u8], Stop>
@@ -32,7 +46,10 @@ pub fn data_block(snap: &Snap, number: u32) -> Result<&[u8], Stop>
     ensures asks { IfErr result (λ stop. IsStopFor (IsBlockAddr number) stop) }
     ensures pause { IfErr result (λ stop. IsPause stop) }
 {
-    bytes_at(snap, Addr::whole(BlockNo(number)))
+    match data_object(snap, number) {
+        Ok(object) => Ok(object.bytes()),
+        Err(stop) => Err(stop),
+    }
 }
 
 // The number at an index of a pointer block: 0 where there is none.

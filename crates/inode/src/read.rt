@@ -10,7 +10,23 @@ ghost use Rattle.inode.specs.declared.stop.Stop.TheVariants as stop;
 use crate::snap::Snap;
 use crate::stop::Stop;
 use layout::Inode;
-use objects::Addr;
+use objects::{Addr, Object};
+
+/// What lies at an address, once it was read, in whatever mode. It is asked for in the mode of all that is read.
+pub(crate) fn object_at(snap: &Snap, addr: Addr) -> Result<&Object, Stop>
+    ensures ok { IfOk result (λ object. object.now.addr.len ≡ addr.len) }
+    ensures there { IfOk result (λ object. (blocks : Image) → Saw blocks snap.now
+        → object_at blocks addr ≡ object.now.bytes) }
+    ensures err { IfErr result (λ stop. IsNew snap.now stop) }
+    ensures io { IfErr result (λ stop. NoneStand snap.now stop) }
+    ensures need { IfErr result (λ why. why ≡ stop.Need addr snap.now.asks) }
+    ensures read { IfOk result (λ object. WasRead snap.now.objects.items addr object.now.bytes) }
+{
+    match snap.get(addr) {
+        Some(object) => Ok(object),
+        None => Err(Stop::Need(addr, snap.asks)),
+    }
+}
 
 /// The bytes at an address, once they were read, in whatever mode. They are asked for in the mode of all that is read.
 pub fn bytes_at(snap: &Snap, addr: Addr) -> Result<&[u8], Stop>
@@ -22,9 +38,9 @@ pub fn bytes_at(snap: &Snap, addr: Addr) -> Result<&[u8], Stop>
     ensures need { IfErr result (λ why. why ≡ stop.Need addr snap.now.asks) }
     ensures read { IfOk result (λ bytes. WasRead snap.now.objects.items addr bytes.now) }
 {
-    match snap.get(addr) {
-        Some(object) => Ok(object.bytes()),
-        None => Err(Stop::Need(addr, snap.asks)),
+    match object_at(snap, addr) {
+        Ok(object) => Ok(object.bytes()),
+        Err(stop) => Err(stop),
     }
 }
 

@@ -1,5 +1,5 @@
 //! What has been read for a call so far.
-ghost use Rattle.std.specs.Prelude.{◌≡◌};
+ghost use Rattle.std.specs.Prelude.{◌≡◌, ◌<◌, vec_len, vec_capacity, OnOk};
 ghost use Rattle.layout.specs.declared.version.FormatVersion.TheVariants.{Second};
 ghost use Rattle.inode.specs.Indexed.{IsIndexed};
 
@@ -11,6 +11,9 @@ use layout::Geometry;
 use objects::{Addr, Mode, SharedBytes};
 use std::alloc::{AllocError, Global};
 use txn::Object;
+
+// As many objects as most calls read.
+const MOSTLY_READ: usize = 8;
 
 /// The geometry of the image, which has the newest version once it is open, the mode in which a reading asks for what wasn't
 /// read yet, the objects that were read so far in their order, the addresses of those that were asked for alone, and the blocks
@@ -66,9 +69,9 @@ impl Snap {
         ensures claims { self.new.claims.items ≡ self.old.claims.items }
         ensures from { self.new.from ≡ self.old.from }
     {
-        self.objects.reserve(1)?;
-        self.alone.reserve(1)?;
-        self.claims.reserve(1)
+        reserve_one(&mut self.objects)?;
+        reserve_one(&mut self.alone)?;
+        reserve_one(&mut self.claims)
     }
 
     /// Adds an object that was read in a mode, for which there is room. One that was read before is had in this mode, too.
@@ -161,4 +164,15 @@ impl Snap {
             None => walk(&self.objects, addr),
         }
     }
+}
+
+// Makes room for one more: where there is none, for as many at once as most calls read.
+fn reserve_one<T>(list: &mut Vec<T>) -> Result<(), AllocError>
+    ensures room { OnOk result (vec_len list.new < vec_capacity list.new) }
+    ensures items { list.new.items ≡ list.old.items }
+{
+    if list.len() < list.capacity() {
+        return Ok(());
+    }
+    list.reserve(MOSTLY_READ)
 }

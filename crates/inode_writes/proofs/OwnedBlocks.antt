@@ -1,6 +1,6 @@
 -- The blocks that a file owns, gathered from its inode and its pointer blocks.
 use Rattle.std.proofs.Common.{◌≡◌, ℕ, ◌+◌, ◌<◌, sym, ap, ◌∙◌, refl, List, [], ◌∷◌, ◌++◌, filter, get_or, length, take}
-use Rattle.std.proofs.Common.{Some, Ok, append-nil, nat_eq, true}
+use Rattle.std.proofs.Common.{Some, Ok, append-nil, nat_eq, Bool, true, false, cond}
 use Rattle.std.specs.List.{flat_map}
 use Rattle.std.proofs.lemmas.List.{append_assoc, flat_map_more, take_more}
 use Rattle.std.proofs.lemmas.List.Elements.{filter-append}
@@ -30,6 +30,25 @@ module _ (content : Image) where
       is ∙ ap (λ l. l ++ named (get_or all index 0)) was
       ∙ flat_map_more named before (take index all) (get_or all index 0)
       ∙ ap (λ l. before ++ flat_map named l) (sym (take_more all index 0 less))
+
+  -- one number more before what is kept
+  kept_once_more : (some : Bool) (n : ℕ) (l : List ℕ) → is_some n ≡ some → filter is_some l ≡ l
+      → filter is_some (cond some (n ∷ l) l) ≡ cond some (n ∷ l) l
+  kept_once_more true n l is kept = ap (λ t. cond t (n ∷ filter is_some l) (filter is_some l)) is ∙ ap (λ k. n ∷ k) kept
+  kept_once_more false n l is kept = kept
+
+  kept_twice : (l : List ℕ) → filter is_some (filter is_some l) ≡ filter is_some l
+  kept_twice [] = refl
+  kept_twice (n ∷ l) = kept_once_more (is_some n) n (filter is_some l) refl (kept_twice l)
+
+  -- those that the indirect block names are kept, behind others
+  pub far_kept : (before : List ℕ) (inode : Inode)
+      → filter is_some (before ++ named inode.indirect)
+      ≡ filter is_some (before ++ numbers_in content inode.indirect)
+  far_kept before inode =
+      filter-append is_some before (named inode.indirect)
+      ∙ ap (λ l. filter is_some before ++ l) (kept_twice (numbers_in content inode.indirect))
+      ∙ sym (filter-append is_some before (numbers_in content inode.indirect))
 
   -- all of them
   pub all_owned : (inode : Inode)

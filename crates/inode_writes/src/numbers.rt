@@ -10,7 +10,7 @@ ghost use Rattle.model.specs.Tree.{Tree};
 ghost use Rattle.inode.specs.Over.{HasInode, IsOver, IsPause, MayStop, are_far_placed};
 ghost use Rattle.inode_writes.specs.Frees.{is_some, named_by};
 
-use inode::{Snap, Stop, double_numbers, indirect_numbers, pointer_numbers};
+use inode::{Snap, Stop, double_numbers, pointer_numbers};
 use layout::Inode;
 use std::alloc::{AllocError, Global};
 
@@ -33,6 +33,23 @@ fn near_blocks(
     Ok(numbers)
 }
 
+// The numbers of the blocks that a pointer block names: none where there is no such block.
+fn named_by(alloc: Global, snap: &Snap, pointer: u32) -> Result<Vec<u32>, Stop>
+    ensures ok { IfOk result (λ named. (blocks : Image) (tree : Tree) → IsOver snap.now blocks tree
+        → named.items ≡ named_by (content_in snap.now.geometry blocks) pointer) }
+    ensures err { IfErr result (λ stop. MayStop snap.now stop) }
+    ensures pause { IfErr result (λ stop. (blocks : Image) (tree : Tree) → IsOver snap.now blocks tree
+        → is_data_block_or_none snap.now.geometry pointer ≡ true
+        → are_far_placed snap.now.geometry blocks pointer → IsPause stop) }
+{
+    if pointer == 0 {
+        return Ok(Vec::new(alloc));
+    }
+    let mut named = pointer_numbers(alloc, snap, pointer)?;
+    named.retain(|number| *number != 0);
+    Ok(named)
+}
+
 // Adds the numbers of the blocks that an inner block of a file names, if it has this one.
 fn add_inner(alloc: Global, snap: &Snap, pointer: u32, numbers: &mut Vec<u32>) -> Result<(), Stop>
     ensures ok { OnOk result ((blocks : Image) (tree : Tree) → IsOver snap.now blocks tree
@@ -42,11 +59,7 @@ fn add_inner(alloc: Global, snap: &Snap, pointer: u32, numbers: &mut Vec<u32>) -
         → is_data_block_or_none snap.now.geometry pointer ≡ true
         → are_far_placed snap.now.geometry blocks pointer → IsPause stop) }
 {
-    if pointer == 0 {
-        return Ok(());
-    }
-    let mut named = pointer_numbers(alloc, snap, pointer)?;
-    named.retain(|number| *number != 0);
+    let named = named_by(alloc, snap, pointer)?;
     numbers.extend_from_slice(&named)?;
     Ok(())
 }
@@ -83,7 +96,7 @@ pub(crate) fn blocks_of(alloc: Global, snap: &Snap, inode: &Inode) -> Result<Vec
     ensures pause { IfErr result (λ stop. (blocks : Image) (tree : Tree) (file : ℕ)
         → HasInode snap.now blocks tree file inode.now → IsPause stop) }
 {
-    let far = indirect_numbers(alloc, snap, inode)?;
+    let far = named_by(alloc, snap, inode.indirect)?;
     if inode.double == 0 {
         return Ok(near_blocks(alloc, inode, &[], &far)?);
     }

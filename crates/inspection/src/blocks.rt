@@ -14,7 +14,25 @@ use disk::BlockNo;
 use inode::Snap;
 use layout::{Geometry, Inode, InodeKind, Numbers, Slot};
 use limits::{BLOCK_BYTES, DIRECT_INDEXES, INDIRECT_INDEXES, MOST_SPAN, SLOTS_PER_BLOCK};
-use objects::Addr;
+use objects::{Addr, Object};
+
+// A data block, if it was read.
+fn read_object(snap: &Snap, number: u32) -> Option<&Object>
+    ensures len { IfSome result (λ object. object.now.addr.len ≡ BLOCK_BYTES) }
+    ensures read { IfSome result (λ object. (blocks : Image) → AreRead snap.now blocks
+        → WasReadBlock snap.now blocks number) }
+    ensures is { IfSome result (λ object. (blocks : Image) → Saw blocks snap.now
+        → WasReadBlock snap.now blocks number → object.now.bytes ≡ blocks number) }
+    ensures none { IfNone result ((blocks : Image) → WasReadBlock snap.now blocks number → ⊥) }
+{
+    if !snap.geometry.is_data(number) {
+        return None;
+    }
+    match snap.get(Addr::whole(BlockNo(number))) {
+        Some(object) => Some(object),
+        None => None,
+    }
+}
 
 // The bytes of a data block, if it was read.
 fn read_block(snap: &Snap, number: u32) -> Option<&[u8]>
@@ -25,22 +43,19 @@ fn read_block(snap: &Snap, number: u32) -> Option<&[u8]>
         → WasReadBlock snap.now blocks number → bytes.now ≡ blocks number) }
     ensures none { IfNone result ((blocks : Image) → WasReadBlock snap.now blocks number → ⊥) }
 {
-    if !snap.geometry.is_data(number) {
-        return None;
-    }
-    match snap.get(Addr::whole(BlockNo(number))) {
+    match read_object(snap, number) {
         Some(object) => Some(object.bytes()),
         None => None,
     }
 }
 
 // Whether a pointer block names what is no data block.
-fn names_others(geometry: &Geometry, block: &[u8]) -> bool
-    requires { length block.now ≡ BLOCK_BYTES }
+fn names_others(geometry: &Geometry, block: &Object) -> bool
+    requires { block.now.addr.len ≡ BLOCK_BYTES }
     ensures some { result ≡ true
-        → list_all (is_data_block_or_none geometry.now) (numbers_at INDIRECT_INDEXES 0 block.now) ≡ false }
+        → list_all (is_data_block_or_none geometry.now) (numbers_at INDIRECT_INDEXES 0 block.now.bytes) ≡ false }
     ensures none { result ≡ false
-        → list_all (is_data_block_or_none geometry.now) (numbers_at INDIRECT_INDEXES 0 block.now) ≡ true }
+        → list_all (is_data_block_or_none geometry.now) (numbers_at INDIRECT_INDEXES 0 block.now.bytes) ≡ true }
 {
     Numbers::mapped_in(geometry, block).is_err()
 }
@@ -52,9 +67,8 @@ fn has_refused_slot(inodes: u32, block: &[u8]) -> bool
     ensures none { result ≡ false → HasRefusedSlot inodes block.now → ⊥ }
 {
     'slots: for slot in 0..SLOTS_PER_BLOCK {
-        match Slot::number_under(inodes, Slot::bytes_in(block, slot), &[]) {
-            Ok(_) => {}
-            Err(_) => return true,
+        if Slot::is_refused(inodes, Slot::bytes_in(block, slot)) {
+            return true;
         }
     }
     false
@@ -120,7 +134,7 @@ fn is_refused_pointer(snap: &Snap, pointer: u32) -> bool
         → IsRefusedPointer snap.now blocks pointer }
     ensures none { result ≡ false → (blocks : Image) → Saw blocks snap.now → IsRefusedPointer snap.now blocks pointer → ⊥ }
 {
-    match read_block(snap, pointer) {
+    match read_object(snap, pointer) {
         Some(block) => names_others(&snap.geometry, block),
         None => false,
     }

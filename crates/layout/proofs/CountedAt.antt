@@ -1,83 +1,27 @@
--- The numbers of an indirect block, counted where they lie.
-use Rattle.std.proofs.Common.{◌≡◌, ℕ, zero, suc, ◌+◌, ◌*◌, ◌<◌, ◌≤◌, ap, ◌∙◌, sym, refl, Bool, true, false, ◌&&◌, ◌||◌}
-use Rattle.std.proofs.Common.{List, [], ◌∷◌, length, nat_eq, nat_lt, get_or, arith, cond, not}
+-- What an indirect block maps, by what its numbers count to.
+use Rattle.std.proofs.Common.{◌≡◌, ℕ, zero, suc, ◌-◌, ◌^◌, ◌<◌, ◌≤◌, ap, ◌∙◌, refl}
+use Rattle.std.proofs.Common.{Bool, true, false, ◌&&◌, ◌||◌}
+use Rattle.std.proofs.Common.{List, [], ◌∷◌, length, nat_eq, nat_lt, get_or, arith, inl, inr, not}
 use Rattle.std.specs.List.{list_all}
-use Rattle.std.proofs.lemmas.Bool.{eq-eqb, le-leb, lt-ltb, ne_eqb}
-use Rattle.std.proofs.lemmas.List.Folds.{list_all-append}
-use Rattle.std.proofs.lemmas.List.Sums.{sum_by-append, sum_by-cons}
-use Rattle.layout.specs.Fields.{count_of, four_at, numbers_at}
+use Rattle.std.proofs.lemmas.Bool.{cases_lt, eq-eqb, le-leb, lt-ltb, ne_eqb}
+use Rattle.std.proofs.lemmas.List.Folds.{list_all_at}
+use Rattle.std.proofs.lemmas.List.Sums.{count_by-le-length}
+use Rattle.objects.specs.Counted.{IsAmong, IsCounted}
+use Rattle.objects.specs.declared.counted.Counted.{Counted}
+use Rattle.objects.proofs.CountedSoFar.{stands}
 use Rattle.layout.specs.Geometry.{data_at}
 use Rattle.layout.specs.InodeForm.{is_data_block_or_none}
 use Rattle.layout.specs.Places.{is_data}
 use Rattle.layout.specs.declared.geometry.Geometry.{Geometry}
-use Rattle.layout.proofs.NumbersAt.{no_numbers, number_at, numbers-length, one_more}
 use Rattle.layout.proofs.OnGrid.{data_within}
 
-abbrev weight : ℕ → ℕ
-weight n = cond (not (nat_eq n 0)) 1 0
-
-pub none_yet : (bytes : List ℕ) → 0 ≡ count_of (numbers_at 0 0 bytes)
-none_yet bytes = sym (ap count_of (no_numbers 0 bytes))
-
-counted : (index number : ℕ) (bytes : List ℕ) → number ≡ four_at (4 * index) bytes
-    → count_of (numbers_at (index + 1) 0 bytes) ≡ count_of (numbers_at index 0 bytes) + weight number
-counted index number bytes is =
-    let more = ap count_of (one_more index bytes) in
-    let both = sum_by-append weight (numbers_at index 0 bytes) (four_at (4 * index) bytes ∷ []) in
-    let one = sum_by-cons weight (four_at (4 * index) bytes) [] in
-    let same = ap weight is in
-    omega (arith, more, both, one, same)
-
-pub some_more : (index number mapped next : ℕ) (bytes : List ℕ) → number ≡ four_at (4 * index) bytes
-    → mapped ≡ count_of (numbers_at index 0 bytes) → (number ≡ 0 → ⊥) → next ≡ mapped + 1
-    → next ≡ count_of (numbers_at (index + 1) 0 bytes)
-some_more index number mapped next bytes is was some next_is =
-    let all = counted index number bytes is in
-    let one : weight number ≡ 1 = ap (λ b. cond (not b) 1 0) (ne_eqb number 0 some) in
-    omega (arith, all, one, was, next_is)
-
-pub none_more : (index number mapped next : ℕ) (bytes : List ℕ) → number ≡ four_at (4 * index) bytes
-    → mapped ≡ count_of (numbers_at index 0 bytes) → number ≡ 0 → next ≡ mapped
-    → next ≡ count_of (numbers_at (index + 1) 0 bytes)
-none_more index number mapped next bytes is was none next_is =
-    let all = counted index number bytes is in
-    let zero_is : weight number ≡ 0 = ap (λ b. cond (not b) 1 0) (eq-eqb number 0 none) in
-    omega (arith, all, zero_is, was, next_is)
-
--- a test is true of all of them
-pub all_yet : (p : ℕ → Bool) (bytes : List ℕ) → list_all p (numbers_at 0 0 bytes) ≡ true
-all_yet p bytes = ap (list_all p) (no_numbers 0 bytes)
-
-pub all_more : (p : ℕ → Bool) (index number : ℕ) (bytes : List ℕ) → number ≡ four_at (4 * index) bytes
-    → list_all p (numbers_at index 0 bytes) ≡ true → p number ≡ true
-    → list_all p (numbers_at (index + 1) 0 bytes) ≡ true
-all_more p index number bytes is so_far one =
-    let at = four_at (4 * index) bytes in
-    ap (list_all p) (one_more index bytes) ∙ list_all-append p (numbers_at index 0 bytes) (at ∷ [])
-    ∙ ap (λ b. b && (p at && true)) so_far ∙ ap (λ b. b && true) (sym (ap p is) ∙ one)
-
--- one of which a test isn't true
-fails_at : (p : ℕ → Bool) (xs : List ℕ) (i : ℕ) → i < length xs → p (get_or xs i 0) ≡ false
-    → list_all p xs ≡ false
-fails_at p [] i less e = absurd (omega (arith, less))
-fails_at p (x ∷ xs) zero less e = ap (λ b. b && list_all p xs) e
-fails_at p (x ∷ xs) (suc i) less e =
-    ap (λ b. p x && b) (fails_at p xs i (omega (arith, less)) e) ∙ never (p x)
-  where
-    never : (b : Bool) → (b && false) ≡ false
-    never true = refl
-    never false = refl
-
-pub refused_at : (p : ℕ → Bool) (count index number : ℕ) (bytes : List ℕ) → index < count
-    → number ≡ four_at (4 * index) bytes → p number ≡ false → list_all p (numbers_at count 0 bytes) ≡ false
-refused_at p count index number bytes less is e =
-    let long = numbers-length count 0 bytes in
-    let place : 0 + 4 * index ≡ 4 * index = omega arith in
-    let at = number_at count 0 bytes index less ∙ ap (λ k. four_at k bytes) place ∙ sym is in
-    fails_at p (numbers_at count 0 bytes) index (omega (arith, long, less)) (ap p at ∙ e)
+-- a test that is true at each index is true of all
+holds_at : (p : ℕ → Bool) (xs : List ℕ) → ((i : ℕ) → p (get_or xs i 0) ≡ true) → list_all p xs ≡ true
+holds_at p [] h = refl
+holds_at p (x ∷ xs) h = ap (λ b. b && list_all p xs) (h zero) ∙ holds_at p xs (λ i. h (suc i))
 
 -- the test of a number, by how it lies to the data blocks
-pub placed_one : (g : Geometry) (number : ℕ) → data_at g.blocks g.inodes ≤ number → number < g.blocks
+placed_one : (g : Geometry) (number : ℕ) → data_at g.blocks g.inodes ≤ number → number < g.blocks
     → is_data_block_or_none g number ≡ true
 placed_one g number low high =
     ap (λ b. nat_eq number 0 || (b && nat_lt number g.blocks)) (le-leb (data_at g.blocks g.inodes) number low)
@@ -87,13 +31,63 @@ placed_one g number low high =
     any true = refl
     any false = refl
 
-pub none_placed : (g : Geometry) (number : ℕ) → number ≡ 0 → is_data_block_or_none g number ≡ true
+none_placed : (g : Geometry) (number : ℕ) → number ≡ 0 → is_data_block_or_none g number ≡ true
 none_placed g number none = ap (λ b. b || is_data g number) (eq-eqb number 0 none)
 
-pub misplaced : (g : Geometry) (number : ℕ) → (number ≡ 0 → ⊥)
+misplaced : (g : Geometry) (number : ℕ) → (number ≡ 0 → ⊥)
     → ((data_at g.blocks g.inodes ≤ number) × (number < g.blocks) → ⊥) → is_data_block_or_none g number ≡ false
 misplaced g number some apart = split (is_data g number) refl
   where
     split : (b : Bool) → is_data g number ≡ b → is_data_block_or_none g number ≡ false
     split true e = absurd (apart (data_within g number e))
     split false e = ap (λ b. b || is_data g number) (ne_eqb number 0 some) ∙ e
+
+-- where both ends lie among the data blocks, all of the numbers do that aren't 0
+pub all_placed : (g : Geometry) (numbers : List ℕ) (counted : Counted) → IsCounted numbers counted
+    → data_at g.blocks g.inodes ≤ counted.least → counted.greatest < g.blocks
+    → list_all (is_data_block_or_none g) numbers ≡ true
+all_placed g numbers counted is low high = holds_at (is_data_block_or_none g) numbers one
+  where
+    one : (i : ℕ) → is_data_block_or_none g (get_or numbers i 0) ≡ true
+    one i =
+        elim (cases_lt 0 (get_or numbers i 0)) as (λ _. is_data_block_or_none g (get_or numbers i 0) ≡ true) [
+          | inl some ↦
+              let lies = is.within i some in
+              let from = lies.0 in
+              let to = lies.1 in
+              placed_one g (get_or numbers i 0) (omega (arith, low, from)) (omega (arith, to, high))
+          | inr none ↦ none_placed g (get_or numbers i 0) (omega (arith, none))
+        ]
+
+-- an end that lies elsewhere is a number that is neither 0 nor that of a data block
+elsewhere : (g : Geometry) (numbers : List ℕ) (one : ℕ) → IsAmong numbers one
+    → ((data_at g.blocks g.inodes ≤ one) × (one < g.blocks) → ⊥) → list_all (is_data_block_or_none g) numbers ≡ false
+elsewhere g numbers one among apart =
+    let some = among.0 in
+    list_all_at (is_data_block_or_none g) numbers among.1 0 (stands numbers among.1 one among.0 among.2)
+    (ap (is_data_block_or_none g) among.2 ∙ misplaced g one (λ none. omega (arith, none, some)) apart)
+
+pub before_data : (g : Geometry) (numbers : List ℕ) (counted : Counted) → IsCounted numbers counted
+    → data_at g.blocks g.inodes < 2 ^ 32 → counted.least < data_at g.blocks g.inodes
+    → list_all (is_data_block_or_none g) numbers ≡ false
+before_data g numbers counted is fits low =
+    elim is.least as (λ _. list_all (is_data_block_or_none g) numbers ≡ false) [
+      | inl none ↦ absurd (omega (arith, none, fits, low))
+      | inr among ↦ elsewhere g numbers counted.least among (λ both. let from = both.0 in omega (arith, from, low))
+    ]
+
+pub past_end : (g : Geometry) (numbers : List ℕ) (counted : Counted) → IsCounted numbers counted
+    → 0 < g.blocks → g.blocks ≤ counted.greatest → list_all (is_data_block_or_none g) numbers ≡ false
+past_end g numbers counted is some high =
+    elim is.greatest as (λ _. list_all (is_data_block_or_none g) numbers ≡ false) [
+      | inl none ↦ absurd (omega (arith, none, some, high))
+      | inr among ↦ elsewhere g numbers counted.greatest among (λ both. let to = both.1 in omega (arith, to, high))
+    ]
+
+-- no more are counted than there are
+pub few_counted : (numbers : List ℕ) (counted : Counted) → IsCounted numbers counted
+    → counted.count ≤ length numbers
+few_counted numbers counted is =
+    let some = count_by-le-length (λ (number : ℕ). not (nat_eq number 0)) numbers in
+    let count = is.count in
+    omega (arith, some, count)

@@ -4,7 +4,6 @@ pub mod FreshBits
 pub mod FreshBytes
 pub mod FreshFiles
 pub mod FreshInodes
-pub mod NumbersAt
 pub mod BitmapBytes
 pub mod Local
 pub mod Frame
@@ -17,6 +16,7 @@ pub mod Used
 pub mod FreshHomes
 pub mod Respelled
 pub mod ZeroWords
+mod ZeroParts
 pub mod ReadBytes
 pub mod Refused
 pub mod SlotBytes
@@ -34,3 +34,5 @@ pub mod ChangedNumbers
 pub mod OnGrid
 pub mod Holding
 pub mod CountedAt
+-- What is proved below of numbers, for the crates above.
+pub use Rattle.objects.proofs.NumbersAt

@@ -1,20 +1,14 @@
 -- Numbers in bytes, the least byte first, as the disk has them.
-use Rattle.std.specs.Prelude.{ℕ, zero, suc, ◌+◌, Bool, List, [], ◌∷◌, nat_eq, not, drop, count_by}
+use Rattle.std.specs.Prelude.{ℕ, Bool, List, nat_eq, drop}
 use Rattle.std.specs.Int.{w32, w64, from_le_bytes, to_le_bytes}
 use Rattle.std.specs.List.{flat_map, list_all}
-
--- the number that the 4 bytes from an offset on spell
-unfoldable pub four_at : ℕ → List ℕ → ℕ
-four_at offset bytes = from_le_bytes w32 (drop offset bytes)
+-- numbers of 4 bytes, as blocks in memory have them too
+unfoldable pub use Rattle.objects.specs.Numbers.{four_at, numbers_at}
+pub use Rattle.objects.specs.Numbers.{count_of}
 
 -- the number that the 8 bytes from an offset on spell
 unfoldable pub eight_at : ℕ → List ℕ → ℕ
 eight_at offset bytes = from_le_bytes w64 (drop offset bytes)
-
--- so many numbers of 4 bytes, one behind another from an offset on
-unfoldable pub numbers_at : ℕ → ℕ → List ℕ → List ℕ
-numbers_at zero offset bytes = []
-numbers_at (suc count) offset bytes = four_at offset bytes ∷ numbers_at count (offset + 4) bytes
 
 -- a number in 4 bytes
 unfoldable pub four_bytes : ℕ → List ℕ
@@ -31,7 +25,3 @@ number_bytes numbers = flat_map four_bytes numbers
 -- nothing but zeros
 abbrev pub is_zeros : List ℕ → Bool
 is_zeros bytes = list_all (λ byte. nat_eq byte 0) bytes
-
--- how many of these are numbers of blocks
-abbrev pub count_of : List ℕ → ℕ
-count_of numbers = count_by (λ number. not (nat_eq number 0)) numbers

@@ -1,5 +1,5 @@
 //! Numbers in bytes, the least byte first.
-ghost use Rattle.std.specs.Prelude.{◌≡◌, ◌+◌, ◌≤◌, ◌++◌, length, OnOk};
+ghost use Rattle.std.specs.Prelude.{◌≡◌, ◌+◌, ◌≤◌, ◌++◌, length, take, drop, OnOk};
 ghost use Rattle.layout.specs.Fields.{four_at, eight_at, four_bytes, eight_bytes, is_zeros};
 
 use std::alloc::AllocError;
@@ -46,6 +46,16 @@ pub(crate) fn is_zeros(bytes: &[u8]) -> bool
     }
     let (_, rest) = bytes.split_at(8 * words);
     are_zero(rest)
+}
+
+/// Whether each of the 32 bytes from an offset on is zero: all of them are looked at, with one test.
+pub(crate) fn are_zeros_at(bytes: &[u8], offset: usize) -> bool
+    requires { offset + 32 ≤ length bytes.now }
+    ensures { result ≡ is_zeros (take 32 (drop offset bytes.now)) }
+{
+    let first = eight_at(bytes, offset) | eight_at(bytes, offset + 8);
+    let second = eight_at(bytes, offset + 16) | eight_at(bytes, offset + 24);
+    (first | second) == 0
 }
 
 // The same, one by one.

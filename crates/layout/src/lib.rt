@@ -12,6 +12,7 @@ mod inode;
 mod inode_bytes;
 mod inode_fields;
 mod inode_rules;
+mod name_pattern;
 mod numbers;
 mod slot;
 mod spellings;
@@ -30,6 +31,7 @@ pub use grid::{
     PIECE_BITS, PIECE_BYTES, PIECES_PER_BLOCK, objects_are_one_or_apart, objects_lie_at_home,
 };
 pub use inode::{Inode, InodeKind};
+pub use name_pattern::NamePattern;
 pub use numbers::{NUMBER_BYTES, Numbers};
 pub use slot::{SLOT_BYTES, Slot};
 pub use spellings::{

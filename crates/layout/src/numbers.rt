@@ -10,6 +10,7 @@ use crate::inode_bytes::put_numbers;
 use crate::inode_rules::{are_data_blocks_or_none, is_data_block_or_none};
 use crate::{Geometry, LayoutFault};
 use limits::{BLOCK_BYTES, INDIRECT_INDEXES};
+use objects::Object;
 use std::alloc::{AllocError, Global};
 use std::marker::Model;
 
@@ -61,37 +62,28 @@ impl Numbers {
         Ok(Ok(Numbers { numbers }))
     }
 
-    /// How many blocks an indirect block of an image of this geometry maps, counted where it lies. It is refused
-    /// (Range) where a number is neither 0 nor that of a data block. It counts all of them, and those of data blocks, and
-    /// ends nowhere before, so that the compiler can look at several at once.
-    pub fn mapped_in(geometry: &Geometry, bytes: &[u8]) -> Result<u32, LayoutFault>
-        requires { length bytes.now ≡ BLOCK_BYTES }
+    /// How many blocks an indirect block of an image of this geometry maps. It is refused (Range) where a number is
+    /// neither 0 nor that of a data block. Where the block comes with what its numbers count to, none of them is looked
+    /// at.
+    pub fn mapped_in(geometry: &Geometry, block: &Object) -> Result<u32, LayoutFault>
+        requires { block.now.addr.len ≡ BLOCK_BYTES }
         ensures few { IfOk result (λ mapped. mapped ≤ INDIRECT_INDEXES) }
-        ensures count { IfOk result (λ mapped. mapped ≡ count_of (numbers_at INDIRECT_INDEXES 0 bytes.now)) }
+        ensures count { IfOk result (λ mapped. mapped ≡ count_of (numbers_at INDIRECT_INDEXES 0 block.now.bytes)) }
         ensures places { IfOk result (λ mapped. list_all (is_data_block_or_none geometry.now)
-            (numbers_at INDIRECT_INDEXES 0 bytes.now) ≡ true) }
+            (numbers_at INDIRECT_INDEXES 0 block.now.bytes) ≡ true) }
         ensures refused { IfErr result (λ fault. (fault ≡ LayoutFault.Range)
             × (list_all (is_data_block_or_none geometry.now)
-            (numbers_at INDIRECT_INDEXES 0 bytes.now) ≡ false)) }
+            (numbers_at INDIRECT_INDEXES 0 block.now.bytes) ≡ false)) }
     {
         let data = geometry.data().0;
-        let end = geometry.blocks;
-        let mut mapped = 0;
-        let mut placed = 0;
-        'indexes: for index in 0..INDIRECT_INDEXES {
-            let number = four_at(bytes, NUMBER_BYTES * index);
-            if number != 0 {
-                mapped += 1;
-            }
-            if data <= number && number < end {
-                placed += 1;
-            }
+        let counted = block.counted();
+        if counted.least < data {
+            return Err(LayoutFault::Range);
         }
-        if placed == mapped {
-            Ok(mapped)
-        } else {
-            Err(LayoutFault::Range)
+        if geometry.blocks <= counted.greatest {
+            return Err(LayoutFault::Range);
         }
+        Ok(counted.count)
     }
 
     /// The number at an index of an indirect block, as it stands there.

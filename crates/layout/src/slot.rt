@@ -1,11 +1,12 @@
 //! Slots: what the disk has of a name in a directory in 128 bytes.
-ghost use Rattle.std.specs.Prelude.{◌≡◌, ◌*◌, ◌<◌, ◌≤◌, ℕ, length, take, drop, false, IfOk, IfErr, Ok, Option, Some};
+ghost use Rattle.std.specs.Prelude.{◌≡◌, ◌+◌, ◌*◌, ◌<◌, ◌≤◌, ◌&&◌, ℕ, length, take, drop, true, false};
+ghost use Rattle.std.specs.Prelude.{IfOk, IfErr, IsOk, Ok, Err, Option, Some};
 ghost use Rattle.limits.specs.declared.TheConstants.{BLOCK_BYTES, NAME_BYTES, SLOTS_PER_BLOCK};
 ghost use Rattle.layout.specs.Fields.{four_at, is_zeros};
 ghost use Rattle.layout.specs.SlotForm.{is_sound_slot, number_under, read_slot, used_bytes, IsInDirectory};
 
-use crate::LayoutFault;
-use crate::fields::{four_at, is_zeros, put_four};
+use crate::fields::{are_zeros_at, eight_at, four_at, is_zeros, put_four};
+use crate::{LayoutFault, NamePattern};
 use limits::{BLOCK_BYTES, NAME_BYTES, SLOTS_PER_BLOCK};
 use nfs_types::Octets;
 use std::alloc::{AllocError, Global};
@@ -17,9 +18,13 @@ pub const SLOT_BYTES: usize = BLOCK_BYTES / SLOTS_PER_BLOCK as usize;
 
 const NUMBER_AT: usize = 0;
 
-const COUNT_AT: usize = 4;
+pub(crate) const COUNT_AT: usize = 4;
 
-const NAME_AT: usize = 8;
+pub(crate) const NAME_AT: usize = 8;
+
+// How many times eight bytes there are behind the number, which are more than the longest name has.
+
+const NAMED_WORDS: usize = (SLOT_BYTES - COUNT_AT) / 8;
 
 /// A name in a directory, and the number of the file that it names.
 #[derive(Drop)]
@@ -80,18 +85,35 @@ impl Slot {
         is_zeros(bytes)
     }
 
-    /// Whether a slot may have a name, by the length and the bytes alone that stand where it has one. Where it may
-    /// not, it has no number under the name: it is free, has another name, or is refused.
-    pub fn may_have(bytes: &[u8], name: &[u8]) -> bool
+    /// Whether a slot may have a name, by the length and the bytes alone that stand where it has one: they are looked
+    /// at eight at a time. Where it may not, it has no number under the name: it is free, has another name, or is
+    /// refused.
+    pub fn may_have(bytes: &[u8], name: &NamePattern) -> bool
         requires { length bytes.now ≡ SLOT_BYTES }
         ensures { result ≡ false → (inodes number : ℕ)
             → number_under name.now (read_slot inodes bytes.now) ≡ Ok (Some number) → ⊥ }
     {
-        let count = four_at(bytes, COUNT_AT) as usize;
-        if count != name.len() || count > NAME_BYTES {
+        if !has_word(bytes, name, 0) {
             return false;
         }
-        name.cmp(name_in(bytes)).is_eq()
+        'words: for word in 1..NAMED_WORDS {
+            if !has_word(bytes, name, word) {
+                return false;
+            }
+        }
+        true
+    }
+
+    /// Whether a slot is refused, as reading it is: nothing is made of it.
+    pub fn is_refused(inodes: u32, bytes: &[u8]) -> bool
+        requires { length bytes.now ≡ SLOT_BYTES }
+        ensures some { result ≡ true → read_slot inodes bytes.now ≡ Err LayoutFault.Range }
+        ensures none { result ≡ false → IsOk (read_slot inodes bytes.now) }
+    {
+        if four_at(bytes, NUMBER_AT) == 0 {
+            return !is_zeros(bytes);
+        }
+        !is_sound_slot(inodes, bytes)
     }
 
     /// The number that a slot has under a name: None where it is free or has another name. It is refused
@@ -117,6 +139,20 @@ impl Slot {
             None
         })
     }
+}
+
+// Whether a slot has the eight bytes of a name's pattern that stand at an index behind the number.
+fn has_word(bytes: &[u8], name: &NamePattern, word: usize) -> bool
+    requires len { length bytes.now ≡ SLOT_BYTES }
+    requires word { word < NAMED_WORDS }
+    ensures { result ≡ false → (inodes number : ℕ)
+        → number_under name.now (read_slot inodes bytes.now) ≡ Ok (Some number) → ⊥ }
+{
+    let at = COUNT_AT + 8 * word;
+    if eight_at(bytes, at) != eight_at(name.bytes(), at) {
+        return false;
+    }
+    true
 }
 
 // The name of a slot that is in use.
@@ -163,6 +199,32 @@ fn is_sound_slot(inodes: u32, bytes: &[u8]) -> bool
     if four_at(bytes, NUMBER_AT) >= inodes || count < 1 || count > NAME_BYTES {
         return false;
     }
-    let (_, rest) = bytes.split_at(NAME_AT + count);
-    is_zeros(rest)
+    is_clear_behind(bytes, count)
+}
+
+// Whether nothing but zeros is behind a name of so many bytes.
+fn is_clear_behind(bytes: &[u8], count: usize) -> bool
+    requires len { length bytes.now ≡ SLOT_BYTES }
+    requires count { count ≤ NAME_BYTES }
+    ensures { result ≡ is_zeros (drop (NAME_AT + count) bytes.now) }
+{
+    if count > 24 {
+        let (_, rest) = bytes.split_at(NAME_AT + count);
+        return is_zeros(rest);
+    }
+    has_clear_parts(bytes, count)
+}
+
+// Whether four parts of a slot are zeros, which are all that is behind a short name: one from its end on, and three
+// that are the same for each.
+fn has_clear_parts(bytes: &[u8], count: usize) -> bool
+    requires len { length bytes.now ≡ SLOT_BYTES }
+    requires count { count ≤ 24 }
+    ensures { result ≡ (is_zeros (take 32 (drop (NAME_AT + count) bytes.now)) && is_zeros (take 32 (drop 32 bytes.now))
+        && is_zeros (take 32 (drop 64 bytes.now)) && is_zeros (take 32 (drop 96 bytes.now))) }
+{
+    are_zeros_at(bytes, NAME_AT + count)
+        && are_zeros_at(bytes, 32)
+        && are_zeros_at(bytes, 64)
+        && are_zeros_at(bytes, 96)
 }

@@ -20,7 +20,7 @@ pub fn with_piece(
     requires { from + length piece.now ≤ length bytes.now }
     ensures { IfOk result (λ new. new.items ≡ spliced bytes.now from piece.now) }
 {
-    let mut new = Vec::new(alloc);
+    let mut new = Vec::with_capacity(alloc, bytes.len())?;
     new.extend_from_slice(&bytes[..from])?;
     new.extend_from_slice(piece)?;
     new.extend_from_slice(&bytes[from + piece.len()..])?;

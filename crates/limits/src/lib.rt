@@ -147,7 +147,7 @@ pub const CHANGED_BLOCKS: usize = 128;
 /// logged is brought home.
 pub const MOST_KEPT_COMMITS: usize = 64;
 /// How many clean blocks stay in memory that no call needs, those used last.
-pub const CLEAN_BLOCKS: usize = 256;
+pub const CLEAN_BLOCKS: usize = 1_280;
 
 // The sizes of `serve`.
 

@@ -124,7 +124,8 @@ impl Index {
         requires some { 0 < length self.old.before.items }
         requires homed { block.0 < length self.old.last.items }
         ensures last { self.new.last.items
-            ≡ slice_set self.old.last.items block.0 (slice_index self.old.before.items (length self.old.before.items - 1)) }
+            ≡ slice_set self.old.last.items block.0
+            (slice_index self.old.before.items (length self.old.before.items - 1)) }
         ensures before { self.new.before.items ≡ take (length self.old.before.items - 1) self.old.before.items }
         ensures capacity { vec_capacity self.old.before ≤ vec_capacity self.new.before }
     {

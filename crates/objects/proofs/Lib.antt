@@ -1,7 +1,12 @@
+pub mod Cache
+pub mod CountedSoFar
 pub mod Filled
 pub mod Found
 pub mod Indexed
 pub mod Kept
+pub mod Noted
+pub mod NumbersAt
+pub mod PartThere
 pub mod Residents
 pub mod Splices
 pub mod Wanted

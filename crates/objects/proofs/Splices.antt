@@ -3,8 +3,9 @@ use Rattle.std.proofs.Common.{◌≡◌, ◌⊎◌, inl, inr, ℕ, ◌+◌, ◌-
 use Rattle.std.proofs.Common.{length-append, length-drop, append_assoc, arith}
 use Rattle.std.proofs.Math.Seq.{drop-append-add, take-append_seam}
 use Rattle.std.proofs.lemmas.List.{drop-append-le, take-append-le, drop-take, take-take, drop-drop}
-use Rattle.std.proofs.lemmas.List.{length-take-le}
-use Rattle.objects.specs.Spliced.{spliced}
+use Rattle.std.proofs.lemmas.List.{length-take-le, take_all}
+use Rattle.limits.specs.declared.TheConstants.{BLOCK_BYTES}
+use Rattle.objects.specs.Spliced.{extracted, spliced}
 
 module _ (content bytes : List ℕ) (offset : ℕ) (room : offset + length bytes ≤ length content) where
   abbrev behind_it : List ℕ
@@ -74,3 +75,10 @@ module _ (content bytes : List ℕ) (offset : ℕ) (room : offset + length bytes
       → take len (drop from (spliced content offset bytes)) ≡ take len (drop from content)
   elsewhere n same from len (inl less) = ahead from len less
   elsewhere n same from len (inr more) = behind from len (omega (arith, same, more))
+
+-- all of a block's bytes
+pub whole_part : (content : List ℕ) (offset len : ℕ) → length content ≡ BLOCK_BYTES → offset + len ≤ BLOCK_BYTES
+    → BLOCK_BYTES ≤ len → extracted content offset len ≡ content
+whole_part content offset len long within whole =
+    let start : offset ≡ 0 = omega (arith, within, whole) in
+    ap (λ (from : ℕ). take len (drop from content)) start ∙ take_all len content (omega (arith, long, whole))

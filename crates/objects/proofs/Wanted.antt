@@ -49,7 +49,7 @@ spared_all pins blocks = sym (filter_all (λ resident. true) blocks (λ k d lt. 
 pub lets_none : (pins : BlockNo → ℕ) (blocks : List Present) → LetsGo pins blocks blocks
 lets_none pins blocks = ((λ resident. true), spared_all pins blocks)
 
-or_true : (t : Bool) → (t || true) ≡ true
+pub or_true : (t : Bool) → (t || true) ≡ true
 or_true true = refl
 or_true false = refl
 

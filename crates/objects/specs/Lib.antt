@@ -1,8 +1,11 @@
 pub mod Addr
+pub mod Numbers
+pub mod Counted
 pub mod Mode
 pub mod Spliced
 pub mod Object
 pub mod Present
 pub mod Pins
 pub mod Recent
+pub mod Unneeded
 pub mod Indexed

@@ -1,5 +1,6 @@
 -- The blocks that are in memory besides the log's, and how often each block is pinned.
-use Rattle.std.specs.Prelude.{◌≡◌, ℕ, ◌+◌, ◌-◌, Bool, ◌||◌, if◌then◌else◌, List, is_none, nat_eq, nat_lt}
+use Rattle.std.specs.Prelude.{◌≡◌, ℕ, ◌+◌, ◌-◌, ◌^◌, ◌<◌, Bool, ◌||◌, if◌then◌else◌, List, IsSome}
+use Rattle.std.specs.Prelude.{is_none, nat_eq, nat_lt}
 use Rattle.std.specs.List.{filter}
 use Rattle.std.specs.Map.{lookup}
 use Rattle.std.specs.Option.{unwrap_or}
@@ -19,6 +20,10 @@ count_in counts block = unwrap_or (lookup (nat_eq block.0) counts) 0
 -- how often the block is pinned
 abbrev pub pins_of : Residents → BlockNo → ℕ
 pins_of residents block = count_in residents.counts block
+
+-- one pin more of the block can be counted, and needs no memory
+abbrev pub HasRoom : List (ℕ × ℕ) → BlockNo → Type 0
+HasRoom counts block = IsSome (lookup (nat_eq block.0) counts) × (count_in counts block + 1 < 2 ^ 64)
 
 -- one at this block
 abbrev pub once_at : BlockNo → BlockNo → ℕ

@@ -1,8 +1,9 @@
 -- The blocks that are in memory besides the log's.
-use Rattle.std.specs.Prelude.{◌≡◌, Bool, false, not, ◌||◌, Option, Some, None, List, [], ◌∷◌, ◌++◌}
-use Rattle.std.specs.Prelude.{if◌then◌else◌, is_none, is_some, map, nat_eq}
+use Rattle.std.specs.Prelude.{◌≡◌, ℕ, Bool, false, not, ◌||◌, Option, Some, None, List, [], ◌∷◌, ◌++◌}
+use Rattle.std.specs.Prelude.{if◌then◌else◌, is_none, is_some, map, nat_eq, option_map}
 use Rattle.std.specs.List.{find, filter}
 use Rattle.disk.specs.Device.{Content}
+use Rattle.objects.specs.Spliced.{extracted}
 use Rattle.disk.specs.declared.block.BlockNo.{BlockNo}
 use Rattle.objects.specs.declared.present.Present.{Present}
 
@@ -14,6 +15,10 @@ present_of present block = find (λ resident. nat_eq resident.block.0 block.0) p
 abbrev pub content_in : Option Present → Option Content
 content_in None = None
 content_in (Some resident) = resident.content
+
+-- so many of its bytes from an offset on, if it is there
+abbrev pub bytes_in : Option Content → ℕ → ℕ → Option (List ℕ)
+bytes_in content offset len = option_map (λ bytes. extracted bytes offset len) content
 
 -- whether its fetch is pending
 abbrev pub is_pending : Option Present → Bool

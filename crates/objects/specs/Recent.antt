@@ -1,15 +1,15 @@
 -- The blocks that were unpinned last.
-use Rattle.std.specs.Prelude.{ℕ, Bool, false, Option, Some, None, is_some, nat_eq}
-use Rattle.std.specs.Map.{lookup}
+use Rattle.std.specs.Prelude.{ℕ, Bool, List, [], Option, Some, None, nat_eq}
+use Rattle.std.specs.List.{list_any}
+use Rattle.std.specs.Map.{keys_of}
 use Rattle.disk.specs.declared.block.BlockNo.{BlockNo}
 use Rattle.lru.specs.LruCache.{LruCache}
-use Rattle.objects.specs.declared.recent.Recent.{Recent}
 
--- whether the block's number is in the cache, if there is one
-abbrev pub is_noted_in : Option (LruCache ℕ (Unit {0})) → BlockNo → Bool
-is_noted_in None block = false
-is_noted_in (Some numbers) block = is_some (lookup (nat_eq block.0) numbers.entries)
+-- the numbers in the cache, the last one first; none where there is no cache
+abbrev pub numbers_in : Option (LruCache ℕ (Unit {0})) → List ℕ
+numbers_in None = []
+numbers_in (Some cache) = keys_of cache.entries
 
--- whether the block is noted
-abbrev pub is_noted : Recent → BlockNo → Bool
-is_noted recent block = is_noted_in recent.numbers block
+-- whether the block's number is among these
+abbrev pub is_noted : List ℕ → BlockNo → Bool
+is_noted numbers block = list_any (nat_eq block.0) numbers

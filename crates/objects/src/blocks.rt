@@ -1,13 +1,14 @@
 //! The blocks in memory, found by their numbers.
-ghost use Rattle.std.specs.Prelude.{◌≡◌, ◌<◌, ◌≤◌, ℕ, [], OnErr, OnOk, length, option_map, slice_index};
+ghost use Rattle.std.specs.Prelude.{◌≡◌, ◌<◌, ◌≤◌, ℕ, [], IfOk, IfSome, OnErr, OnOk, length, option_map, slice_index};
 ghost use Rattle.std.specs.Prelude.{is_some, nat_eq, position};
 ghost use Rattle.std.specs.Fn.{CalledAt};
 ghost use Rattle.std.specs.List.Retain.{IsFiltered};
 ghost use Rattle.objects.specs.Indexed.{AreHomed, IsIndex, numbers};
-ghost use Rattle.objects.specs.Present.{present_of, filled, without_pending, without_clean, with_block, IsOnce};
+ghost use Rattle.objects.specs.Present.{IsOnce, bytes_in, content_in, filled, present_of, with_block};
+ghost use Rattle.objects.specs.Present.{without_clean, without_pending};
 ghost use Rattle.objects.specs.Present.{renewed_resident, renewed, without_block};
 
-use crate::Present;
+use crate::{Addr, Present, PresentBlock, SharedBytes};
 use disk::{Block, BlockNo};
 use std::alloc::{AllocError, Global};
 use std::marker::Model;
@@ -74,7 +75,10 @@ impl Blocks {
         let at = block.0 as usize;
         reach(&mut self.indices, at)?;
         let i = self.list.len();
-        self.list.push(Present { block, content })?;
+        self.list.push(Present {
+            block,
+            content: with_content(content),
+        })?;
         self.indices[at] = i;
         Ok(())
     }
@@ -87,6 +91,20 @@ impl Blocks {
             Some(_) => true,
             None => false,
         }
+    }
+
+    /// The bytes at an address, if its block is there and its fetch isn't pending.
+    pub(crate) fn bytes_at(
+        &mut self,
+        alloc: Global,
+        addr: Addr,
+    ) -> Result<Option<SharedBytes>, AllocError>
+        ensures same { self.new ≡ self.old }
+        ensures bytes { IfOk result (λ found. found
+            ≡ bytes_in (content_in (present_of self.old addr.block)) addr.offset addr.len) }
+        ensures len { IfOk result (λ found. IfSome found (λ bytes. length bytes ≡ addr.len)) }
+    {
+        bytes_in(&mut self.list, &self.indices, alloc, addr)
     }
 
     /// Puts the content of a block in its place, where its fetch is pending.
@@ -177,6 +195,51 @@ fn renumber(list: &[Present], indices: &mut [usize])
     }
 }
 
+// The content of a block as it is in memory, where there is one.
+fn with_content(content: Option<Block>) -> Option<PresentBlock>
+    ensures { result ≡ content }
+{
+    match content {
+        Some(block) => Some(PresentBlock::new(block)),
+        None => None,
+    }
+}
+
+// The bytes at an address, if its block is there and its fetch isn't pending.
+fn bytes_in(
+    list: &mut [Present],
+    indices: &[usize],
+    alloc: Global,
+    addr: Addr,
+) -> Result<Option<SharedBytes>, AllocError>
+    requires { IsIndex (numbers list.old) indices.now }
+    ensures same { list.new ≡ list.old }
+    ensures bytes { IfOk result (λ found. found
+        ≡ bytes_in (content_in (present_of list.old addr.block)) addr.offset addr.len) }
+    ensures len { IfOk result (λ found. IfSome found (λ bytes. length bytes ≡ addr.len)) }
+{
+    let Some(i) = index_of(list, indices, addr.block) else {
+        return Ok(None);
+    };
+    bytes_of(&mut list[i], alloc, addr)
+}
+
+// The same of one resident.
+fn bytes_of(
+    resident: &mut Present,
+    alloc: Global,
+    addr: Addr,
+) -> Result<Option<SharedBytes>, AllocError>
+    ensures same { resident.new ≡ resident.old }
+    ensures bytes { IfOk result (λ found. found ≡ bytes_in resident.old.content addr.offset addr.len) }
+    ensures len { IfOk result (λ found. IfSome found (λ bytes. length bytes ≡ addr.len)) }
+{
+    match resident.content.as_mut() {
+        Some(there) => Ok(Some(there.bytes_at(alloc, addr)?)),
+        None => Ok(None),
+    }
+}
+
 // Puts the content of a block in its place, where its fetch is pending.
 fn fill_in(list: &mut [Present], indices: &[usize], block: BlockNo, content: Block)
     requires { IsIndex (numbers list.old) indices.now }
@@ -187,7 +250,7 @@ fn fill_in(list: &mut [Present], indices: &[usize], block: BlockNo, content: Blo
     };
     let resident = &mut list[i];
     if resident.content.is_none() {
-        resident.content = Some(content);
+        resident.content = Some(PresentBlock::new(content));
     }
 }
 
@@ -211,6 +274,6 @@ fn renew(resident: &mut Present, block: BlockNo, content: &Block)
         return;
     }
     if let Some(there) = resident.content.as_mut() {
-        there.copy_from(content);
+        there.renew(content);
     }
 }

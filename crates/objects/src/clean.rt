@@ -1,7 +1,9 @@
 //! Blocks that stay in memory though nobody has pinned them.
-ghost use Rattle.std.specs.Prelude.{◌≡◌, ◌||◌};
+ghost use Rattle.std.specs.Prelude.{◌≡◌, ◌<◌, ◌*◌, ◌||◌, ◌∷◌, ℕ, List, length};
+ghost use Rattle.limits.specs.declared.TheConstants.{CLEAN_BLOCKS};
 ghost use Rattle.objects.specs.Pins.{LetsGo, count_in, is_wanted, spared};
 ghost use Rattle.objects.specs.Recent.{is_noted};
+ghost use Rattle.objects.specs.Unneeded.{AreNoted, IsTidy};
 
 use crate::Present;
 use crate::blocks::Blocks;
@@ -18,7 +20,10 @@ pub(crate) fn keep_clean(
     recent: &mut Recent,
     block: BlockNo,
 )
-    ensures { LetsGo (count_in pins.now.entries) blocks.old blocks.new }
+    requires few { length recent.old < 2 * CLEAN_BLOCKS }
+    requires noted { AreNoted (block.0 ∷ recent.old) (count_in pins.now.entries) blocks.old }
+    ensures goes { LetsGo (count_in pins.now.entries) blocks.old blocks.new }
+    ensures tidy { IsTidy recent.new (count_in pins.now.entries) blocks.new }
 {
     if !recent.note(block) {
         let_clean_go(blocks, pins, block);
@@ -31,7 +36,9 @@ pub(crate) fn keep_clean(
 
 // Lets a block go where nobody has pinned it and no fetch of it is pending.
 fn let_clean_go(blocks: &mut Blocks, pins: &HashMap<u32, u64>, block: BlockNo)
-    ensures { LetsGo (count_in pins.now.entries) blocks.old blocks.new }
+    ensures goes { LetsGo (count_in pins.now.entries) blocks.old blocks.new }
+    ensures noted { (numbers : List ℕ) → AreNoted (block.0 ∷ numbers) (count_in pins.now.entries) blocks.old
+        → AreNoted numbers (count_in pins.now.entries) blocks.new }
 {
     if count_of(pins, block) == 0 {
         blocks.unpin(block);

@@ -1,8 +1,10 @@
 //! Objects: parts of blocks with their bytes.
 ghost use Rattle.std.specs.Prelude.{◌≡◌, length};
+ghost use Rattle.limits.specs.declared.TheConstants.{BLOCK_BYTES};
+ghost use Rattle.objects.specs.Counted.{IsCountedIn};
 ghost use Rattle.objects.specs.declared.addr.Addr.{Addr as Address};
 
-use crate::{Addr, SharedBytes};
+use crate::{Addr, Counted, SharedBytes};
 use std::alloc::AllocError;
 use std::marker::Model;
 
@@ -47,6 +49,14 @@ impl Object {
         ensures len { length result.now ≡ self.now.addr.len }
     {
         self.bytes.as_slice()
+    }
+
+    /// What the numbers of a whole block count to.
+    pub fn counted(&self) -> Counted
+        requires { self.now.addr.len ≡ BLOCK_BYTES }
+        ensures { IsCountedIn self.now.bytes result }
+    {
+        self.bytes.counted()
     }
 }
 

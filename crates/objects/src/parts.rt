@@ -5,6 +5,7 @@ ghost use Rattle.objects.specs.Spliced.{extracted, spliced};
 
 use crate::{Addr, Object, SharedBytes};
 use disk::Block;
+use limits::BLOCK_BYTES;
 use std::alloc::{AllocError, Global};
 
 /// The bytes that lie at an address of a block.
@@ -12,8 +13,7 @@ pub fn extract(alloc: Global, content: &Block, addr: Addr) -> Result<SharedBytes
     ensures bytes { IfOk result (λ bytes. bytes ≡ extracted content.now addr.offset addr.len) }
     ensures len { IfOk result (λ bytes. length bytes ≡ addr.len) }
 {
-    let bytes = content.as_slice()[addr.offset..addr.offset + addr.len].to_vec(alloc)?;
-    SharedBytes::new(alloc, bytes)
+    SharedBytes::new(alloc, copied(alloc, content.as_slice(), addr)?)
 }
 
 /// Lays an object's bytes into a block at its address. Extracted again, there are just these; and what lies
@@ -29,4 +29,15 @@ pub fn splice(content: &mut Block, object: &Object)
     let addr = object.addr();
     let _ = content.as_slice();
     content.put(addr.offset, object.bytes());
+}
+
+// The bytes at an address of a block. How many a block has is known beforehand, so a whole one is copied faster.
+fn copied(alloc: Global, content: &[u8], addr: Addr) -> Result<Vec<u8>, AllocError>
+    requires { length content.now ≡ BLOCK_BYTES }
+    ensures { IfOk result (λ bytes. bytes.items ≡ extracted content.now addr.offset addr.len) }
+{
+    if addr.len == BLOCK_BYTES {
+        return content[addr.offset..addr.offset + BLOCK_BYTES].to_vec(alloc);
+    }
+    content[addr.offset..addr.offset + addr.len].to_vec(alloc)
 }

@@ -1,7 +1,8 @@
 //! How often blocks are pinned.
-ghost use Rattle.std.specs.Prelude.{◌≡◌, ◌<◌, ◌+◌, ◌-◌, ◌^◌, OnOk, OnErr, if◌then◌else◌, nat_eq};
+ghost use Rattle.std.specs.Prelude.{◌≡◌, ◌<◌, ◌+◌, ◌-◌, ◌^◌, IsSome, OnOk, OnErr, if◌then◌else◌, nat_eq};
+ghost use Rattle.std.specs.Map.{lookup};
 ghost use Rattle.disk.specs.declared.block.BlockNo.{BlockNo};
-ghost use Rattle.objects.specs.Pins.{count_in, once_at};
+ghost use Rattle.objects.specs.Pins.{HasRoom, count_in, once_at};
 
 use disk::BlockNo;
 use std::alloc::AllocError;
@@ -28,15 +29,39 @@ pub(crate) fn add(pins: &mut HashMap<u32, u64>, block: BlockNo) -> Result<(), Al
     Ok(())
 }
 
-// Makes the count of a block that is pinned this one.
+/// Makes room for one pin more of the block. Nothing else changes.
+pub(crate) fn make_room(pins: &mut HashMap<u32, u64>, block: BlockNo) -> Result<(), AllocError>
+    ensures room { OnOk result (HasRoom pins.new.entries block) }
+    ensures same { (at : BlockNo) → count_in pins.new.entries at ≡ count_in pins.old.entries at }
+{
+    match pins.get(&block.0).copied() {
+        Some(u64::MAX) => return Err(AllocError),
+        Some(_) => {}
+        None => {
+            pins.insert(block.0, 0)?;
+        }
+    }
+    Ok(())
+}
+
+// Makes the count of a block that is counted this one.
 fn set(pins: &mut HashMap<u32, u64>, block: BlockNo, count: u64)
-    requires { 0 < count_in pins.old.entries block }
+    requires { IsSome (lookup (nat_eq block.0) pins.old.entries) }
     ensures { (at : BlockNo) → count_in pins.new.entries at
         ≡ (if nat_eq at.0 block.0 then count else count_in pins.old.entries at) }
 {
     if let Some(there) = pins.get_mut(&block.0) {
         *there = count;
     }
+}
+
+/// Pins a block once more for which there is room.
+pub(crate) fn add_reserved(pins: &mut HashMap<u32, u64>, block: BlockNo)
+    requires { HasRoom pins.old.entries block }
+    ensures { (at : BlockNo) → count_in pins.new.entries at ≡ count_in pins.old.entries at + once_at block at }
+{
+    let count = count_of(pins, block);
+    set(pins, block, count + 1);
 }
 
 /// Pins a block once more that is pinned.

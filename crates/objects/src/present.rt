@@ -1,10 +1,11 @@
 //! The blocks in memory besides the log's.
 
-use disk::{Block, BlockNo};
+use crate::PresentBlock;
+use disk::BlockNo;
 
 /// A block in memory with its current content, or with none while its fetch is pending.
 #[derive(Drop)]
 pub struct Present {
     pub block: BlockNo,
-    pub content: Option<Block>,
+    pub content: Option<PresentBlock>,
 }

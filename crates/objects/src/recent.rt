@@ -1,11 +1,16 @@
 //! Which blocks were unpinned last.
-ghost use Rattle.std.specs.Prelude.{◌≡◌};
+ghost use Rattle.std.specs.Prelude.{◌≡◌, ◌<◌, ◌*◌, [], ◌∷◌, length, take, true, false};
+ghost use Rattle.std.specs.Map.{keys_of};
+ghost use Rattle.disk.specs.declared.block.BlockNo.{BlockNo as BlockNumber};
+ghost use Rattle.limits.specs.declared.TheConstants.{CLEAN_BLOCKS};
+ghost use Rattle.lru.specs.LruCache.{lru_cache};
 ghost use Rattle.objects.specs.Recent.{is_noted};
 
 use disk::BlockNo;
 use limits::CLEAN_BLOCKS;
 use lru::LruCache;
 use std::alloc::Global;
+use std::marker::Model;
 use std::num::NonZeroUsize;
 
 // How many are noted until those noted longest ago are forgotten.
@@ -13,15 +18,29 @@ const MOST_NOTED: usize = 2 * CLEAN_BLOCKS;
 
 /// The numbers of the blocks that were unpinned for the last time, in the order in which that was: the last
 /// `CLEAN_BLOCKS`, and fewer than as many again; none at all where there was no memory for it. Some of them may be
-/// pinned again.
+/// pinned again. A clause sees the numbers, the one that was noted last first.
 #[derive(Drop)]
 pub(crate) struct Recent {
     numbers: Option<LruCache<u32, ()>>,
 }
 
+impl Model for Recent {
+    ghost use Rattle.std.specs.Prelude.{◌≡◌, ◌*◌, ℕ, List, IfSome};
+    ghost use Rattle.limits.specs.declared.TheConstants.{CLEAN_BLOCKS};
+    ghost use Rattle.objects.specs.Recent.{numbers_in};
+
+    ghost Value = { List ℕ };
+
+    ghost view = { λ recent. numbers_in recent.numbers };
+
+    ghost invariant = { λ recent. IfSome recent.numbers (λ numbers. numbers.cap ≡ 2 * CLEAN_BLOCKS) };
+}
+
 impl Recent {
     /// No block was unpinned yet.
-    pub(crate) fn new(alloc: Global) -> Recent {
+    pub(crate) fn new(alloc: Global) -> Recent
+        ensures { result ≡ [] }
+    {
         let numbers = match NonZeroUsize::new(MOST_NOTED) {
             Some(most) => LruCache::new(alloc, most).ok(),
             None => None,
@@ -30,27 +49,29 @@ impl Recent {
     }
 
     /// Notes a block that was unpinned for the last time, as the last one. It tells whether there was memory for it.
-    pub(crate) fn note(&mut self, block: BlockNo) -> bool {
+    pub(crate) fn note(&mut self, block: BlockNo) -> bool
+        requires { length self.old < 2 * CLEAN_BLOCKS }
+        ensures noted { result ≡ true → (at : BlockNumber)
+            → is_noted self.new at ≡ is_noted (block.0 ∷ self.old) at }
+        ensures refused { result ≡ false → self.new ≡ self.old }
+    {
         match self.numbers.as_mut() {
-            Some(numbers) => numbers.put(block.0, ()).is_ok(),
+            Some(numbers) => note_in(numbers, block),
             None => false,
         }
     }
 
     /// Forgets those that were noted longest ago, all but `CLEAN_BLOCKS`, once there are twice as many. It tells
     /// whether it did.
-    pub(crate) fn forget_oldest(&mut self) -> bool {
-        let Some(numbers) = self.numbers.as_mut() else {
-            return false;
-        };
-        let count = numbers.len();
-        if count < MOST_NOTED {
-            return false;
+    pub(crate) fn forget_oldest(&mut self) -> bool
+        ensures few { length self.new < 2 * CLEAN_BLOCKS }
+        ensures forgot { result ≡ true → self.new ≡ take CLEAN_BLOCKS self.old }
+        ensures kept { result ≡ false → self.new ≡ self.old }
+    {
+        match self.numbers.as_mut() {
+            Some(numbers) => forget_in(numbers),
+            None => false,
         }
-        for _ in CLEAN_BLOCKS..count {
-            let _ = numbers.pop_lru();
-        }
-        true
     }
 
     /// Whether the block is noted.
@@ -61,5 +82,40 @@ impl Recent {
             Some(numbers) => numbers.contains(&block.0),
             None => false,
         }
+    }
+}
+
+// Notes a block as the last one, where there is room for one more. It tells whether there was memory for it.
+fn note_in(numbers: &mut LruCache<u32, ()>, block: BlockNo) -> bool
+    requires { length numbers.old.entries < numbers.old.cap }
+    ensures noted { result ≡ true → (at : BlockNumber)
+        → is_noted (keys_of numbers.new.entries) at ≡ is_noted (block.0 ∷ keys_of numbers.old.entries) at }
+    ensures refused { result ≡ false → numbers.new ≡ numbers.old }
+    ensures room { numbers.new.cap ≡ numbers.old.cap }
+{
+    numbers.put(block.0, ()).is_ok()
+}
+
+// Forgets those that were noted longest ago, all but `CLEAN_BLOCKS`, once there are twice as many. It tells whether
+// it did.
+fn forget_in(numbers: &mut LruCache<u32, ()>) -> bool
+    ensures few { length numbers.new.entries < 2 * CLEAN_BLOCKS }
+    ensures forgot { result ≡ true → keys_of numbers.new.entries ≡ take CLEAN_BLOCKS (keys_of numbers.old.entries) }
+    ensures kept { result ≡ false → numbers.new ≡ numbers.old }
+    ensures room { numbers.new.cap ≡ numbers.old.cap }
+{
+    if numbers.len() < MOST_NOTED {
+        return false;
+    }
+    keep_last(numbers, CLEAN_BLOCKS);
+    true
+}
+
+// Forgets those that were noted longest ago, all but so many.
+fn keep_last(numbers: &mut LruCache<u32, ()>, count: usize)
+    ensures { numbers.new ≡ lru_cache (take count numbers.old.entries) numbers.old.cap }
+{
+    while numbers.len() > count {
+        let _ = numbers.pop_lru();
     }
 }

@@ -1,15 +1,18 @@
 //! The blocks in memory.
-ghost use Rattle.std.specs.Prelude.{◌≡◌, ◌<◌, ◌+◌, ◌-◌, ◌^◌, ◌↔◌, Bool, IsTrue, OnErr, OnOk, [], option_map};
+ghost use Rattle.std.specs.Prelude.{◌≡◌, ◌<◌, ◌+◌, ◌-◌, ◌*◌, ◌^◌, ◌↔◌, Bool, IsTrue, IfOk, IfSome, OnErr, OnOk, []};
+ghost use Rattle.std.specs.Prelude.{length, option_map};
 ghost use Rattle.disk.specs.declared.block.BlockNo.{BlockNo};
-ghost use Rattle.objects.specs.Pins.{Pins, PinsStay, Unpins, once_at, pins_of, spared};
-ghost use Rattle.objects.specs.Present.{present_of, content_in, is_pending, IsOnce, with_block, filled};
+ghost use Rattle.limits.specs.declared.TheConstants.{CLEAN_BLOCKS};
+ghost use Rattle.objects.specs.Pins.{HasRoom, Pins, PinsStay, Unpins, once_at, pins_of, spared};
+ghost use Rattle.objects.specs.Unneeded.{unneeded};
+ghost use Rattle.objects.specs.Present.{bytes_in, present_of, content_in, is_pending, IsOnce, with_block, filled};
 ghost use Rattle.objects.specs.Present.{without_pending, without_block, renewed};
 ghost use Rattle.objects.specs.declared.present.Present.{Present as Resident};
 
 use crate::blocks::Blocks;
 use crate::clean::keep_clean;
-use crate::pins;
 use crate::recent::Recent;
+use crate::{Addr, SharedBytes, pins};
 use disk::{Block, BlockNo};
 use std::alloc::{AllocError, Global};
 use std::collections::HashMap;
@@ -17,7 +20,8 @@ use std::marker::Model;
 
 /// The blocks in memory besides the log's, each with its current content, those whose fetch is pending, and how
 /// often each block is pinned. Its type keeps that a block has one resident, so that at most one fetch of it is
-/// pending. A block may be pinned while it isn't in memory, and may be in memory while nobody has pinned it.
+/// pending. A block may be pinned while it isn't in memory, and may be in memory while nobody has pinned it. Few stay
+/// so: its type keeps that each whose content is there is noted, and that few are noted.
 #[derive(Drop)]
 pub struct Residency {
     blocks: Blocks,
@@ -36,6 +40,11 @@ impl Model for Residency {
       blocks = residency.blocks;
       counts = residency.pins.entries;
     } };
+
+    ghost use Rattle.objects.specs.Pins.{count_in};
+    ghost use Rattle.objects.specs.Unneeded.{IsTidy};
+
+    ghost invariant = { λ residency. IsTidy residency.recent (count_in residency.pins.entries) residency.blocks };
 }
 
 impl Residency {
@@ -58,14 +67,35 @@ impl Residency {
         self.blocks.lawful();
     }
 
+    /// Of the blocks that nobody needs, fewer are in memory than twice `CLEAN_BLOCKS`.
+    pub fn few_unneeded(&self)
+        ensures { length (unneeded self.now) < 2 * CLEAN_BLOCKS }
+    {
+        self.blocks.lawful();
+    }
+
     /// The block's content, if it is there and its fetch isn't pending.
     pub fn content_of(&self, block: BlockNo) -> Option<&Block>
         ensures { option_map (λ content. content.now) result ≡ content_in (present_of self.now.blocks block) }
     {
         match self.blocks.get(block) {
-            Some(resident) => resident.content.as_ref(),
+            Some(resident) => match &resident.content {
+                Some(present) => Some(present.block()),
+                None => None,
+            },
             None => None,
         }
+    }
+
+    /// The bytes at an address, if its block is there and its fetch isn't pending. Those of a whole block come with what
+    /// they count to, where it was wanted before since it came or was changed.
+    pub fn bytes_at(&mut self, alloc: Global, addr: Addr) -> Result<Option<SharedBytes>, AllocError>
+        ensures same { self.new ≡ self.old }
+        ensures bytes { IfOk result (λ found. found
+            ≡ bytes_in (content_in (present_of self.old.blocks addr.block)) addr.offset addr.len) }
+        ensures len { IfOk result (λ found. IfSome found (λ bytes. length bytes ≡ addr.len)) }
+    {
+        self.blocks.bytes_at(alloc, addr)
     }
 
     /// Whether a fetch of the block is pending.
@@ -78,13 +108,21 @@ impl Residency {
         }
     }
 
-    /// Pins a block once more, whether it is in memory or not. Where there is no room nothing changes.
-    pub fn pin(&mut self, block: BlockNo) -> Result<(), AllocError>
-        ensures pinned { OnOk result (Pins self.old (once_at block) self.new) }
-        ensures refused { OnErr result (PinsStay self.old self.new) }
+    /// Makes room for one pin more of a block, whether it is in memory or not. Nothing else changes.
+    pub fn make_room(&mut self, block: BlockNo) -> Result<(), AllocError>
+        ensures room { OnOk result (HasRoom self.new.counts block) }
+        ensures pins { PinsStay self.old self.new }
         ensures blocks { self.new.blocks ≡ self.old.blocks }
     {
-        pins::add(&mut self.pins, block)
+        pins::make_room(&mut self.pins, block)
+    }
+
+    /// Pins a block once more for which there is room, whether it is in memory or not.
+    pub fn pin_reserved(&mut self, block: BlockNo)
+        requires { HasRoom self.old.counts block }
+        ensures { Pins self.old (once_at block) self.new }
+    {
+        pins::add_reserved(&mut self.pins, block);
     }
 
     /// Whether so many pins more of the block can be counted.
@@ -132,8 +170,9 @@ impl Residency {
         }
     }
 
-    /// Takes one pin off a block again, as one that was put on it in vain. What is in memory stays.
+    /// Takes one pin off a block that stays pinned, as one that was put on it in vain. What is in memory stays.
     pub fn take_pin_back(&mut self, block: BlockNo)
+        requires { 1 < pins_of self.old block }
         ensures pins { (at : BlockNo) → pins_of self.new at ≡ pins_of self.old at - once_at block at }
         ensures blocks { self.new.blocks ≡ self.old.blocks }
     {

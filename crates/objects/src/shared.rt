@@ -1,23 +1,31 @@
 //! Bytes that are shared.
-ghost use Rattle.std.specs.Prelude.{◌≡◌, IfOk};
+ghost use Rattle.std.specs.Prelude.{◌≡◌, IfOk, IfSome, length};
+ghost use Rattle.limits.specs.declared.TheConstants.{BLOCK_BYTES};
+ghost use Rattle.objects.specs.Counted.{IsCountedIn};
 
+use crate::Counted;
 use std::alloc::{AllocError, Global};
 use std::marker::Model;
 use std::sync::Arc;
 
-/// Bytes that nobody changes any more. A clone copies none of them.
+/// Bytes that nobody changes any more, and of a whole block maybe what its numbers count to. A clone copies none of
+/// them.
 #[derive(Drop)]
 pub struct SharedBytes {
     bytes: Arc<Vec<u8>, Global>,
+    counted: Option<Counted>,
 }
 
 impl Model for SharedBytes {
-    ghost use Rattle.std.specs.Prelude.{ℕ, List};
+    ghost use Rattle.std.specs.Prelude.{ℕ, List, IfSome};
     ghost use Rattle.std.specs.Arc.{arc_value};
+    ghost use Rattle.objects.specs.Counted.{IsCountedIn};
 
     ghost Value = { List ℕ };
 
     ghost view = { λ shared. (arc_value shared.bytes).items };
+
+    ghost invariant = { λ shared. IfSome shared.counted (IsCountedIn (arc_value shared.bytes).items) };
 }
 
 impl SharedBytes {
@@ -27,7 +35,19 @@ impl SharedBytes {
     {
         Ok(SharedBytes {
             bytes: Arc::new(alloc, bytes)?,
+            counted: None,
         })
+    }
+
+    /// The same bytes with what they count to, where that is known.
+    pub(crate) fn with_count(self, counted: Option<Counted>) -> SharedBytes
+        requires { IfSome counted (IsCountedIn self) }
+        ensures { result ≡ self }
+    {
+        SharedBytes {
+            bytes: self.bytes,
+            counted,
+        }
     }
 
     /// The bytes.
@@ -35,6 +55,17 @@ impl SharedBytes {
         ensures { result.now ≡ self.now }
     {
         self.bytes.as_slice()
+    }
+
+    /// What the numbers of a whole block count to. It is counted here where it wasn't known.
+    pub fn counted(&self) -> Counted
+        requires { length self.now ≡ BLOCK_BYTES }
+        ensures { IsCountedIn self.now result }
+    {
+        match self.counted {
+            Some(counted) => counted,
+            None => Counted::of(self.as_slice()),
+        }
     }
 }
 
@@ -44,6 +75,7 @@ impl Clone for SharedBytes {
     fn clone(&self) -> Result<SharedBytes, AllocError> {
         Ok(SharedBytes {
             bytes: Arc::try_clone(&self.bytes)?,
+            counted: self.counted,
         })
     }
 }

@@ -39,9 +39,13 @@ impl FreeSeats {
 
     /// Gives a seat back.
     pub fn put<R: Wait>(&self, rt: &R, key: SeatKey) {
-        let mut rack = self.rack.lock(rt);
-        rack.give(key);
+        self.rack.lock(rt).give(key);
         self.changed.notify_one();
+    }
+
+    /// Whether all are free but one.
+    pub fn is_one_out<R: Wait>(&self, rt: &R) -> bool {
+        self.rack.lock(rt).is_one_out()
     }
 
     /// Waits until all are free.

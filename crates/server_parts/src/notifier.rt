@@ -20,24 +20,23 @@ impl Notifier {
 
     /// Tells of work.
     pub fn notify<R: Wait>(&self, rt: &R) {
-        let mut pending = self.pending.lock(rt);
-        if pending.notify() {
+        let is_news = self.pending.lock(rt).notify();
+        if is_news {
             self.changed.notify_one();
         }
     }
 
     /// Tells of work that can't wait.
     pub fn notify_now<R: Wait>(&self, rt: &R) {
-        let mut pending = self.pending.lock(rt);
-        if pending.notify_now() {
+        let is_news = self.pending.lock(rt).notify_now();
+        if is_news {
             self.changed.notify_one();
         }
     }
 
     /// Tells that no work will come any more.
     pub fn end<R: Wait>(&self, rt: &R) {
-        let mut pending = self.pending.lock(rt);
-        pending.end();
+        self.pending.lock(rt).end();
         self.changed.notify_one();
     }
 

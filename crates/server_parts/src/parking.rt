@@ -30,7 +30,9 @@ impl Parking {
     pub fn raise<R: Wait>(&self, rt: &R, settled: u64) {
         let mut waiting = self.waiting.lock(rt);
         waiting.raise(settled);
-        if !waiting.is_empty() {
+        let is_empty = waiting.is_empty();
+        drop(waiting);
+        if !is_empty {
             self.changed.notify_one();
         }
     }

@@ -113,6 +113,13 @@ impl Rack {
         self.keys.as_slice().iter().any(|key| key.number == number)
     }
 
+    /// Whether the key of each seat but one is there.
+    pub fn is_one_out(&self) -> bool
+        ensures { IsTrue result ↔ (length self.now.keys.items + 1 ≡ self.now.count) }
+    {
+        self.count > 0 && self.keys.len() == self.count - 1
+    }
+
     /// Whether the key of each seat is there.
     pub fn is_whole(&self) -> bool
         ensures length { IsTrue result ↔ (length self.now.keys.items ≡ self.now.count) }

@@ -34,7 +34,8 @@ impl Rounds {
         if self.waiting.load(Ordering::SeqCst) == 0 {
             return;
         }
-        let _guard = self.lock.lock(rt);
+        // Who has read the count and waits doesn't have the lock.
+        drop(self.lock.lock(rt));
         self.changed.notify_all();
     }
 

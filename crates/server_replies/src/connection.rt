@@ -57,10 +57,13 @@ impl<L: Ledger> Connection<L> {
     pub fn answer<R: Wait>(&self, rt: &R, reply: Option<ReplyBytes<L>>) {
         let mut outbox = self.outbox.lock(rt);
         outbox.answer(reply);
-        if outbox.is_shut() {
+        let is_shut = outbox.is_shut();
+        let is_writing = outbox.is_writing();
+        drop(outbox);
+        if is_shut {
             self.written.notify_one();
         }
-        if !outbox.is_writing() {
+        if !is_writing {
             self.to_write.notify_one();
         }
     }
@@ -91,10 +94,13 @@ impl<L: Ledger> Connection<L> {
         let permit = match outbox.offer(replies) {
             Offer::Write(permit) => permit,
             Offer::Left => {
-                if !outbox.is_writing() {
+                let is_writing = outbox.is_writing();
+                let is_shut = outbox.is_shut();
+                drop(outbox);
+                if !is_writing {
                     self.to_write.notify_one();
                 }
-                return !outbox.is_shut();
+                return !is_shut;
             }
             Offer::Shut => return false,
         };
@@ -134,6 +140,7 @@ impl<L: Ledger> Connection<L> {
         let mut outbox = self.outbox.lock(rt);
         let next = outbox.go_on(wrote, used);
         outbox.tell(steady_second(rt));
+        drop(outbox);
         self.written.notify_one();
         next
     }
@@ -198,6 +205,7 @@ impl<L: Ledger> Connection<L> {
             .written
             .wait_while(rt, self.outbox.lock(rt), |o| !o.is_done());
         outbox.end();
+        drop(outbox);
         self.to_write.notify_one();
     }
 
@@ -206,6 +214,7 @@ impl<L: Ledger> Connection<L> {
         let mut outbox = self.outbox.lock(rt);
         outbox.shut();
         outbox.end();
+        drop(outbox);
         self.to_write.notify_one();
         self.written.notify_one();
     }

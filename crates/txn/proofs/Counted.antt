@@ -10,7 +10,7 @@ use Rattle.std.specs.List.{list_any, filter}
 use Rattle.std.specs.Prelude.{is_some}
 use Rattle.disk.specs.declared.block.BlockNo.{BlockNo}
 use Rattle.objects.specs.Object.{ObjectBytes}
-use Rattle.objects.specs.Pins.{once_at, spared}
+use Rattle.objects.specs.Pins.{is_wanted, once_at, spared}
 use Rattle.objects.specs.declared.addr.Addr.{Addr}
 use Rattle.objects.specs.declared.present.Present.{Present}
 use Rattle.objects.proofs.Residents.{same_block}
@@ -18,7 +18,7 @@ use Rattle.wal_law.specs.Log.{Log, installed_place}
 use Rattle.txn_law.specs.Commit.{Planned, footprint, with_record}
 use Rattle.txn_law.specs.Core.{past}
 use Rattle.txn_law.specs.Holds.{is_taken, is_read, is_hold_of, hold_of, without_hold, joined, with_hold, released}
-use Rattle.txn_law.specs.Records.{lies_in, is_kept, swept}
+use Rattle.txn_law.specs.Records.{lies_in, is_kept, is_needed, swept}
 use Rattle.txn_law.specs.Tidy.{AreApart, AreBeside}
 use Rattle.txn_law.specs.Window.{Footprint}
 use Rattle.txn_law.specs.declared.hold.Hold.{Hold}
@@ -87,12 +87,13 @@ kept_is records at =
     (λ (object : ObjectBytes). once_at object.addr.block at) (λ object. once_some object.addr.block at) kept.read)
     records
 
--- what is pinned is what a sweep leaves, besides what is spared
-pub swept_is : (spare : Present → Bool) (holds : List Hold) (records : List Footprint) (pins : BlockNo → ℕ)
-    (blocks : List Present) → ((at : BlockNo) → pins at ≡ holds_in holds at + reads_in records at)
-    → spared spare pins blocks ≡ swept spare holds records blocks
-swept_is spare holds records pins blocks counted =
-    λ i. filter (λ resident. spare resident || one resident i) blocks
+-- what is pinned, or being fetched, is needed
+pub wanted_is : (holds : List Hold) (records : List Footprint) (pins : BlockNo → ℕ)
+    → ((at : BlockNo) → pins at ≡ holds_in holds at + reads_in records at) → (resident : Present)
+    → is_wanted pins resident ≡ is_needed holds records resident
+wanted_is holds records pins counted resident =
+    ap (λ t. is_none resident.content || t) (each resident.block)
+    ∙ or_assoc (is_none resident.content) (is_taken holds resident.block) (is_kept records resident.block)
   where
     or_assoc : (u a b : Bool) → (u || (a || b)) ≡ ((u || a) || b)
     or_assoc true a b = refl
@@ -104,11 +105,20 @@ swept_is spare holds records pins blocks counted =
         ∙ ap (λ t. t || nat_lt 0 (reads_in records at)) (sym (taken_is holds at))
         ∙ ap (λ t. is_taken holds at || t) (sym (kept_is records at))
 
-    one : (resident : Present) → (is_none resident.content || nat_lt 0 (pins resident.block))
-        ≡ ((is_none resident.content || is_taken holds resident.block) || is_kept records resident.block)
-    one resident =
-        ap (λ t. is_none resident.content || t) (each resident.block)
-        ∙ or_assoc (is_none resident.content) (is_taken holds resident.block) (is_kept records resident.block)
+-- so it is what a sweep leaves, besides what is spared
+pub swept_is : (spare : Present → Bool) (holds : List Hold) (records : List Footprint) (pins : BlockNo → ℕ)
+    (blocks : List Present) → ((at : BlockNo) → pins at ≡ holds_in holds at + reads_in records at)
+    → spared spare pins blocks ≡ swept spare holds records blocks
+swept_is spare holds records pins blocks counted =
+    λ i. filter (λ resident. spare resident || wanted_is holds records pins counted resident i) blocks
+
+-- and the others are what nobody needs
+pub unneeded_is : (holds : List Hold) (records : List Footprint) (pins : BlockNo → ℕ) (blocks : List Present)
+    → ((at : BlockNo) → pins at ≡ holds_in holds at + reads_in records at)
+    → filter (λ resident. not (is_wanted pins resident)) blocks
+    ≡ filter (λ resident. not (is_needed holds records resident)) blocks
+unneeded_is holds records pins blocks counted =
+    λ i. filter (λ resident. not (wanted_is holds records pins counted resident i)) blocks
 
 -- A hold more.
 joined_addr : (had : Option Hold) (hold : Hold) → (joined had hold).addr ≡ hold.addr
@@ -135,6 +145,24 @@ as_one t = if t then 1 else 0
 
 one_at_itself : (b n : ℕ) → n ≡ b → as_one (nat_eq b n) ≡ 1
 one_at_itself b n e = ap as_one (eq-eqb b n (sym e))
+
+-- the block of what a transaction has taken is held
+pub held_some : (tx : ℕ) (addr : Addr) (holds : List Hold) → is_some (hold_of holds tx addr) ≡ true
+    → 0 < holds_in holds addr.block
+held_some tx addr [] e = absurd (cc)
+held_some tx addr (x ∷ xs) e = go (is_hold_of tx addr x) refl (held_some tx addr xs) e
+  where
+    go : (t : Bool) → is_hold_of tx addr x ≡ t
+        → (is_some (hold_of xs tx addr) ≡ true → 0 < holds_in xs addr.block)
+        → is_some (cond t (Some x) (hold_of xs tx addr)) ≡ true
+        → 0 < once_at x.addr.block addr.block + holds_in xs addr.block
+    go true is rest e =
+        let four = all_four (nat_eq x.transaction tx) (nat_eq x.addr.block.0 addr.block.0)
+        (nat_eq x.addr.offset addr.offset) (nat_eq x.addr.len addr.len) is in
+        let one : once_at x.addr.block addr.block ≡ 1 =
+        one_at_itself addr.block.0 x.addr.block.0 (eqb-true x.addr.block.0 addr.block.0 four.1) in
+        omega (arith, one)
+    go false is rest e = let some = rest e in omega (arith, some)
 
 module _ (tx : ℕ) (addr : Addr) (at : BlockNo) where
   abbrev own : Hold → Bool

@@ -8,6 +8,7 @@ pub mod Pinned
 pub mod Neat
 pub mod Refreshed
 pub mod Sides
+pub mod Unneeded
 -- What the contracts here cite, for the crates above.
 pub use Rattle.objects.specs.Object
 pub use Rattle.txn_law.specs.Group

@@ -1,9 +1,9 @@
 //! The state of a core, and exactly what each method makes of it: who holds what, what is in memory, and the
 //! commits that aren't installed.
-ghost use Rattle.std.specs.Prelude.{◌≡◌, ◌≤◌, ◌<◌, ◌+◌, ◌^◌, ◌↔◌, IsTrue, IsSome, IsNone, IfSome, IsErrOf, OnErr};
+ghost use Rattle.std.specs.Prelude.{◌≡◌, ◌≤◌, ◌<◌, ◌+◌, ◌*◌, ◌^◌, ◌↔◌, IsTrue, IsSome, IsNone, IfSome, IsErrOf, OnErr};
 ghost use Rattle.std.specs.List.{list_any};
 ghost use Rattle.std.specs.Prelude.{Bool, nat_eq, IfOk, ◌∷◌, true, false, is_some, if◌then◌else◌, [], length, All};
-ghost use Rattle.limits.specs.declared.TheConstants.{CHANGED_BLOCKS};
+ghost use Rattle.limits.specs.declared.TheConstants.{CHANGED_BLOCKS, CLEAN_BLOCKS};
 ghost use Rattle.wal_law.specs.Grows.{IsWholeChange};
 ghost use Rattle.wal_law.specs.Log.{settled_place, tail_count, added_blocks, IsHomeOn};
 ghost use Rattle.wal_law.specs.Log.{IsLawful};
@@ -12,6 +12,7 @@ ghost use Rattle.wal.specs.Sides.{IsNextCall, call_comes_back, call_goes_out, is
 ghost use Rattle.wal_law.specs.Io.{IsCallWithin};
 ghost use Rattle.txn_law.specs.Core.{IsOut, with_begun, without, ended};
 ghost use Rattle.txn.specs.Sides.{LetsGo, counted, with_call};
+ghost use Rattle.txn.specs.Unneeded.{unneeded};
 ghost use Rattle.txn_law.specs.Wishes.{IsInside};
 ghost use Rattle.objects.specs.declared.present.Present.{Present};
 
@@ -117,6 +118,13 @@ impl<C: Change> State<C> {
         ensures { All IsWholeChange self.now.log.changes }
     {
         self.log.whole();
+    }
+
+    /// Of the blocks that nobody needs, fewer are in memory than twice `CLEAN_BLOCKS`.
+    pub(crate) fn few_unneeded(&self)
+        ensures { length (unneeded self.now) < 2 * CLEAN_BLOCKS }
+    {
+        self.present.few_unneeded();
     }
 
     /// The image's counts of blocks and of inodes.

@@ -1,7 +1,7 @@
 //! The transactional core.
-ghost use Rattle.std.specs.Prelude.{◌≡◌, ◌≤◌, ◌<◌, ◌+◌, ◌^◌, ◌↔◌, IsTrue, IsSome, IsNone, IfSome, IsErrOf, OnErr};
+ghost use Rattle.std.specs.Prelude.{◌≡◌, ◌≤◌, ◌<◌, ◌+◌, ◌*◌, ◌^◌, ◌↔◌, IsTrue, IsSome, IsNone, IfSome, IsErrOf, OnErr};
 ghost use Rattle.std.specs.Prelude.{ℕ, IfOk, ◌∷◌, true, false, is_some, if◌then◌else◌, [], length};
-ghost use Rattle.limits.specs.declared.TheConstants.{CHANGED_BLOCKS};
+ghost use Rattle.limits.specs.declared.TheConstants.{CHANGED_BLOCKS, CLEAN_BLOCKS};
 ghost use Rattle.objects.specs.declared.addr.Addr.{Addr};
 ghost use Rattle.wal_law.specs.Log.{settled_place, installed_place, tail_count, added_blocks};
 ghost use Rattle.wal_law.specs.Calls.{LogCallGoesOut, LogCallComesBack, InstCallGoesOut, InstCallComesBack};
@@ -24,6 +24,7 @@ ghost use Rattle.txn_law.specs.Wishes.{IsWhole};
 ghost use Rattle.txn.specs.Answering.{OfSome};
 ghost use Rattle.txn.specs.Outcomes.{IsWanted, IsWithin, IsClaimed, IsCommit, IsGiven, IsSetBy};
 ghost use Rattle.txn.specs.Sides.{CoreBack, LeavesBack, base_back, with_call};
+ghost use Rattle.txn.specs.Unneeded.{unneeded};
 
 mod ending;
 mod places;
@@ -88,6 +89,13 @@ impl<C: Change> Core<C> {
         ensures { IsLawfulCore (OfSome C.is_plan) self.now }
     {
         let _ = &self.state;
+    }
+
+    /// Of the blocks that nobody needs, fewer are in memory than twice `CLEAN_BLOCKS`.
+    pub fn few_unneeded(&self)
+        ensures { length (unneeded self.now) < 2 * CLEAN_BLOCKS }
+    {
+        self.state.few_unneeded();
     }
 
     /// An image may have the counts that it has.

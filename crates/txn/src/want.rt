@@ -1,5 +1,6 @@
 //! Reading and claiming what a transaction works on.
-ghost use Rattle.std.specs.Prelude.{◌≡◌, ◌-◌, Bool, if◌then◌else◌, IfOk, OnOk, OnErr, None, Some, false, true};
+ghost use Rattle.std.specs.Prelude.{◌≡◌, ◌-◌, ◌<◌, Bool, if◌then◌else◌, IfOk, OnOk, OnErr, None, Some, false, true};
+ghost use Rattle.std.specs.Prelude.{IfSome, length};
 ghost use Rattle.disk.specs.declared.block.BlockNo.{BlockNo as BlockNumber};
 ghost use Rattle.objects.specs.Pins.{Pins, PinsStay, once_at, pins_of};
 ghost use Rattle.objects.specs.declared.present.Present.{Present};
@@ -10,7 +11,7 @@ ghost use Rattle.objects.specs.declared.addr.Addr.{Addr};
 ghost use Rattle.txn.specs.Outcomes.{IsWithin};
 ghost use Rattle.txn.specs.Exactly.{IsWantedExactly, IsClaimedExactly};
 ghost use Rattle.txn_law.specs.Holds.{IsFree, with_hold};
-ghost use Rattle.objects.specs.Present.{present_of, is_pending};
+ghost use Rattle.objects.specs.Present.{bytes_in, content_in, present_of, is_pending};
 ghost use Rattle.txn_law.specs.Lists.{taken};
 ghost use Rattle.txn_law.specs.Wishes.{IsWhole};
 ghost use Rattle.txn_law.specs.Fetched.{fetched, fetch_failed};
@@ -98,8 +99,7 @@ impl<C: Change> State<C> {
         ensures within { IfOk result (IsSourceWithin addr.len) }
         ensures refused { OnErr result (self.new ≡ self.old) }
     {
-        if let Some(content) = self.present.content_of(addr.block) {
-            let bytes = extract(alloc, content, addr)?;
+        if let Some(bytes) = self.bytes_at(alloc, addr)? {
             self.holds.lawful();
             take(
                 &mut self.holds,
@@ -120,6 +120,16 @@ impl<C: Change> State<C> {
             block: addr.block,
             buffer: content,
         }))
+    }
+
+    // The bytes of an object, if its block is in memory and its fetch isn't pending.
+    fn bytes_at(&mut self, alloc: Global, addr: Addr) -> Result<Option<SharedBytes>, AllocError>
+        ensures same { self.new ≡ self.old }
+        ensures bytes { IfOk result (λ found. found
+            ≡ bytes_in (content_in (present_of self.old.present addr.block)) addr.offset addr.len) }
+        ensures len { IfOk result (λ found. IfSome found (λ bytes. length bytes ≡ addr.len)) }
+    {
+        self.present.bytes_at(alloc, addr)
     }
 
     // Takes what a wish is for, which is free, with its block, which isn't in memory and gets this content, or is
@@ -164,6 +174,7 @@ impl<C: Change> State<C> {
 
 // Takes one pin off again, where the block was pinned for a hold that there was before and is pinned for it still.
 fn settle(present: &mut Residency, block: BlockNo, again: bool)
+    requires { again ≡ true → 1 < pins_of present.old block }
     ensures pins { (at : BlockNumber) → pins_of present.new at
         ≡ pins_of present.old at - (if again then once_at block at else 0) }
     ensures blocks { present.new.blocks ≡ present.old.blocks }
@@ -187,11 +198,9 @@ fn take(holds: &mut Table, present: &mut Residency, hold: Hold) -> Result<(), Al
         return note(holds, hold);
     }
     let block = hold.addr.block;
-    present.pin(block)?;
-    if let Err(none) = note(holds, hold) {
-        present.take_pin_back(block);
-        return Err(none);
-    }
+    present.make_room(block)?;
+    note(holds, hold)?;
+    present.pin_reserved(block);
     Ok(())
 }
 

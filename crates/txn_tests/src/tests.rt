@@ -1,6 +1,7 @@
 //! A toy change over a device in memory: what no contract says of reading, committing, settling and refusing.
 
 mod bench;
+mod counts;
 mod deeds;
 mod refused_memory;
 mod rows;

@@ -84,6 +84,24 @@ struct Row {
     found: Result<Seen, PartFault>,
 }
 
+// So many blocks have an owner, and nothing else is found.
+const OWNS_NOTHING: Seen = Seen {
+    owned: 0,
+    shared: false,
+    untidy: None,
+    named: 0,
+};
+
+const OWNS_ONE: Seen = Seen {
+    owned: 1,
+    ..OWNS_NOTHING
+};
+
+const OWNS_THREE: Seen = Seen {
+    owned: 3,
+    ..OWNS_NOTHING
+};
+
 // A regular file of number 2: its kind and mode, one link, a size of five bytes, and block 1000 at its first index.
 const KIND: Logged = Logged {
     number: TABLE,
@@ -174,22 +192,12 @@ const ROWS: [Row; 21] = [
     Row {
         says: "an empty root owns nothing",
         changes: &[],
-        found: Ok(Seen {
-            owned: 0,
-            shared: false,
-            untidy: None,
-            named: 0,
-        }),
+        found: Ok(OWNS_NOTHING),
     },
     Row {
         says: "a file owns its block",
         changes: &[KIND, ONE_LINK, FIVE_BYTES, FIRST_INDEX],
-        found: Ok(Seen {
-            owned: 1,
-            shared: false,
-            untidy: None,
-            named: 0,
-        }),
+        found: Ok(OWNS_ONE),
     },
     Row {
         says: "what lies before its size may be anything",
@@ -204,12 +212,7 @@ const ROWS: [Row; 21] = [
                 bytes: &[1],
             },
         ],
-        found: Ok(Seen {
-            owned: 1,
-            shared: false,
-            untidy: None,
-            named: 0,
-        }),
+        found: Ok(OWNS_ONE),
     },
     Row {
         says: "a byte past its size isn't zero",
@@ -225,20 +228,16 @@ const ROWS: [Row; 21] = [
             },
         ],
         found: Ok(Seen {
-            owned: 1,
-            shared: false,
             untidy: Some(2),
-            named: 0,
+            ..OWNS_ONE
         }),
     },
     Row {
         says: "two of its indexes have one block",
         changes: &[KIND, ONE_LINK, FIVE_BYTES, FIRST_INDEX, SECOND_INDEX],
         found: Ok(Seen {
-            owned: 1,
             shared: true,
-            untidy: None,
-            named: 0,
+            ..OWNS_ONE
         }),
     },
     Row {
@@ -260,12 +259,7 @@ const ROWS: [Row; 21] = [
                 bytes: &[234, 3],
             },
         ],
-        found: Ok(Seen {
-            owned: 3,
-            shared: false,
-            untidy: None,
-            named: 0,
-        }),
+        found: Ok(OWNS_THREE),
     },
     Row {
         says: "its indirect block has a number of no data block",
@@ -296,12 +290,7 @@ const ROWS: [Row; 21] = [
     Row {
         says: "an inner block has a number",
         changes: &[KIND, ONE_LINK, FIVE_BYTES, DOUBLE, INNER, INNER_INDEX],
-        found: Ok(Seen {
-            owned: 3,
-            shared: false,
-            untidy: None,
-            named: 0,
-        }),
+        found: Ok(OWNS_THREE),
     },
     Row {
         says: "an inner block has a number of no data block",
@@ -336,10 +325,8 @@ const ROWS: [Row; 21] = [
             },
         ],
         found: Ok(Seen {
-            owned: 3,
-            shared: false,
             untidy: Some(2),
-            named: 0,
+            ..OWNS_THREE
         }),
     },
     Row {
@@ -358,10 +345,8 @@ const ROWS: [Row; 21] = [
             },
         ],
         found: Ok(Seen {
-            owned: 3,
             shared: true,
-            untidy: None,
-            named: 0,
+            ..OWNS_THREE
         }),
     },
     Row {
@@ -378,20 +363,16 @@ const ROWS: [Row; 21] = [
             },
         ],
         found: Ok(Seen {
-            owned: 1,
-            shared: false,
             untidy: Some(2),
-            named: 0,
+            ..OWNS_ONE
         }),
     },
     Row {
         says: "a directory names a number",
         changes: &[ROOT_SIZE, ROOT_INDEX, SLOT],
         found: Ok(Seen {
-            owned: 1,
-            shared: false,
-            untidy: None,
             named: 1,
+            ..OWNS_ONE
         }),
     },
     Row {
@@ -407,10 +388,9 @@ const ROWS: [Row; 21] = [
             },
         ],
         found: Ok(Seen {
-            owned: 1,
-            shared: false,
             untidy: Some(1),
             named: 2,
+            ..OWNS_ONE
         }),
     },
     Row {
@@ -426,10 +406,8 @@ const ROWS: [Row; 21] = [
             },
         ],
         found: Ok(Seen {
-            owned: 1,
-            shared: false,
-            untidy: None,
             named: 2,
+            ..OWNS_ONE
         }),
     },
     Row {
@@ -445,10 +423,9 @@ const ROWS: [Row; 21] = [
             },
         ],
         found: Ok(Seen {
-            owned: 1,
-            shared: false,
             untidy: Some(1),
             named: 1,
+            ..OWNS_ONE
         }),
     },
     Row {

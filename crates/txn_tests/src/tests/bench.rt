@@ -5,7 +5,7 @@ use crate::tests::toys::{At, BLOCKS, INODES, Toy};
 use circ::{Recovered, recover};
 use disk::{Block, BlockNo, CrashDisk, MemDisk};
 use limits::FIRST_HOME_BLOCK;
-use objects::Mode;
+use objects::{Addr, Mode};
 use std::alloc::Global;
 use std::test::Fail;
 use txn::*;
@@ -256,6 +256,31 @@ impl<D: CrashDisk> Bench<D> {
             Want::Loading(tx) => (tx, Seen::Loading),
             Want::Outside(tx) => (tx, Seen::Outside),
             Want::NoMemory(tx) => (tx, Seen::NoMemory),
+        }
+    }
+
+    // How many numbers of a whole block aren't 0, as a transaction gets it that reads the block, if it is held at once.
+    pub fn count(&mut self, block: BlockNo) -> Option<u32> {
+        let tx = self.begin()?;
+        let (tx, count) = self.count_in(tx, block);
+        self.core.abort(tx);
+        count
+    }
+
+    fn count_in(&mut self, tx: Tx, block: BlockNo) -> (Tx, Option<u32>) {
+        match self
+            .core
+            .want(self.alloc, tx, Addr::whole(block), Mode::Exclusive)
+        {
+            Want::Held(tx, bytes) => (tx, Some(bytes.counted().count)),
+            Want::Busy(tx) => (tx, None),
+            Want::Fetch(tx, io) => {
+                self.fetch(io);
+                (tx, None)
+            }
+            Want::Loading(tx) => (tx, None),
+            Want::Outside(tx) => (tx, None),
+            Want::NoMemory(tx) => (tx, None),
         }
     }
 

@@ -1,13 +1,19 @@
-//! With ample memory nothing is refused for want of it, at sizes far past the smallest, and 256 blocks or more stay in
-//! memory that nobody needs.
+//! With ample memory nothing is refused for want of it, at sizes far past the smallest, and as many blocks stay in
+//! memory that nobody needs as the limit says, and fewer than twice as many.
 
 use crate::tests::bench::{Bench, Ended, Seen, Step};
 use crate::tests::toys::{At, change_of};
 use crate::tests::whole::{claims, writes};
+use limits::CLEAN_BLOCKS;
 use std::alloc::{AllocError, Global};
 use std::test::Fail;
 use txn::Change;
 use wal::Seq;
+
+// The limit, and twice as many.
+const LIMIT: u32 = CLEAN_BLOCKS as u32;
+
+const TWICE: u32 = 2 * LIMIT;
 
 // Steps that read so many whole blocks, each until it is held.
 fn reads(alloc: Global, count: u32) -> Result<Vec<Step>, AllocError> {
@@ -27,33 +33,34 @@ fn many_blocks_are_held_at_once(rt: HostRuntime) -> Result<(), Fail> {
     Ok(())
 }
 
-// The blocks are unpinned in their order. With the 512th the first 256 go, and the last 8 come after that: 264 stay.
+// A transaction reads so many whole blocks and ends, so that they are unpinned in their order. Then another wants
+// these.
+fn sees_later(rt: &HostRuntime, count: u32, later: &[Step], wanted: &[Seen]) -> Result<bool, Fail> {
+    let mut bench = Bench::new(rt.alloc(), 0, &[])?;
+    let steps = reads(rt.alloc(), count)?;
+    let zeros = vec![in rt.alloc(); Seen::Bytes(0); count as usize]?;
+    Ok(bench.sees(1, steps.as_slice(), zeros.as_slice()) && bench.sees(2, later, wanted))
+}
+
+// With the last of twice the limit those before the second half go, and 8 come after that.
 #[test]
 fn the_blocks_that_were_needed_last_stay(rt: HostRuntime) -> Result<(), Fail> {
-    let mut bench = Bench::new(rt.alloc(), 0, &[])?;
-    let steps = reads(rt.alloc(), 520)?;
-    let zeros = vec![in rt.alloc(); Seen::Bytes(0); 520]?;
-    assert!(rt; bench.sees(1, steps.as_slice(), zeros.as_slice()));
     let later = [
-        Step::Want(At::Whole(519)),
-        Step::Want(At::Whole(256)),
-        Step::Want(At::Whole(255)),
+        Step::Want(At::Whole(TWICE + 7)),
+        Step::Want(At::Whole(LIMIT)),
+        Step::Want(At::Whole(LIMIT - 1)),
         Step::Want(At::Whole(0)),
     ];
     let wanted = [Seen::Bytes(0), Seen::Bytes(0), Seen::Fetched, Seen::Fetched];
-    assert!(rt; bench.sees(2, &later, &wanted));
+    assert!(rt; sees_later(&rt, TWICE + 8, &later, &wanted)?);
     Ok(())
 }
 
-// Of 511 blocks all stay, since none goes before there are twice 256.
+// Of one fewer than twice the limit all stay.
 #[test]
-fn fewer_than_512_blocks_stay(rt: HostRuntime) -> Result<(), Fail> {
-    let mut bench = Bench::new(rt.alloc(), 0, &[])?;
-    let steps = reads(rt.alloc(), 511)?;
-    let zeros = vec![in rt.alloc(); Seen::Bytes(0); 511]?;
-    assert!(rt; bench.sees(1, steps.as_slice(), zeros.as_slice()));
-    let later = [Step::Want(At::Whole(0)), Step::Want(At::Whole(510))];
-    assert!(rt; bench.sees(2, &later, &[Seen::Bytes(0), Seen::Bytes(0)]));
+fn fewer_than_twice_the_limit_stay(rt: HostRuntime) -> Result<(), Fail> {
+    let later = [Step::Want(At::Whole(0)), Step::Want(At::Whole(TWICE - 2))];
+    assert!(rt; sees_later(&rt, TWICE - 1, &later, &[Seen::Bytes(0), Seen::Bytes(0)])?);
     Ok(())
 }
 

@@ -12,7 +12,7 @@ use std::test::Fail;
 use txn::{Change, Object};
 
 // The blocks and inodes of the image here.
-pub const BLOCKS: u32 = 1040;
+pub const BLOCKS: u32 = 3200;
 
 pub const INODES: u32 = 64;
 

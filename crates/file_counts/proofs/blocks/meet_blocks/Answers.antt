@@ -5,7 +5,8 @@ use Rattle.file_counts.proofs.blocks.meet_blocks.Goals as goal
 
 pub meet_block-requires-in-places : goal.meet_block-requires-in-places
 meet_block-requires-in-places c =
-    subst (λ size. is_none_or_below size (get_or c.args.numbers.now c.places.place 0) ≡ true) (sym c.places.invariant.size)
+    subst (λ size. is_none_or_below size (get_or c.args.numbers.now c.places.place 0) ≡ true)
+    (sym c.places.invariant.size)
     (each_passes (is_none_or_below (length c.args.owners.now.has)) c.args.numbers.now c.places.place 0
     c.requires.numbers c.places-test.true)
 
@@ -13,8 +14,10 @@ pub places-preserved : goal.places-preserved
 places-preserved c = record {
   size = c.meet_block-in-places.ensures.size ∙ c.places.invariant.size;
   met = λ met owned.
-      more_blocks met c.args.indirect c.args.numbers.now c.meet_block-in-places.new.owners c.places.place c.places-test.true
-      (c.meet_block-in-places.ensures.met (met ++ filter is_some (c.args.indirect ∷ take c.places.place c.args.numbers.now))
+      more_blocks met c.args.indirect c.args.numbers.now c.meet_block-in-places.new.owners c.places.place
+      c.places-test.true
+      (c.meet_block-in-places.ensures.met
+      (met ++ filter is_some (c.args.indirect ∷ take c.places.place c.args.numbers.now))
       (c.places.invariant.met met owned));
 }
 

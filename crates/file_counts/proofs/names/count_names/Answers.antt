@@ -1,7 +1,8 @@
 use Rattle.std.proofs.Common.{◌≡◌, ◌+◌, ◌++◌, ◌∷◌, [], get_or, length, map, nat_lt, subst, sym, take, arith}
 use Rattle.std.proofs.lemmas.Bool.{ltb-true}
 use Rattle.layout.specs.declared.slot.Slot.{Slot}
-use Rattle.file_counts.proofs.More.{AreNamedToo, all_named, each_passes, more_named, none_named, number_of, numbers_more}
+use Rattle.file_counts.proofs.More.{AreNamedToo, all_named, each_passes, more_named, none_named, number_of}
+use Rattle.file_counts.proofs.More.{numbers_more}
 use Rattle.file_counts.proofs.names.count_names.Goals as goal
 
 pub places-init : goal.places-init

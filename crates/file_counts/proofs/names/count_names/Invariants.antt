@@ -1,5 +1,5 @@
 use Rattle.std.proofs.Common.{ℕ, List, length, map, take}
-use Rattle.image_links.specs.Linked.{HasCounts}
+use Rattle.file_counts.specs.Linked.{HasCounts}
 use Rattle.file_counts.specs.Adds.{AreNamed}
 use Rattle.file_counts.proofs.More.{AreNamedToo, number_of}
 use Rattle.file_counts.proofs.names.count_names.Given as goal

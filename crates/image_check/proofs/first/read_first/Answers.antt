@@ -20,5 +20,6 @@ returns-clause-refused g c = λ keeps clean.
     let old : Device = g.D.CrashDisk.device c.args.disk.now in
     let new : Device = g.D.CrashDisk.device c.read_super.new.disk in
     subst (IsRefusal (IsNotGood old.size (image_of old))) (sym c.of_open.ensures)
-    (refused_first (g.D.CrashDisk.keeps_model c.read_super.new.disk) c.in-Err.cause old new c.in-Err.ensures.refused keeps
+    (refused_first (g.D.CrashDisk.keeps_model c.read_super.new.disk) c.in-Err.cause old new
+    c.in-Err.ensures.refused keeps
     clean)

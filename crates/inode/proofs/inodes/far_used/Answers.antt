@@ -18,12 +18,12 @@ returns-then-not-is_data-clause-pause c = λ blocks tree over placed far.
 pub returns-in-Ok-clause-ok : goal.returns-in-Ok-clause-ok
 returns-in-Ok-clause-ok c = λ blocks tree over.
     some_used (content_in c.args.snap.now.geometry blocks) c.args.indirect c.in-Ok.mapped
-    c.in_ok-bytes.bytes.now (numbers_at INDIRECT_INDEXES 0 c.in_ok-bytes.bytes.now)
-    (let h = c.if-indirect-eq0.false in search rules) (c.in_ok-bytes.ensures.ok blocks tree over) refl
+    c.in_ok-block.block.now.bytes (numbers_at INDIRECT_INDEXES 0 c.in_ok-block.block.now.bytes)
+    (let h = c.if-indirect-eq0.false in search rules) (c.in_ok-block.ensures.ok blocks tree over) refl
     c.in-Ok.ensures.count
 
 pub returns-in-Err-clause-pause : goal.returns-in-Err-clause-pause
 returns-in-Err-clause-pause c = λ blocks tree over placed far.
-    not_placed c.args.snap.now.geometry blocks c.args.indirect c.in_ok-bytes.bytes.now
-    (let h = c.if-indirect-eq0.false in search rules) (c.in_ok-bytes.ensures.ok blocks tree over)
+    not_placed c.args.snap.now.geometry blocks c.args.indirect c.in_ok-block.block.now.bytes
+    (let h = c.if-indirect-eq0.false in search rules) (c.in_ok-block.ensures.ok blocks tree over)
     c.in-Err.ensures.refused.1 far

@@ -1,16 +1,10 @@
-use Rattle.std.proofs.Common.{sym}
-use Rattle.inode.proofs.HadAlone.{unseen_unhad}
+use Rattle.std.proofs.Common.{◌∙◌, subst, sym}
+use Rattle.inode.specs.Read.{WasRead}
 use Rattle.inode.proofs.read.bytes_at.Goals as goal
 
-pub returns-in-Some-clause-read : goal.returns-in-Some-clause-read
-returns-in-Some-clause-read c = record {
-  object = c.in-Some.object.now;
-  there = c.in-Some.ensures.there;
-  at = c.in-Some.ensures.some;
-  bytes_are = sym c.bytes.ensures.bytes;
-}
+pub returns-in-Ok-clause-there : goal.returns-in-Ok-clause-there
+returns-in-Ok-clause-there c = λ blocks saw. c.in-Ok.ensures.there blocks saw ∙ sym c.bytes.ensures.bytes
 
-pub returns-in-None-clause-err : goal.returns-in-None-clause-err
-returns-in-None-clause-err c =
-    unseen_unhad c.args.addr c.args.snap.now.asks c.args.snap.now.objects.items c.args.snap.now.alone.items
-    c.in-None.ensures.none
+pub returns-in-Ok-clause-read : goal.returns-in-Ok-clause-read
+returns-in-Ok-clause-read c =
+    subst (WasRead c.args.snap.now.objects.items c.args.addr) (sym c.bytes.ensures.bytes) c.in-Ok.ensures.read

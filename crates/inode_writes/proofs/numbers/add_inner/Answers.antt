@@ -1,21 +1,8 @@
-use Rattle.std.proofs.Common.{rules, sym, ap, ◌∙◌, ◌≡◌, ℕ, List, ◌++◌, append-nil, filter, nat_eq, true}
-use Rattle.std.proofs.lemmas.Fn.{filter_same}
-use Rattle.layout.specs.Parts.{content_in}
-use Rattle.layout.proofs.NumbersIn.{none_left}
-use Rattle.inode_writes.specs.Frees.{is_some}
+use Rattle.std.proofs.Common.{ap, ◌∙◌, ℕ, List, ◌++◌}
 use Rattle.inode_writes.proofs.numbers.add_inner.Goals as goal
-
-pub returns-then-pointer-eq0-clause-ok : goal.returns-then-pointer-eq0-clause-ok
-returns-then-pointer-eq0-clause-ok c = λ blocks tree over.
-    let content = content_in c.args.snap.now.geometry blocks in
-    let none : nat_eq c.args.pointer 0 ≡ true = (let h = c.if-pointer-eq0.true in search rules) in
-    sym (ap (λ (l : List ℕ). c.args.numbers.now.items ++ l) (none_left content c.args.pointer none)
-    ∙ append-nil c.args.numbers.now.items)
 
 pub returns-clause-ok : goal.returns-clause-ok
 returns-clause-ok c = λ blocks tree over.
     c.in_ok-extend_from_slice.ensures.items
     ∙ ap (λ (l : List ℕ). c.args.numbers.now.items ++ l)
-    (c.deref.ensures.value
-    ∙ filter_same _ is_some _ (λ x b f r. search rules) _ _ c.retain.ensures.filtered
-    ∙ ap (filter is_some) (c.in_ok-named.ensures.ok blocks tree over))
+    (c.deref.ensures.value ∙ c.in_ok-named.ensures.ok blocks tree over)

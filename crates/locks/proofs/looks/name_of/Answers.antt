@@ -38,7 +38,8 @@ returns-then-is_hold_of c =
       within = within;
       mine = λ _ d.
           subst (λ (hold : Hold). is_hold_of c.args.transaction c.args.addr hold ≡ true)
-          (default c.args.holds.now (c.loop-name.name - 1) c.index-holds-name.result d (omega (arith, some, within))) mine;
+          (default c.args.holds.now (c.loop-name.name - 1) c.index-holds-name.result d
+          (omega (arith, some, within))) mine;
       none = λ e. absurd (omega (arith, e, some));
     }
 

@@ -27,7 +27,7 @@ returns-then-is_none c =
     ap (λ (content : Option Content). set c.args.list.now c.in-Some.i (record {
       block = (slice_index_or c.args.list.now c.in-Some.i d).block;
       content = content;
-    })) (put _ c.args.content it)
+    })) (ap (λ (content : Content). Some content) c.new.ensures ∙ put _ c.args.content it)
     ∙ filled_at c.args.block c.args.content c.args.list.now c.in-Some.i d (c.in-Some.ensures)
 
 pub returns-else-is_none : goal.returns-else-is_none

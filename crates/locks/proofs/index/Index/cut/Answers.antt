@@ -19,8 +19,8 @@ loop-count-preserved c =
     record {
       from = omega arith;
       within = omega (arith, within);
-      long = ap (λ (names : List ℕ). length names) c.take_back.ensures.last ∙ length-set c.loop-count.self.last.items _ _
-          ∙ c.loop-count.invariant.long;
+      long = ap (λ (names : List ℕ). length names) c.take_back.ensures.last
+          ∙ length-set c.loop-count.self.last.items _ _ ∙ c.loop-count.invariant.long;
       room = omega (arith, room, kept);
       index = subst (λ (before : List ℕ). IsIndex (numbers (take (count - 1) c.args.holds.now))
           c.take_back.new.self.last.items before) (sym c.take_back.ensures.before)

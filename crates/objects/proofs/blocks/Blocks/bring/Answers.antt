@@ -1,6 +1,7 @@
-use Rattle.std.proofs.Common.{◌≡◌, ◌∙◌, ◌++◌, ◌∷◌, [], ℕ, List, length, None, subst, sym, arith}
+use Rattle.std.proofs.Common.{◌≡◌, ◌∙◌, ◌++◌, ◌∷◌, [], ℕ, List, length, None, Option, ap, subst, sym, arith}
 use Rattle.std.specs.Prelude.{slice_set}
 use Rattle.std.proofs.lemmas.List.{length-map}
+use Rattle.disk.specs.Device.{Content}
 use Rattle.objects.specs.Indexed.{IsIndex, numbers}
 use Rattle.objects.specs.Present.{IsOnce, present_of}
 use Rattle.objects.specs.declared.present.Present.{Present}
@@ -16,7 +17,10 @@ invariant_of-self-2 c =
     let none : present_of list c.args.block ≡ None =
     subst (λ (xs : List Present). present_of xs c.args.block ≡ None) (sym c.self.view_is)
     (none_of (present_of c.args.self.now c.args.block) (sym c.has.ensures ∙ c.if-has.false)) in
-    let more : c.push.new.self.items ≡ list ++ resident ∷ [] = c.in_ok-push.ensures.items in
+    let more : c.push.new.self.items ≡ list ++ resident ∷ [] =
+    c.in_ok-push.ensures.items
+    ∙ ap (λ (content : Option Content). list ++ record { block = c.args.block; content = content } ∷ [])
+    c.with_content.ensures in
     let size : length (numbers list) ≡ length list = length-map list (λ (one : Present). one.block.0) in
     let at : c.len-i.result ≡ length (numbers list) = omega (arith, size) in
     let same : IsIndex (numbers list) c.reach.new.indices.items =

@@ -1,7 +1,10 @@
-use Rattle.std.proofs.Common.{◌∙◌, true, List, ap}
+use Rattle.std.proofs.Common.{◌<◌, ◌∙◌, ◌∷◌, ℕ, true, List, ap, sym, subst, arith}
+use Rattle.disk.specs.declared.block.BlockNo.{BlockNo}
 use Rattle.objects.specs.Pins.{Residents, count_in, pins_of, spared}
 use Rattle.objects.specs.Present.{filled}
 use Rattle.objects.specs.declared.present.Present.{Present}
+use Rattle.objects.specs.Unneeded.{AreNoted}
+use Rattle.objects.proofs.Noted.{noted_filled, noted_pinned}
 use Rattle.objects.proofs.Wanted.{spared_all}
 use Rattle.objects.proofs.residency.Residency.fetched.Goals as goal
 
@@ -16,3 +19,23 @@ returns-else-count_of-eq0 c =
             blocks = spared (λ resident. true) (pins_of old) (filled old.blocks c.args.block c.args.content);
           }) c.self.view_is,
     )
+
+pub keep_clean-requires-clause-noted : goal.keep_clean-requires-clause-noted
+keep_clean-requires-clause-noted c =
+    let numbers : List ℕ = c.self.inside.recent in
+    let pins : BlockNo → ℕ = count_in c.self.inside.pins.entries in
+    subst (AreNoted (c.args.block.0 ∷ numbers) pins) (sym c.fill.ensures)
+    (noted_filled c.args.block numbers pins c.args.content c.self.inside.blocks c.self.invariant.noted)
+
+pub invariant_of-self-else-count_of-eq0 : goal.invariant_of-self-else-count_of-eq0
+invariant_of-self-else-count_of-eq0 c =
+    let numbers : List ℕ = c.self.inside.recent in
+    let pins : BlockNo → ℕ = count_in c.self.inside.pins.entries in
+    let some : 0 < pins c.args.block =
+    (let count = c.count_of.ensures in let more = c.if-count_of-eq0.false in omega (arith, count, more)) in
+    record {
+      few = c.self.invariant.few;
+      noted = subst (AreNoted numbers pins) (sym c.fill.ensures)
+          (noted_pinned c.args.block numbers pins some (filled c.self.inside.blocks c.args.block c.args.content)
+          (noted_filled c.args.block numbers pins c.args.content c.self.inside.blocks c.self.invariant.noted));
+    }

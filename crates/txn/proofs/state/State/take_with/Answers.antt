@@ -1,5 +1,6 @@
-use Rattle.std.proofs.Common.{◌≡◌, ◌+◌, ◌-◌, ◌∙◌, ℕ, Bool, true, false, if◌then◌else◌, List, None, Some, ap, length}
-use Rattle.std.proofs.Common.{subst, sym, arith}
+use Rattle.std.proofs.Common.{◌≡◌, ◌<◌, ◌+◌, ◌-◌, ◌∙◌, ℕ, Bool, true, false, if◌then◌else◌, List, None, Some, ap, length}
+use Rattle.std.proofs.Common.{refl, subst, sym, arith}
+use Rattle.std.proofs.lemmas.Bool.{eq-eqb}
 use Rattle.disk.specs.Device.{Content}
 use Rattle.disk.specs.declared.block.BlockNo.{BlockNo}
 use Rattle.objects.specs.Pins.{Residents, PinsStay, once_at, pins_of}
@@ -7,9 +8,11 @@ use Rattle.objects.specs.Present.{present_of, without_block}
 use Rattle.objects.specs.declared.present.Present.{Present}
 use Rattle.objects.proofs.Kept.{back_as_before}
 use Rattle.wal_law.specs.Log.{newest}
+use Rattle.objects.proofs.Wanted.{once_here}
+use Rattle.txn.proofs.Counted.{held_some}
 use Rattle.txn.proofs.Neat.{neat_stay, neat_brought}
 use Rattle.txn.specs.Neat.{IsAsLogged, IsNeat}
-use Rattle.txn.specs.Pinned.{newly_in}
+use Rattle.txn.specs.Pinned.{holds_in, newly_in}
 use Rattle.txn_law.specs.Core.{CoreState}
 use Rattle.txn_law.specs.Window.{Footprint}
 use Rattle.txn_law.specs.declared.hold.Hold.{Hold}
@@ -71,6 +74,19 @@ settled t again old brought new one same more less =
     go : (t : Bool) → new ≡ brought - (if t then one else 0) → new ≡ old + (if t then 0 else one)
     go true e = omega (arith, more, e)
     go false e = omega (arith, more, e)
+
+-- who had taken the address had pinned its block
+pub settle-requires : goal.settle-requires
+settle-requires g c =
+    λ same.
+    let core = c.self.inside in
+    let block : BlockNo = c.args.hold.addr.block in
+    let held : 0 < holds_in core.holds block =
+    held_some c.args.hold.transaction c.args.hold.addr core.holds (sym c.is_held_by-again.ensures ∙ same) in
+    let counted = c.self.invariant.counted block in
+    let once : once_at block block ≡ 1 = once_here block block (eq-eqb block.0 block.0 refl) in
+    let more = c.in_ok-bring.ensures.pinned block in
+    omega (arith, held, counted, once, more)
 
 pub invariant_of-self-2 : goal.invariant_of-self-2
 invariant_of-self-2 g c =

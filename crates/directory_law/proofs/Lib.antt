@@ -1,4 +1,0 @@
-pub mod Directory
-pub mod Entries
-mod Lawful
-mod Once

@@ -1,4 +1,0 @@
-pub mod Below
-pub mod Facts
-pub mod Linked
-pub mod Whole

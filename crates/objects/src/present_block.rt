@@ -1,0 +1,86 @@
+//! The content of a block in memory, and what is kept of it.
+ghost use Rattle.std.specs.Prelude.{◌≡◌, IfOk, IfSome, length};
+ghost use Rattle.objects.specs.Counted.{IsCountedIn};
+ghost use Rattle.objects.specs.Spliced.{extracted};
+
+use crate::{Addr, Counted, SharedBytes, extract};
+use disk::Block;
+use limits::BLOCK_BYTES;
+use std::alloc::{AllocError, Global};
+use std::marker::Model;
+
+/// A block's content, and what its numbers count to. They are counted where the whole block is wanted a second time
+/// since it came or was changed.
+#[derive(Drop)]
+pub struct PresentBlock {
+    block: Block,
+    // Whether the whole block was wanted since it came or was changed.
+    wanted: bool,
+    counted: Option<Counted>,
+}
+
+impl Model for PresentBlock {
+    ghost use Rattle.std.specs.Prelude.{List, ℕ, IfSome};
+    ghost use Rattle.objects.specs.Counted.{IsCountedIn};
+
+    ghost Value = { List ℕ };
+
+    ghost view = { λ present. present.block };
+
+    ghost invariant = { λ present. IfSome present.counted (IsCountedIn present.block) };
+}
+
+impl PresentBlock {
+    /// A block that came.
+    pub(crate) fn new(block: Block) -> PresentBlock
+        ensures { result ≡ block }
+    {
+        PresentBlock {
+            block,
+            wanted: false,
+            counted: None,
+        }
+    }
+
+    /// The block.
+    pub(crate) fn block(&self) -> &Block
+        ensures { result.now ≡ self.now }
+    {
+        &self.block
+    }
+
+    /// Makes the content this one.
+    pub(crate) fn renew(&mut self, content: &Block)
+        ensures { self.new ≡ content.now }
+    {
+        self.block.copy_from(content);
+        self.wanted = false;
+        self.counted = None;
+    }
+
+    /// The bytes at an address of the block: of the whole block with what they count to, where that is known.
+    pub(crate) fn bytes_at(&mut self, alloc: Global, addr: Addr) -> Result<SharedBytes, AllocError>
+        ensures same { self.new ≡ self.old }
+        ensures bytes { IfOk result (λ bytes. bytes ≡ extracted self.old addr.offset addr.len) }
+        ensures len { IfOk result (λ bytes. length bytes ≡ addr.len) }
+    {
+        let bytes = extract(alloc, &self.block, addr)?;
+        if addr.len < BLOCK_BYTES {
+            return Ok(bytes);
+        }
+        let _ = self.block.as_slice();
+        Ok(bytes.with_count(self.want()))
+    }
+
+    // Notes that the whole block is wanted, and tells what it counts to where it was wanted before.
+    fn want(&mut self) -> Option<Counted>
+        ensures same { self.new ≡ self.old }
+        ensures counted { IfSome result (IsCountedIn self.old) }
+    {
+        if self.wanted && self.counted.is_none() {
+            self.counted = Some(Counted::of(self.block.as_slice()));
+        }
+        self.wanted = true;
+        self.counted
+    }
+}
