@@ -1,5 +1,5 @@
 //! The content of a block in memory, and what is kept of it.
-ghost use Rattle.std.specs.Prelude.{◌≡◌, IfOk, IfSome, length};
+ghost use Rattle.std.specs.Prelude.{◌≡◌, IfOk, length};
 ghost use Rattle.objects.specs.Counted.{IsCountedIn};
 ghost use Rattle.objects.specs.Spliced.{extracted};
 
@@ -9,13 +9,11 @@ use limits::BLOCK_BYTES;
 use std::alloc::{AllocError, Global};
 use std::marker::Model;
 
-/// A block's content, and what its numbers count to. They are counted where the whole block is wanted a second time
-/// since it came or was changed.
+/// A block's content, and what its numbers count to. They are counted where the whole block is first wanted since it came
+/// or was changed.
 #[derive(Drop)]
 pub struct PresentBlock {
     block: Block,
-    // Whether the whole block was wanted since it came or was changed.
-    wanted: bool,
     counted: Option<Counted>,
 }
 
@@ -37,7 +35,6 @@ impl PresentBlock {
     {
         PresentBlock {
             block,
-            wanted: false,
             counted: None,
         }
     }
@@ -54,11 +51,10 @@ impl PresentBlock {
         ensures { self.new ≡ content.now }
     {
         self.block.copy_from(content);
-        self.wanted = false;
         self.counted = None;
     }
 
-    /// The bytes at an address of the block: of the whole block with what they count to, where that is known.
+    /// The bytes at an address of the block: those of the whole block with what they count to.
     pub(crate) fn bytes_at(&mut self, alloc: Global, addr: Addr) -> Result<SharedBytes, AllocError>
         ensures same { self.new ≡ self.old }
         ensures bytes { IfOk result (λ bytes. bytes ≡ extracted self.old addr.offset addr.len) }
@@ -69,18 +65,19 @@ impl PresentBlock {
             return Ok(bytes);
         }
         let _ = self.block.as_slice();
-        Ok(bytes.with_count(self.want()))
+        Ok(bytes.with_count(self.count()))
     }
 
-    // Notes that the whole block is wanted, and tells what it counts to where it was wanted before.
-    fn want(&mut self) -> Option<Counted>
+    // What its numbers count to.
+    fn count(&mut self) -> Counted
         ensures same { self.new ≡ self.old }
-        ensures counted { IfSome result (IsCountedIn self.old) }
+        ensures counted { IsCountedIn self.old result }
     {
-        if self.wanted && self.counted.is_none() {
-            self.counted = Some(Counted::of(self.block.as_slice()));
+        if let Some(counted) = self.counted {
+            return counted;
         }
-        self.wanted = true;
-        self.counted
+        let counted = Counted::of(self.block.as_slice());
+        self.counted = Some(counted);
+        counted
     }
 }

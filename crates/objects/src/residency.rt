@@ -88,7 +88,7 @@ impl Residency {
     }
 
     /// The bytes at an address, if its block is there and its fetch isn't pending. Those of a whole block come with what
-    /// they count to, where it was wanted before since it came or was changed.
+    /// they count to.
     pub fn bytes_at(&mut self, alloc: Global, addr: Addr) -> Result<Option<SharedBytes>, AllocError>
         ensures same { self.new ≡ self.old }
         ensures bytes { IfOk result (λ found. found

@@ -1,5 +1,5 @@
 //! Bytes that are shared.
-ghost use Rattle.std.specs.Prelude.{◌≡◌, IfOk, IfSome, length};
+ghost use Rattle.std.specs.Prelude.{◌≡◌, IfOk, length};
 ghost use Rattle.limits.specs.declared.TheConstants.{BLOCK_BYTES};
 ghost use Rattle.objects.specs.Counted.{IsCountedIn};
 
@@ -39,14 +39,14 @@ impl SharedBytes {
         })
     }
 
-    /// The same bytes with what they count to, where that is known.
-    pub(crate) fn with_count(self, counted: Option<Counted>) -> SharedBytes
-        requires { IfSome counted (IsCountedIn self) }
+    /// The same bytes with what they count to.
+    pub(crate) fn with_count(self, counted: Counted) -> SharedBytes
+        requires { IsCountedIn self counted }
         ensures { result ≡ self }
     {
         SharedBytes {
             bytes: self.bytes,
-            counted,
+            counted: Some(counted),
         }
     }
 
