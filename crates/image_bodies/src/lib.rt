@@ -1,11 +1,11 @@
 //! The files of an image, gone through one after another: what each shows by itself, and what is counted of all.
 #![tactic(auto)]
 
-mod files;
+mod bodies;
 mod found;
 mod inner;
 mod progress;
 
-pub use files::look_at_files;
+pub use bodies::look_at_files;
 pub use found::Found;
 pub use progress::{Progress, Untold};

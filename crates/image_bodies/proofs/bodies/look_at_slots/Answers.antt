@@ -6,7 +6,7 @@ use Rattle.overlays.specs.LaidOver.{laid_over}
 use Rattle.directory_names.specs.Names.{AreNames}
 use Rattle.image_bodies.proofs.NoDouble.{no_double_in_directory}
 use Rattle.image_bodies.proofs.Looked.{AddsSlots, slots_looked}
-use Rattle.image_bodies.proofs.files.look_at_slots.Goals as goal
+use Rattle.image_bodies.proofs.bodies.look_at_slots.Goals as goal
 
 pub returns-clause-looked : goal.returns-clause-looked
 returns-clause-looked g c = λ keeps unspoiled as_read sound kind are.

@@ -8,7 +8,7 @@ use Rattle.overlays.specs.LaidOver.{laid_over}
 use Rattle.image_files.proofs.Then.{contents_then}
 use Rattle.image_bodies.specs.Bodies.{AreAsRead, HasBlocks, IsAdded, IsFound}
 use Rattle.image_bodies.proofs.Finding.{none_found, one_found}
-use Rattle.image_bodies.proofs.files.look_at_files.Goals as goal
+use Rattle.image_bodies.proofs.bodies.look_at_files.Goals as goal
 
 pub numbers-init : goal.numbers-init
 numbers-init g c = record {

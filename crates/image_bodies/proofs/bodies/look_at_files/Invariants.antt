@@ -2,7 +2,7 @@ use Rattle.std.proofs.Common.{◌≡◌}
 use Rattle.wal_law.specs.Recovery.{HasOnlyRead, IsUnspoiled}
 use Rattle.image_files.specs.Content.{content_on}
 use Rattle.image_bodies.specs.Bodies.{AreAsRead, FitsFound, IsFound}
-use Rattle.image_bodies.proofs.files.look_at_files.Given as goal
+use Rattle.image_bodies.proofs.bodies.look_at_files.Given as goal
 
 abbrev pub invariant-numbers : goal.invariant-numbers
 invariant-numbers g l = record {

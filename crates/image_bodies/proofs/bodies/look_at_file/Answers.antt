@@ -17,7 +17,7 @@ use Rattle.image_bodies.specs.Inner.{below_of, is_zero_below}
 use Rattle.image_bodies.proofs.Finding.{file_added}
 use Rattle.image_bodies.proofs.Looked.{all_below, has_blocks, mapped_of_blocks, none_or_below}
 use Rattle.image_bodies.proofs.AllMet.{all_met}
-use Rattle.image_bodies.proofs.files.look_at_file.Goals as goal
+use Rattle.image_bodies.proofs.bodies.look_at_file.Goals as goal
 
 pub meet_blocks-requires-clause-indirect : goal.meet_blocks-requires-clause-indirect
 meet_blocks-requires-clause-indirect g c =

@@ -13,7 +13,7 @@ use Rattle.image_bodies.specs.Inner.{is_zero_below}
 use Rattle.image_bodies.proofs.NoDouble.{few_in_directory, no_double_in_directory, no_double_in_link}
 use Rattle.image_bodies.proofs.Looked.{link_looked, none_below, regular_looked}
 use Rattle.image_bodies.proofs.NearSlots.{spanned_near}
-use Rattle.image_bodies.proofs.files.look_inside.Goals as goal
+use Rattle.image_bodies.proofs.bodies.look_inside.Goals as goal
 
 pub returns-in-Directory-clause-looked : goal.returns-in-Directory-clause-looked
 returns-in-Directory-clause-looked g c = λ keeps unspoiled as_read sound are.
