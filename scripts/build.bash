@@ -126,8 +126,8 @@ follow() {
 # any status.
 prove_and_build() {
     local began=$SECONDS lines
-    say "${0##*/}: proving and building the program. From nothing that takes a quarter to three quarters of an hour," \
-        "after a change minutes. What rt prints goes into $log"
+    say "${0##*/}: proving and building the program. From nothing that takes one to two hours, after a change" \
+        "minutes. What rt prints goes into $log"
     : >"$log"
     exec {lines}< <(cd "$root/crates/nfsd" && exec "$rt" run -- --help </dev/null 2>&1)
     child=$!
