@@ -1,29 +1,43 @@
 //! What is in memory after a commit.
-ghost use Rattle.std.specs.Prelude.{◌≡◌, map};
-ghost use Rattle.txn.specs.Refreshed.{refreshed_among, refreshed_where};
+ghost use Rattle.std.specs.Prelude.{◌≡◌, IfOk};
+ghost use Rattle.txn.specs.Refreshed.{is_there, renewed_each, there_among};
 
-use disk::BlockNo;
+use disk::{Block, BlockNo, SharedBlock};
 use objects::Residency;
-use wal::Wal;
+use std::alloc::{AllocError, Global};
 
-/// Makes each of these blocks that is in memory what the log has.
-pub(crate) fn refresh(present: &mut Residency, log: &Wal, blocks: &[BlockNo])
-    ensures { present.new ≡ record present.old {
-      blocks = map (refreshed_among log.now blocks.now) present.old.blocks;
-    } }
+/// Of the blocks of a group those that are in memory, each as one that is shared.
+pub(crate) fn shared_each(
+    alloc: Global,
+    present: &Residency,
+    group: &[(BlockNo, Block)],
+) -> Result<Vec<(BlockNo, SharedBlock)>, AllocError>
+    ensures { IfOk result (λ shared. shared.items ≡ there_among present.now.blocks group.now) }
 {
-    for block in blocks {
-        refresh_one(present, log, block);
+    let mut shared = Vec::with_capacity(alloc, group.len())?;
+    for change in group {
+        if is_there(present, change.0) {
+            let content = SharedBlock::new(alloc, change.1.copied(alloc)?)?;
+            shared.push((change.0, content))?;
+        }
     }
+    Ok(shared)
 }
 
-// The same of one block.
-fn refresh_one(present: &mut Residency, log: &Wal, block: &BlockNo)
+// Whether the block is in memory, and no fetch of it is pending.
+fn is_there(present: &Residency, block: BlockNo) -> bool
+    ensures { result ≡ is_there present.now.blocks block }
+{
+    present.content_of(block).is_some()
+}
+
+/// Puts each of these blocks in the place of the one in memory, where there is one.
+pub(crate) fn refresh(present: &mut Residency, blocks: Vec<(BlockNo, SharedBlock)>)
     ensures { present.new ≡ record present.old {
-      blocks = map (refreshed_where log.now block.now) present.old.blocks;
+      blocks = renewed_each present.old.blocks blocks.items;
     } }
 {
-    if let Some(newest) = log.latest(*block) {
-        present.renew(*block, newest);
+    for (block, content) in blocks {
+        present.renew(block, content);
     }
 }
