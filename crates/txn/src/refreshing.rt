@@ -1,5 +1,5 @@
 //! What is in memory after a commit.
-ghost use Rattle.std.specs.Prelude.{◌≡◌, IfOk};
+ghost use Rattle.std.specs.Prelude.{◌≡◌, ◌++◌, ◌∷◌, [], IfOk, OnOk, if◌then◌else◌};
 ghost use Rattle.txn.specs.Refreshed.{is_there, renewed_each, there_among};
 
 use disk::{Block, BlockNo, SharedBlock};
@@ -16,12 +16,26 @@ pub(crate) fn shared_each(
 {
     let mut shared = Vec::with_capacity(alloc, group.len())?;
     for change in group {
-        if is_there(present, change.0) {
-            let content = SharedBlock::new(alloc, change.1.copied(alloc)?)?;
-            shared.push((change.0, content))?;
-        }
+        add_shared(alloc, present, change, &mut shared)?;
     }
     Ok(shared)
+}
+
+// Adds one of them, where it is in memory.
+fn add_shared(
+    alloc: Global,
+    present: &Residency,
+    change: &(BlockNo, Block),
+    shared: &mut Vec<(BlockNo, SharedBlock)>,
+) -> Result<(), AllocError>
+    ensures { OnOk result (shared.new.items ≡ shared.old.items
+        ++ (if is_there present.now.blocks change.now.0 then change.now ∷ [] else [])) }
+{
+    if is_there(present, change.0) {
+        let content = SharedBlock::new(alloc, change.1.copied(alloc)?)?;
+        shared.push((change.0, content))?;
+    }
+    Ok(())
 }
 
 // Whether the block is in memory, and no fetch of it is pending.
