@@ -1,9 +1,10 @@
 -- Lemmas: the blocks in memory with the contents of a group.
 use Rattle.std.proofs.Common.{◌≡◌, ◌∙◌, ◌++◌, ◌∷◌, [], Bool, true, false, if◌then◌else◌, List, map}
-use Rattle.std.proofs.Common.{Option, Some, None, is_some, nat_eq, cond, ℕ, refl, ap, sym, All, arith}
+use Rattle.std.proofs.Common.{Option, Some, None, is_some, nat_eq, cond, ℕ, ◌+◌, ◌<◌, refl, ap, sym, All, arith}
+use Rattle.std.proofs.Common.{get_or, length, take}
 use Rattle.std.proofs.lemmas.Bool.{eqb-true}
 use Rattle.std.proofs.lemmas.Bool.Decides.{nat_tests}
-use Rattle.std.proofs.lemmas.List.Elements.{All-head, All-tail}
+use Rattle.std.proofs.lemmas.List.Elements.{All-head, All-tail, filter_more}
 use Rattle.disk.specs.Device.{Content}
 use Rattle.disk.specs.declared.block.BlockNo.{BlockNo}
 use Rattle.objects.specs.Present.{content_in, present_of, renewed, renewed_content, renewed_resident}
@@ -30,6 +31,17 @@ map_self (x ∷ xs) = ap (λ ys. x ∷ ys) (map_self xs)
 
 turned : (a b : ℕ) → nat_eq a b ≡ nat_eq b a
 turned a b = grind (arith, nat_tests)
+
+-- one block more of those that are in memory
+pub there_more : (present : List Present) (group : List (BlockNo × Content)) (i : ℕ) (d : BlockNo × Content)
+    (before now : List (BlockNo × Content)) → i < length group → before ≡ there_among present (take i group)
+    → now ≡ before ++ (if is_there present (get_or group i d).0 then get_or group i d ∷ [] else [])
+    → now ≡ there_among present (take (i + 1) group)
+there_more present group i d before now lt so_far one =
+    one
+    ∙ ap (λ (xs : List (BlockNo × Content)). xs
+    ++ (if is_there present (get_or group i d).0 then get_or group i d ∷ [] else [])) so_far
+    ∙ sym (filter_more (λ (change : BlockNo × Content). is_there present change.0) group i d lt)
 
 -- one block more
 pub one_more : (present : List Present) (group : List (BlockNo × Content)) (block : BlockNo) (content : Content)
