@@ -177,8 +177,8 @@ pub fn pointers_to(
     ensures { IfOk result (λ pointers. pointers.items ≡ group.now) }
 {
     let mut pointers = Vec::with_capacity(alloc, group.len())?;
-    for (block, content) in group {
-        pointers.push((*block, content.clone()?))?;
+    for change in group {
+        pointers.push((change.0, change.1.clone()?))?;
     }
     Ok(pointers)
 }

@@ -2,5 +2,5 @@
 use Rattle.std.proofs.Common.{◌≡◌, take}
 use Rattle.groups.proofs.group.pointers_to.Given as goal
 
-abbrev pub invariant-loop-block : goal.invariant-loop-block
-invariant-loop-block l = l.pointers.items ≡ take l.block-index l.group
+abbrev pub invariant-loop-change : goal.invariant-loop-change
+invariant-loop-change l = l.pointers.items ≡ take l.change-index l.group
