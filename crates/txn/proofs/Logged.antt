@@ -15,8 +15,8 @@ use Rattle.txn_law.specs.Group.{blocks_of, is_among}
 use Rattle.txn_law.proofs.Laid.{among_group, among_after}
 use Rattle.txn_law.proofs.TidyCommit.{none_lies, nothing, once_is}
 use Rattle.txn.specs.Neat.{IsAsLogged}
-use Rattle.txn.specs.Refreshed.{renewed_each, there_among}
-use Rattle.txn.proofs.Renewing.{each_newest, kept_alike, map_equal, refreshed_none, with_newest}
+use Rattle.txn.specs.Refreshed.{renewed_each}
+use Rattle.txn.proofs.Renewing.{each_newest, map_equal, refreshed_none, with_newest}
 
 -- the logger or the installer has gone on
 pub logged_on : (old new : Log) → HasGoneOn old new → (present : List Present) → All (IsAsLogged old) present
@@ -81,14 +81,14 @@ module _ (old new : Log) (group : List (BlockNo × Content)) (seen : HasAppended
               ∙ ap (λ (o : Option Content). or_else o (newest old resident.block.0)) (silent none)
               ∙ there (newest old resident.block.0) refl none) ∙ e in cc)
 
-  -- and that's what they are with those of the group that are in memory
-  pub refreshed_is : (present : List Present) → IsOnce present → All (IsAsLogged old) present
-      → renewed_each present (there_among present group) ≡ refreshed new present
-  refreshed_is present once h =
-      each_newest (there_among present group) present
-      ∙ map_equal (with_newest (there_among present group)) (refreshed_resident new) present
-      (λ k d lt. kept_alike present (get_or present k d) (once_is present once k d lt) group
-      ∙ each (get_or present k d) (h k d lt))
+  -- and that's what they are with the contents of the group
+  pub refreshed_is : (present : List Present) → All (IsAsLogged old) present
+      → renewed_each present group ≡ refreshed new present
+  refreshed_is present h =
+      each_newest group present
+      ∙ map_equal (with_newest group) (refreshed_resident new) present
+      (All-weaker (IsAsLogged old) (λ resident. with_newest group resident ≡ refreshed_resident new resident)
+      each present h)
     where
       as_it_was : (resident : Present) → IsAsLogged old resident → (o : Option Content)
           → newest old resident.block.0 ≡ o → resident.content ≡ refreshed_content resident.content o

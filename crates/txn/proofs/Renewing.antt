@@ -1,19 +1,16 @@
 -- Lemmas: the blocks in memory with the contents of a group.
 use Rattle.std.proofs.Common.{◌≡◌, ◌∙◌, ◌++◌, ◌∷◌, [], Bool, true, false, if◌then◌else◌, List, map}
-use Rattle.std.proofs.Common.{Option, Some, None, is_some, nat_eq, cond, ℕ, ◌+◌, ◌<◌, refl, ap, sym, All, arith}
-use Rattle.std.proofs.Common.{get_or, length, take}
-use Rattle.std.proofs.lemmas.Bool.{eqb-true}
+use Rattle.std.proofs.Common.{Option, Some, None, nat_eq, ℕ, refl, ap, sym, All, arith}
 use Rattle.std.proofs.lemmas.Bool.Decides.{nat_tests}
-use Rattle.std.proofs.lemmas.List.Elements.{All-head, All-tail, filter_more}
+use Rattle.std.proofs.lemmas.List.Elements.{All-head, All-tail}
 use Rattle.disk.specs.Device.{Content}
 use Rattle.disk.specs.declared.block.BlockNo.{BlockNo}
-use Rattle.objects.specs.Present.{content_in, present_of, renewed, renewed_content, renewed_resident}
+use Rattle.objects.specs.Present.{renewed, renewed_content, renewed_resident}
 use Rattle.objects.specs.declared.present.Present.{Present}
-use Rattle.objects.proofs.Residents.{same_block}
 use Rattle.wal_law.specs.Effects.{newest_in}
 use Rattle.wal_law.specs.Log.{or_else}
 use Rattle.txn_law.specs.Commit.{refreshed_content}
-use Rattle.txn.specs.Refreshed.{is_there, renewed_each, there_among}
+use Rattle.txn.specs.Refreshed.{renewed_each}
 
 pub map_equal : {X Y : Type 0} (f g : X → Y) (xs : List X) → All (λ x. f x ≡ g x) xs → map f xs ≡ map g xs
 map_equal f g [] h = refl
@@ -31,17 +28,6 @@ map_self (x ∷ xs) = ap (λ ys. x ∷ ys) (map_self xs)
 
 turned : (a b : ℕ) → nat_eq a b ≡ nat_eq b a
 turned a b = grind (arith, nat_tests)
-
--- one block more of those that are in memory
-pub there_more : (present : List Present) (group : List (BlockNo × Content)) (i : ℕ) (d : BlockNo × Content)
-    (before now : List (BlockNo × Content)) → i < length group → before ≡ there_among present (take i group)
-    → now ≡ before ++ (if is_there present (get_or group i d).0 then get_or group i d ∷ [] else [])
-    → now ≡ there_among present (take (i + 1) group)
-there_more present group i d before now lt so_far one =
-    one
-    ∙ ap (λ (xs : List (BlockNo × Content)). xs
-    ++ (if is_there present (get_or group i d).0 then get_or group i d ∷ [] else [])) so_far
-    ∙ sym (filter_more (λ (change : BlockNo × Content). is_there present change.0) group i d lt)
 
 -- one block more
 pub one_more : (present : List Present) (group : List (BlockNo × Content)) (block : BlockNo) (content : Content)
@@ -100,47 +86,3 @@ by_newest (change ∷ later) resident =
 pub each_newest : (group : List (BlockNo × Content)) (present : List Present)
     → renewed_each present group ≡ map (with_newest group) present
 each_newest group present = each_by group present ∙ ap (λ f. map f present) (λ i resident. by_newest group resident i)
-
--- where a resident has a content, what isn't in memory has nothing newer of it
-module _ (present : List Present) (resident : Present) (is : present_of present resident.block ≡ Some resident) where
-  or_none : (there : Option Content) → there ≡ or_else there None
-  or_none None = refl
-  or_none (Some content) = refl
-
-  kept_newest : is_some resident.content ≡ true → (group : List (BlockNo × Content))
-      → newest_in (there_among present group) resident.block.0 ≡ newest_in group resident.block.0
-  kept_newest there [] = refl
-  kept_newest there (change ∷ later) =
-      go (is_there present change.0) refl (nat_eq change.0.0 resident.block.0) refl
-    where
-      go : (t : Bool) → is_there present change.0 ≡ t → (s : Bool) → nat_eq change.0.0 resident.block.0 ≡ s
-          → newest_in (cond t (change ∷ there_among present later) (there_among present later)) resident.block.0
-          ≡ or_else (newest_in later resident.block.0)
-          (if nat_eq change.0.0 resident.block.0 then Some change.1 else None)
-      go true e s f =
-          ap (λ (newer : Option Content). or_else newer
-          (if nat_eq change.0.0 resident.block.0 then Some change.1 else None)) (kept_newest there later)
-      go false e true f =
-          let same : change.0 ≡ resident.block =
-          same_block change.0 resident.block (eqb-true change.0.0 resident.block.0 f) in
-          let found : is_there present change.0 ≡ true =
-          ap (is_there present) same ∙ ap (λ (found : Option Present). is_some (content_in found)) is ∙ there in
-          absurd (cc)
-      go false e false f =
-          kept_newest there later ∙ or_none (newest_in later resident.block.0)
-          ∙ ap (λ (t : Bool). or_else (newest_in later resident.block.0) (if t then Some change.1 else None)) (sym f)
-
-  pub kept_alike : (group : List (BlockNo × Content))
-      → with_newest (there_among present group) resident ≡ with_newest group resident
-  kept_alike group =
-      ap (λ (content : Option Content). record { block = resident.block; content = content })
-      (go resident.content refl)
-    where
-      go : (there : Option Content) → resident.content ≡ there
-          → refreshed_content resident.content (newest_in (there_among present group) resident.block.0)
-          ≡ refreshed_content resident.content (newest_in group resident.block.0)
-      go None e =
-          ap (λ (there : Option Content).
-          refreshed_content there (newest_in (there_among present group) resident.block.0)) e
-          ∙ ap (λ (there : Option Content). refreshed_content there (newest_in group resident.block.0)) (sym e)
-      go (Some content) e = ap (refreshed_content resident.content) (kept_newest (ap is_some e) group)

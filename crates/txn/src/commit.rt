@@ -10,11 +10,11 @@ ghost use Rattle.txn_law.specs.Group.{blocks_of};
 
 use crate::outcomes::Commit;
 use crate::records::{Record, block_of_each, can_pin_each, keep};
-use crate::refreshing::{refresh, shared_each};
+use crate::refreshing::refresh;
 use crate::state::State;
 use crate::{Change, Object, Receipt, Tx};
 use disk::BlockNo;
-use groups::{are_sized, blocks_of_objects, group_of};
+use groups::{are_sized, blocks_of_objects, group_of, pointers_to};
 use std::alloc::Global;
 use wal::{Append, Room};
 
@@ -63,14 +63,14 @@ impl<C: Change> State<C> {
         let Ok(group) = group_of(alloc, &self.present, &self.log, blocks, change.written()) else {
             return Commit::NoMemory(tx, change);
         };
-        let Ok(shared) = shared_each(alloc, &self.present, group.as_slice()) else {
+        let Ok(pointers) = pointers_to(alloc, group.as_slice()) else {
             return Commit::NoMemory(tx, change);
         };
         match self.log.append(group) {
             Append::Appended => {
                 let Tx { number } = tx;
                 let place = self.log.places();
-                refresh(&mut self.present, shared);
+                refresh(&mut self.present, pointers);
                 let installed = self.log.installed();
                 let kept = Record::of(place, read, &change);
                 keep(&mut self.records, &mut self.present, kept, installed);

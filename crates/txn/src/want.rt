@@ -109,7 +109,7 @@ impl<C: Change> State<C> {
             return Ok(Source::Bytes(bytes));
         }
         if let Some(newest) = self.log.latest(addr.block) {
-            let content = SharedBlock::new(alloc, newest.copied(alloc)?)?;
+            let content = newest.clone()?;
             let bytes = SharedBytes::of_block(&content, addr)?;
             self.take_with(for_reading(transaction, addr, mode), Some(content))?;
             return Ok(Source::Bytes(bytes));
