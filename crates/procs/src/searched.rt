@@ -69,6 +69,36 @@ fn behind_search(alloc: Global, call: &Call, snap: &Snap, names: &Names) -> Resu
     }
 }
 
+// Whether it is a call that goes on behind the search for its name.
+fn goes_on(call: &Call) -> bool {
+    matches!(
+        call,
+        Call::Create { .. } | Call::Remove { .. } | Call::RmDir { .. }
+    )
+}
+
+// The position behind the search begins. It stands apart, so that a plan that goes on elsewhere has no room for it.
+#[inline(never)]
+fn begin(
+    alloc: Global,
+    call: &Call,
+    snap: &Snap,
+    names: &Names,
+    searches: &mut Option<bool>,
+    ahead: &mut Ahead,
+) -> Result<(), Stop>
+    ensures { IfErr result (λ why. MayStop snap.now why) }
+{
+    match behind_search(alloc, call, snap, names) {
+        Ok(position) => {
+            *searches = None;
+            *ahead = position;
+            Ok(())
+        }
+        Err(stop) => Err(stop),
+    }
+}
+
 /// The next object or block that is asked for without a run. Where the last run stopped for what the search for the
 /// call's names stopped for, and the search has ended, the position behind it begins.
 pub(crate) fn go_on_behind(
@@ -82,13 +112,9 @@ pub(crate) fn go_on_behind(
 ) -> Option<Stop>
     ensures { IfSome result (λ why. MayStop snap.now why) }
 {
-    if searches.is_some() && search.is_ok() {
-        match behind_search(alloc, call, snap, names) {
-            Ok(position) => {
-                *searches = None;
-                *ahead = position;
-            }
-            Err(stop) => return Some(stop),
+    if searches.is_some() && search.is_ok() && goes_on(call) {
+        if let Err(stop) = begin(alloc, call, snap, names, searches, ahead) {
+            return Some(stop);
         }
     }
     ahead.next(alloc, snap)
