@@ -252,22 +252,24 @@ fn listing_of(
     Ok(Ahead::Listing(listing))
 }
 
-// What a name asks for that a directory gets.
-fn entering(
+/// What a name asks for that a directory gets.
+pub(crate) fn entering(
     alloc: Global,
     snap: &Snap,
     name: &DirectoryName,
     makes: bool,
     has_block: bool,
-) -> Result<Ahead, Stop> {
+) -> Result<Ahead, Stop>
+    ensures { IfErr result (λ why. MayStop snap.now why) }
+{
     match Entering::begin(alloc, snap, &name.directory, makes, has_block)? {
         Some(entering) => Ok(Ahead::Entering(entering)),
         None => Ok(Ahead::Nothing),
     }
 }
 
-// What the blocks ask for that a file frees, if it does.
-fn freed(freeing: Option<Freeing>) -> Ahead {
+/// What the blocks ask for that a file frees, if it does.
+pub(crate) fn freed(freeing: Option<Freeing>) -> Ahead {
     match freeing {
         Some(freeing) => Ahead::Freeing(freeing),
         None => Ahead::Nothing,
@@ -344,7 +346,7 @@ fn in_a_row(alloc: Global, call: &Call, snap: &Snap, names: &Names) -> Result<Ah
         Call::Remove { name } => Ok(freed(unnamed(snap, names, name, false)?)),
         Call::RmDir { name } => Ok(freed(unnamed(snap, names, name, true)?)),
         Call::Rename { target, .. } => match named(snap, names, target)? {
-            Some(number) => Ok(freed(Freeing::replaced(snap, number)?)),
+            Some(number) => Ok(freed(Freeing::gone(snap, number)?)),
             None => entering(alloc, snap, target, false, false),
         },
         Call::FsStat { .. } => Ok(Ahead::Pieces(Pieces::begin())),
