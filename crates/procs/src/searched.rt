@@ -63,8 +63,8 @@ fn behind_search(alloc: Global, call: &Call, snap: &Snap, names: &Names) -> Resu
 {
     match call {
         Call::Create { name, how } => making(alloc, snap, names, name, how),
-        Call::Remove { name } => Ok(freed(unnamed(snap, names, name, false)?)),
-        Call::RmDir { name } => Ok(freed(unnamed(snap, names, name, true)?)),
+        Call::Remove { name } => freed(alloc, unnamed(snap, names, name, false)?),
+        Call::RmDir { name } => freed(alloc, unnamed(snap, names, name, true)?),
         _ => Ok(Ahead::Nothing),
     }
 }

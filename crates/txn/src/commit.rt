@@ -111,7 +111,10 @@ impl<C: Change> State<C> {
         let addr = object.addr();
         match self.present.content_of(addr.block) {
             Some(content) => {
-                &content.as_slice()[addr.offset..addr.offset + addr.len] == object.bytes()
+                are_same(
+                    &content.as_slice()[addr.offset..addr.offset + addr.len],
+                    object.bytes(),
+                )
             }
             None => false,
         }
@@ -141,4 +144,11 @@ impl<C: Change> State<C> {
     {
         blocks.iter().all(|block| self.is_inside(*block))
     }
+}
+
+// Whether bytes are the same: `cmp` goes on in longer strides than `==`.
+fn are_same(one: &[u8], other: &[u8]) -> bool
+    ensures { IsTrue result ↔ (one.now ≡ other.now) }
+{
+    one.cmp(other).is_eq()
 }
