@@ -188,6 +188,16 @@ impl Ahead {
     }
 }
 
+// A position, in a box.
+fn boxed<T: Drop>(alloc: Global, position: T) -> Result<Box<T>, Stop>
+    ensures { IfErr result (λ why. why ≡ NoMemory) }
+{
+    match Box::new(alloc, position) {
+        Ok(boxed) => Ok(boxed),
+        Err(_) => Err(Stop::NoMemory),
+    }
+}
+
 // The blocks that a READ asks for.
 fn blocks_of(
     alloc: Global,
@@ -212,7 +222,7 @@ fn blocks_of(
         at: (offset / BLOCK_BYTES as u64) as usize,
         end: ((end + BLOCK_BYTES as u64 - 1) / BLOCK_BYTES as u64) as usize,
     };
-    Ok(Ahead::Blocks(Box::new(alloc, blocks)?))
+    Ok(Ahead::Blocks(boxed(alloc, blocks)?))
 }
 
 // What of so many bytes is left for entries.
@@ -257,7 +267,7 @@ fn listing_of(
     if cookie < PARENT_COOKIE {
         listing.add(directory.parent, b"..")?;
     }
-    Ok(Ahead::Listing(Box::new(alloc, listing)?))
+    Ok(Ahead::Listing(boxed(alloc, listing)?))
 }
 
 /// What a name asks for that a directory gets.
@@ -271,7 +281,7 @@ pub(crate) fn entering(
     ensures { IfErr result (λ why. MayStop snap.now why) }
 {
     match Entering::begin(alloc, snap, &name.directory, makes, has_block)? {
-        Some(entering) => Ok(Ahead::Entering(Box::new(alloc, entering)?)),
+        Some(entering) => Ok(Ahead::Entering(boxed(alloc, entering)?)),
         None => Ok(Ahead::Nothing),
     }
 }
@@ -281,7 +291,7 @@ pub(crate) fn freed(alloc: Global, freeing: Option<Freeing>) -> Result<Ahead, St
     ensures { IfErr result (λ why. why ≡ NoMemory) }
 {
     match freeing {
-        Some(freeing) => Ok(Ahead::Freeing(Box::new(alloc, freeing)?)),
+        Some(freeing) => Ok(Ahead::Freeing(boxed(alloc, freeing)?)),
         None => Ok(Ahead::Nothing),
     }
 }
@@ -355,7 +365,7 @@ fn in_a_row(alloc: Global, call: &Call, snap: &Snap, names: &Names) -> Result<Ah
             bytes,
             ..
         } => match Writing::begin(snap, file, *offset, bytes.as_slice().len())? {
-            Some(writing) => Ok(Ahead::Writing(Box::new(alloc, writing)?)),
+            Some(writing) => Ok(Ahead::Writing(boxed(alloc, writing)?)),
             None => Ok(Ahead::Nothing),
         },
         Call::SetAttr {
@@ -456,7 +466,7 @@ fn pointers_behind(
     for number in files_of(call, snap, names) {
         if let Some(number) = number {
             if let Some(pointers) = pointers_of(snap, number) {
-                let Ok(pointers) = Box::new(alloc, pointers) else {
+                let Ok(pointers) = boxed(alloc, pointers) else {
                     return None;
                 };
                 if let Some(ahead) = begun(alloc, snap, plan, Ahead::Pointers(pointers)) {

@@ -42,6 +42,7 @@ renewed_by (change ∷ later) resident = renewed_by later (renewed_resident chan
 
 each_by : (group : List (BlockNo × Content)) (present : List Present)
     → renewed_each present group ≡ map (renewed_by group) present
+unfolding renewed_by
 each_by [] present = sym (map_self present)
 each_by (change ∷ later) present =
     each_by later (renewed present change.0 change.1)
@@ -71,6 +72,7 @@ then_newer false (Some old) (Some new) content = refl
 
 by_newest : (group : List (BlockNo × Content)) (resident : Present)
     → renewed_by group resident ≡ with_newest group resident
+unfolding renewed_by
 by_newest [] resident =
     ap (λ (content : Option Content). record { block = resident.block; content = content })
     (refreshed_none resident.content)

@@ -111,10 +111,7 @@ impl<C: Change> State<C> {
         let addr = object.addr();
         match self.present.content_of(addr.block) {
             Some(content) => {
-                are_same(
-                    &content.as_slice()[addr.offset..addr.offset + addr.len],
-                    object.bytes(),
-                )
+                &content.as_slice()[addr.offset..addr.offset + addr.len] == object.bytes()
             }
             None => false,
         }
@@ -144,11 +141,4 @@ impl<C: Change> State<C> {
     {
         blocks.iter().all(|block| self.is_inside(*block))
     }
-}
-
-// Whether bytes are the same: `cmp` goes on in longer strides than `==`.
-fn are_same(one: &[u8], other: &[u8]) -> bool
-    ensures { IsTrue result ↔ (one.now ≡ other.now) }
-{
-    one.cmp(other).is_eq()
 }
