@@ -311,8 +311,8 @@ fn has_a_row(call: &Call) -> bool {
     )
 }
 
-// What a call asks for in a row, from its first object on. It stands apart, so that a plan that goes on elsewhere has no
-// room for it.
+// What a call asks for in a row, from its first object on. It stands apart, so that a plan that goes on elsewhere has
+// no room for it.
 #[inline(never)]
 fn in_a_row(alloc: Global, call: &Call, snap: &Snap, names: &Names) -> Result<Ahead, Stop> {
     match call {

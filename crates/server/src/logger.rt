@@ -50,8 +50,8 @@ pub fn log_all<L: Ledger, G: Whole, I: Whole, P: Port, S, R: Wait + Clock>(
     server.sync.parking.raise(rt, u64::MAX);
 }
 
-/// Settles what is committed up to a place, by the logger's seat, where the logger doesn't have it; and wakes the logger
-/// where more is to be settled.
+/// Settles what is committed up to a place, by the logger's seat, where the logger doesn't have it; and wakes the
+/// logger where more is to be settled.
 pub fn log_alone<L: Ledger, G: Whole, I: Whole, P: Port, S, R: Wait>(
     rt: &R,
     server: &ServerState<L, G, I, P, S>,
@@ -66,8 +66,8 @@ pub fn log_alone<L: Ledger, G: Whole, I: Whole, P: Port, S, R: Wait>(
     }
 }
 
-// Makes the log's calls by the logger's seat, until what was told as settled comes to a place, nothing can be logged, or
-// the store is broken.
+// Makes the log's calls by the logger's seat, until what was told as settled comes to a place, nothing can be logged,
+// or the store is broken.
 fn log_up_to<L: Ledger, G: Whole, I: Whole, P: Port, S, R: Wait>(
     rt: &R,
     server: &ServerState<L, G, I, P, S>,

@@ -184,9 +184,9 @@ fn answer_batch<L: Ledger, G: Whole, I: Whole, P: Port, S: Source, R: Wait + Clo
 }
 
 // Drives calls of a batch, parks those that wait to be settled, puts the replies of the others, and drives the one
-// that was held up to its answer; where no seat is free, hands the first on. One that is alone is settled by this thread,
-// by the logger's seat. So what a seat has taken is waited for by no other of this connection, and nothing is written while
-// a seat is in hand. False where the connection is to end.
+// that was held up to its answer; where no seat is free, hands the first on. One that is alone is settled by this
+// thread, by the logger's seat. So what a seat has taken is waited for by no other of this connection, and nothing is
+// written while a seat is in hand. False where the connection is to end.
 fn answer_some<L: Ledger, G: Whole, I: Whole, P: Port, S: Source, R: Wait + Clock>(
     rt: &R,
     server: &ServerState<L, G, I, P, S>,

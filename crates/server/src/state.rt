@@ -146,8 +146,8 @@ impl<L: Ledger, G: Whole, I: Whole, P: Port, S> ServerState<L, G, I, P, S> {
         }
     }
 
-    /// Wakes the logger, where a commit waits for it that who calls doesn't log, and the installer, where many are kept.
-    /// True where so many are that who has committed waits until some of them are home.
+    /// Wakes the logger, where a commit waits for it that who calls doesn't log, and the installer, where many are
+    /// kept. True where so many are that who has committed waits until some of them are home.
     pub fn tell_of_commit<R: Wait>(&self, rt: &R, look: Look, logs: bool) -> bool {
         if !look.is_settled && !logs {
             self.sync.to_log.notify(rt);
