@@ -7,12 +7,14 @@ mod contents;
 mod device;
 mod file;
 mod file_disk;
+mod handed;
 mod history;
 mod laws;
 mod mem_disk;
 mod mem_ports;
 mod ports;
 mod room;
+mod shared_block;
 mod threaded_disk;
 
 pub use block::{Block, BlockNo, Side};
@@ -20,6 +22,7 @@ pub use device::{CrashDisk, Failed};
 pub use file::ports::{FilePort, FileSource};
 pub use file::{BlockFile, FileCall, FirstContents, open_locked};
 pub use file_disk::FileDisk;
+pub use handed::Handed;
 pub use laws::{
     a_crash_leaves_blocks, a_device_tells_of_blocks, a_file_honest_to_each_side_keeps_the_model,
     a_file_may_begin_with_each_image, calls_of_a_file_are_the_devices, honest_file_keeps_model,
@@ -28,4 +31,5 @@ pub use laws::{
 pub use mem_disk::MemDisk;
 pub use mem_ports::{MemPort, MemSource};
 pub use ports::{Port, PortCall, Source, Splits};
+pub use shared_block::SharedBlock;
 pub use threaded_disk::ThreadedDisk;

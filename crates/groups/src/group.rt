@@ -10,7 +10,7 @@ ghost use Rattle.objects.specs.Spliced.{spliced};
 ghost use Rattle.std.specs.Option.{unwrap_or};
 
 use arrayvec::ArrayVec;
-use disk::{Block, BlockNo};
+use disk::{Block, BlockNo, SharedBlock};
 use limits::{BLOCK_BYTES, CHANGED_BLOCKS};
 use objects::{Object, Residency, splice};
 use std::alloc::{AllocError, Global};
@@ -60,7 +60,7 @@ fn base_of<'a>(present: &'a Residency, wal: &'a Wal, block: BlockNo) -> Option<&
 {
     let base = match present.content_of(block) {
         Some(content) => content,
-        None => wal.latest(block)?,
+        None => wal.latest(block)?.block(),
     };
     let _ = base.as_slice();
     Some(base)
@@ -155,16 +155,30 @@ pub fn group_of(
     wal: &Wal,
     blocks: &[BlockNo],
     objects: &[Object],
-) -> Result<Vec<(BlockNo, Block)>, AllocError>
+) -> Result<Vec<(BlockNo, SharedBlock)>, AllocError>
     ensures blocks { IfOk result (λ group. group_blocks group.items ≡ blocks.now) }
     ensures contents { IfOk result (λ group. All (IsLaid present.now.blocks wal.now objects.now) group.items) }
     ensures whole { IfOk result (λ group. All (λ change. length change.1 ≡ BLOCK_BYTES) group.items) }
 {
     let mut group = Vec::with_capacity(alloc, blocks.len())?;
     for block in blocks {
-        let content = content_with(alloc, present, wal, *block, objects)?;
+        let content = SharedBlock::new(alloc, content_with(alloc, present, wal, *block, objects)?)?;
         let _ = content.as_slice();
         group.push((*block, content))?;
     }
     Ok(group)
+}
+
+/// The same blocks of a group once more, by pointer: the log takes the first, and what is in memory these.
+pub fn pointers_to(
+    alloc: Global,
+    group: &[(BlockNo, SharedBlock)],
+) -> Result<Vec<(BlockNo, SharedBlock)>, AllocError>
+    ensures { IfOk result (λ pointers. pointers.items ≡ group.now) }
+{
+    let mut pointers = Vec::with_capacity(alloc, group.len())?;
+    for change in group {
+        pointers.push((change.0, change.1.clone()?))?;
+    }
+    Ok(pointers)
 }

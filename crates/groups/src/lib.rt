@@ -3,4 +3,4 @@
 
 mod group;
 
-pub use group::{Blocks, are_sized, blocks_of_objects, group_of};
+pub use group::{Blocks, are_sized, blocks_of_objects, group_of, pointers_to};

@@ -1,5 +1,5 @@
 //! Changes that come: those of an opening, and those of a commit.
-ghost use Rattle.std.specs.Prelude.{◌≡◌, ◌≤◌, ◌<◌, ◌^◌, ◌+◌, ◌++◌, false, length, drop, take, All};
+ghost use Rattle.std.specs.Prelude.{◌≡◌, ◌≤◌, ◌<◌, ◌^◌, ◌+◌, ◌++◌, false, length, drop, take, All, IfOk};
 ghost use Rattle.std.specs.VecDeque.{deque_capacity};
 ghost use Rattle.log_changes.specs.Index.{IsIndex, numbers};
 ghost use Rattle.log_changes.specs.Laid.{laid_in, replaced};
@@ -7,15 +7,30 @@ ghost use Rattle.wal_law.specs.Log.{AreOnce, IsHomeOn, blocks_of, changed_blocks
 ghost use Rattle.wal_law.specs.Room.{tail_with};
 
 use crate::index::Index;
-use disk::{Block, BlockNo};
+use disk::{Block, BlockNo, SharedBlock};
+use std::alloc::{AllocError, Global};
 use std::collections::VecDeque;
 use wal_law::LogChange;
+
+/// Shares the blocks that an opening found.
+pub(crate) fn shared(
+    alloc: Global,
+    group: Vec<(BlockNo, Block)>,
+) -> Result<Vec<(BlockNo, SharedBlock)>, AllocError>
+    ensures { IfOk result (λ shared. shared.items ≡ group.items) }
+{
+    let mut shared = Vec::with_capacity(alloc, group.len())?;
+    for (block, content) in group {
+        shared.push((block, SharedBlock::new(alloc, content)?))?;
+    }
+    Ok(shared)
+}
 
 /// Adds what an opening found.
 pub(crate) fn push_group(
     list: &mut VecDeque<LogChange>,
     index: &mut Index,
-    group: Vec<(BlockNo, Block)>,
+    group: Vec<(BlockNo, SharedBlock)>,
 )
     requires room { length list.old.items + length group.items ≤ deque_capacity list.old }
     requires names { length index.old.behind.items + length group.items ≤ deque_capacity index.old.behind }
@@ -43,7 +58,7 @@ pub(crate) fn absorb(
     index: &mut Index,
     ahead: usize,
     place: u64,
-    group: Vec<(BlockNo, Block)>,
+    group: Vec<(BlockNo, SharedBlock)>,
 )
     requires ahead { ahead ≤ length list.old.items }
     requires room { length list.old.items + length (new_blocks (changed_blocks (drop ahead list.old.items))
@@ -74,7 +89,7 @@ fn lay(
     ahead: usize,
     place: u64,
     block: BlockNo,
-    content: Block,
+    content: SharedBlock,
 )
     requires ahead { ahead ≤ length list.old.items }
     requires room { is_among block (changed_blocks (drop ahead list.old.items)) ≡ false
@@ -105,7 +120,7 @@ fn lay(
 }
 
 // Gives a change this content.
-fn replace(list: &mut VecDeque<LogChange>, at: usize, content: Block)
+fn replace(list: &mut VecDeque<LogChange>, at: usize, content: SharedBlock)
     requires { at < length list.old.items }
     ensures list { list.new.items ≡ replaced list.old.items at content }
     ensures room { deque_capacity list.new ≡ deque_capacity list.old }

@@ -6,9 +6,9 @@ ghost use Rattle.wal_law.specs.Log.{AreOnce, IsHomeOn, blocks_of, changed_blocks
 ghost use Rattle.wal_law.specs.Log.{newest_of};
 ghost use Rattle.wal_law.specs.Room.{tail_with};
 
-use crate::absorbing::{absorb, push_group};
+use crate::absorbing::{absorb, push_group, shared};
 use crate::index::Index;
-use disk::{Block, BlockNo};
+use disk::{BlockNo, SharedBlock};
 use std::alloc::{AllocError, Global};
 use std::collections::VecDeque;
 use std::marker::Model;
@@ -47,6 +47,7 @@ impl Changes {
     {
         let Recovered { start, logged } = found;
         let count = logged.len();
+        let logged = shared(alloc, logged)?;
         let mut list = VecDeque::with_capacity(alloc, count)?;
         let mut index = Index::new(alloc, blocks, start, count)?;
         push_group(&mut list, &mut index, logged);
@@ -86,7 +87,7 @@ impl Changes {
     }
 
     /// The newest content of a block. One that has no change is home.
-    pub fn latest(&self, block: BlockNo) -> Option<&Block>
+    pub fn latest(&self, block: BlockNo) -> Option<&SharedBlock>
         ensures { MatchOption result (newest_of self.now.changes block.0 ≡ None)
             (λ content. newest_of self.now.changes block.0 ≡ Some content.now) }
     {
@@ -131,7 +132,7 @@ impl Changes {
         ahead: usize,
         lacking: usize,
         place: u64,
-        group: Vec<(BlockNo, Block)>,
+        group: Vec<(BlockNo, SharedBlock)>,
     ) -> Result<(), AllocError>
         requires ahead { ahead ≤ length self.old.changes }
         requires lacking { lacking ≡ length (new_blocks (changed_blocks (drop ahead self.old.changes))

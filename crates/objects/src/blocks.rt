@@ -9,7 +9,7 @@ ghost use Rattle.objects.specs.Present.{without_clean, without_pending};
 ghost use Rattle.objects.specs.Present.{renewed_resident, renewed, without_block};
 
 use crate::{Addr, Present, PresentBlock, SharedBytes};
-use disk::{Block, BlockNo};
+use disk::{Block, BlockNo, SharedBlock};
 use std::alloc::{AllocError, Global};
 use std::marker::Model;
 
@@ -65,7 +65,11 @@ impl Blocks {
 
     /// Brings a block with this content, or with a fetch pending where there is none. One that is there stays as it is.
     /// Where there is no room nothing changes.
-    pub(crate) fn bring(&mut self, block: BlockNo, content: Option<Block>) -> Result<(), AllocError>
+    pub(crate) fn bring(
+        &mut self,
+        block: BlockNo,
+        content: Option<SharedBlock>,
+    ) -> Result<(), AllocError>
         ensures brought { OnOk result (self.new ≡ with_block self.old block content) }
         ensures refused { OnErr result (self.new ≡ self.old) }
     {
@@ -115,8 +119,8 @@ impl Blocks {
     }
 
     /// Makes the content of a block this one, where it is in memory.
-    pub(crate) fn renew(&mut self, block: BlockNo, content: &Block)
-        ensures { self.new ≡ renewed self.old block content.now }
+    pub(crate) fn renew(&mut self, block: BlockNo, content: SharedBlock)
+        ensures { self.new ≡ renewed self.old block content }
     {
         renew_in(&mut self.list, &self.indices, block, content);
     }
@@ -196,11 +200,11 @@ fn renumber(list: &[Present], indices: &mut [usize])
 }
 
 // The content of a block as it is in memory, where there is one.
-fn with_content(content: Option<Block>) -> Option<PresentBlock>
+fn with_content(content: Option<SharedBlock>) -> Option<PresentBlock>
     ensures { result ≡ content }
 {
     match content {
-        Some(block) => Some(PresentBlock::new(block)),
+        Some(block) => Some(PresentBlock::shared(block)),
         None => None,
     }
 }
@@ -255,10 +259,10 @@ fn fill_in(list: &mut [Present], indices: &[usize], block: BlockNo, content: Blo
 }
 
 // Makes the content of a block this one, where it is there.
-fn renew_in(list: &mut [Present], indices: &[usize], block: BlockNo, content: &Block)
+fn renew_in(list: &mut [Present], indices: &[usize], block: BlockNo, content: SharedBlock)
     requires once { IsOnce list.old }
     requires index { IsIndex (numbers list.old) indices.now }
-    ensures { list.new ≡ renewed list.old block content.now }
+    ensures { list.new ≡ renewed list.old block content }
 {
     let Some(i) = index_of(list, indices, block) else {
         return;
@@ -267,8 +271,8 @@ fn renew_in(list: &mut [Present], indices: &[usize], block: BlockNo, content: &B
 }
 
 // The same of one resident.
-fn renew(resident: &mut Present, block: BlockNo, content: &Block)
-    ensures { resident.new ≡ renewed_resident block content.now resident.old }
+fn renew(resident: &mut Present, block: BlockNo, content: SharedBlock)
+    ensures { resident.new ≡ renewed_resident block content resident.old }
 {
     if resident.block != block {
         return;

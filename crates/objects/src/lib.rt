@@ -5,6 +5,7 @@ mod addr;
 mod blocks;
 mod clean;
 mod counted;
+mod kept_block;
 mod mode;
 mod object;
 mod parts;

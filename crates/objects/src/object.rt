@@ -1,10 +1,11 @@
 //! Objects: parts of blocks with their bytes.
-ghost use Rattle.std.specs.Prelude.{◌≡◌, length};
+ghost use Rattle.std.specs.Prelude.{◌≡◌, IfSome, length};
 ghost use Rattle.limits.specs.declared.TheConstants.{BLOCK_BYTES};
 ghost use Rattle.objects.specs.Counted.{IsCountedIn};
 ghost use Rattle.objects.specs.declared.addr.Addr.{Addr as Address};
 
 use crate::{Addr, Counted, SharedBytes};
+use disk::SharedBlock;
 use std::alloc::AllocError;
 use std::marker::Model;
 
@@ -49,6 +50,13 @@ impl Object {
         ensures len { length result.now ≡ self.now.addr.len }
     {
         self.bytes.as_slice()
+    }
+
+    /// The shared block that its bytes are all of, if they are.
+    pub fn whole(&self) -> Option<&SharedBlock>
+        ensures { IfSome result (λ block. block.now ≡ self.now.bytes) }
+    {
+        self.bytes.whole()
     }
 
     /// What the numbers of a whole block count to.

@@ -3,8 +3,9 @@ ghost use Rattle.std.specs.Prelude.{◌≡◌, IfOk, length};
 ghost use Rattle.objects.specs.Counted.{IsCountedIn};
 ghost use Rattle.objects.specs.Spliced.{extracted};
 
-use crate::{Addr, Counted, SharedBytes, extract};
-use disk::Block;
+use crate::kept_block::KeptBlock;
+use crate::{Addr, Counted, SharedBytes};
+use disk::{Block, SharedBlock};
 use limits::BLOCK_BYTES;
 use std::alloc::{AllocError, Global};
 use std::marker::Model;
@@ -13,7 +14,7 @@ use std::marker::Model;
 /// or was changed.
 #[derive(Drop)]
 pub struct PresentBlock {
-    block: Block,
+    block: KeptBlock,
     counted: Option<Counted>,
 }
 
@@ -34,7 +35,17 @@ impl PresentBlock {
         ensures { result ≡ block }
     {
         PresentBlock {
-            block,
+            block: KeptBlock::read(block),
+            counted: None,
+        }
+    }
+
+    /// A block that is shared.
+    pub(crate) fn shared(block: SharedBlock) -> PresentBlock
+        ensures { result ≡ block }
+    {
+        PresentBlock {
+            block: KeptBlock::shared(block),
             counted: None,
         }
     }
@@ -43,14 +54,14 @@ impl PresentBlock {
     pub(crate) fn block(&self) -> &Block
         ensures { result.now ≡ self.now }
     {
-        &self.block
+        self.block.block()
     }
 
-    /// Makes the content this one.
-    pub(crate) fn renew(&mut self, content: &Block)
-        ensures { self.new ≡ content.now }
+    /// Makes the content this one. Who has a part of what it was keeps that.
+    pub(crate) fn renew(&mut self, content: SharedBlock)
+        ensures { self.new ≡ content }
     {
-        self.block.copy_from(content);
+        self.block = KeptBlock::shared(content);
         self.counted = None;
     }
 
@@ -60,11 +71,11 @@ impl PresentBlock {
         ensures bytes { IfOk result (λ bytes. bytes ≡ extracted self.old addr.offset addr.len) }
         ensures len { IfOk result (λ bytes. length bytes ≡ addr.len) }
     {
-        let bytes = extract(alloc, &self.block, addr)?;
+        let bytes = self.block.bytes_at(alloc, addr)?;
         if addr.len < BLOCK_BYTES {
             return Ok(bytes);
         }
-        let _ = self.block.as_slice();
+        let _ = self.block().as_slice();
         Ok(bytes.with_count(self.count()))
     }
 
@@ -76,7 +87,7 @@ impl PresentBlock {
         if let Some(counted) = self.counted {
             return counted;
         }
-        let counted = Counted::of(self.block.as_slice());
+        let counted = Counted::of(self.block().as_slice());
         self.counted = Some(counted);
         counted
     }

@@ -13,7 +13,7 @@ use crate::blocks::Blocks;
 use crate::clean::keep_clean;
 use crate::recent::Recent;
 use crate::{Addr, SharedBytes, pins};
-use disk::{Block, BlockNo};
+use disk::{Block, BlockNo, SharedBlock};
 use std::alloc::{AllocError, Global};
 use std::collections::HashMap;
 use std::marker::Model;
@@ -145,7 +145,7 @@ impl Residency {
 
     /// Pins a block once more and brings it into memory with this content, or with a fetch pending where there is
     /// none. One that is in memory, or is being fetched, stays as it is. Where there is no room nothing changes.
-    pub fn bring(&mut self, block: BlockNo, content: Option<Block>) -> Result<(), AllocError>
+    pub fn bring(&mut self, block: BlockNo, content: Option<SharedBlock>) -> Result<(), AllocError>
         ensures blocks { OnOk result (self.new.blocks ≡ with_block self.old.blocks block content) }
         ensures pinned { OnOk result ((at : BlockNo)
             → pins_of self.new at ≡ pins_of self.old at + once_at block at) }
@@ -210,8 +210,8 @@ impl Residency {
     }
 
     /// Makes the content of a block this one, where it is in memory.
-    pub fn renew(&mut self, block: BlockNo, content: &Block)
-        ensures { self.new ≡ record self.old { blocks = renewed self.old.blocks block content.now } }
+    pub fn renew(&mut self, block: BlockNo, content: SharedBlock)
+        ensures { self.new ≡ record self.old { blocks = renewed self.old.blocks block content } }
     {
         self.blocks.renew(block, content);
     }

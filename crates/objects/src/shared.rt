@@ -1,31 +1,56 @@
 //! Bytes that are shared.
-ghost use Rattle.std.specs.Prelude.{◌≡◌, IfOk, length};
+ghost use Rattle.std.specs.Prelude.{◌≡◌, IfOk, IfSome, length};
 ghost use Rattle.limits.specs.declared.TheConstants.{BLOCK_BYTES};
 ghost use Rattle.objects.specs.Counted.{IsCountedIn};
+ghost use Rattle.objects.specs.Spliced.{extracted};
 
-use crate::Counted;
+use crate::{Addr, Counted};
+use disk::SharedBlock;
+use limits::BLOCK_BYTES;
 use std::alloc::{AllocError, Global};
 use std::marker::Model;
 use std::sync::Arc;
 
-/// Bytes that nobody changes any more, and of a whole block maybe what its numbers count to. A clone copies none of
-/// them.
+// What shared bytes are a part of: bytes that were made for them, or a block that is shared.
+#[derive(Drop)]
+pub(crate) enum Whole {
+    Made(Arc<Vec<u8>, Global>),
+    Block(SharedBlock),
+}
+
+impl Clone for Whole {
+    ghost use Rattle.objects.specs.Shared.{bytes_of};
+
+    ghost is_clone = { λ whole copy. bytes_of copy ≡ bytes_of whole };
+
+    fn clone(&self) -> Result<Whole, AllocError> {
+        match self {
+            Whole::Made(bytes) => Ok(Whole::Made(Arc::try_clone(bytes)?)),
+            Whole::Block(block) => Ok(Whole::Block(block.clone()?)),
+        }
+    }
+}
+
+/// Bytes that nobody changes any more, and of a whole block maybe what its numbers count to. They were made for it, or
+/// are a part of a shared block. A clone copies none of them.
 #[derive(Drop)]
 pub struct SharedBytes {
-    bytes: Arc<Vec<u8>, Global>,
+    whole: Whole,
+    offset: usize,
+    len: usize,
     counted: Option<Counted>,
 }
 
 impl Model for SharedBytes {
-    ghost use Rattle.std.specs.Prelude.{ℕ, List, IfSome};
-    ghost use Rattle.std.specs.Arc.{arc_value};
-    ghost use Rattle.objects.specs.Counted.{IsCountedIn};
+    ghost use Rattle.std.specs.Prelude.{ℕ, List};
 
     ghost Value = { List ℕ };
 
-    ghost view = { λ shared. (arc_value shared.bytes).items };
+    ghost use Rattle.objects.specs.Shared.{IsPartOf, part};
 
-    ghost invariant = { λ shared. IfSome shared.counted (IsCountedIn (arc_value shared.bytes).items) };
+    ghost view = { part };
+
+    ghost invariant = { IsPartOf };
 }
 
 impl SharedBytes {
@@ -33,8 +58,26 @@ impl SharedBytes {
     pub fn new(alloc: Global, bytes: Vec<u8>) -> Result<SharedBytes, AllocError>
         ensures { IfOk result (λ shared. shared ≡ bytes.items) }
     {
+        let len = bytes.len();
         Ok(SharedBytes {
-            bytes: Arc::new(alloc, bytes)?,
+            whole: Whole::Made(Arc::new(alloc, bytes)?),
+            offset: 0,
+            len,
+            counted: None,
+        })
+    }
+
+    /// The bytes at an address of a shared block. None of them is copied.
+    pub fn of_block(block: &SharedBlock, addr: Addr) -> Result<SharedBytes, AllocError>
+        ensures bytes { IfOk result (λ bytes. bytes ≡ extracted block.now addr.offset addr.len) }
+        ensures len { IfOk result (λ bytes. length bytes ≡ addr.len) }
+    {
+        let whole = block.clone()?;
+        let _ = whole.as_slice();
+        Ok(SharedBytes {
+            whole: Whole::Block(whole),
+            offset: addr.offset,
+            len: addr.len,
             counted: None,
         })
     }
@@ -45,8 +88,23 @@ impl SharedBytes {
         ensures { result ≡ self }
     {
         SharedBytes {
-            bytes: self.bytes,
+            whole: self.whole,
+            offset: self.offset,
+            len: self.len,
             counted: Some(counted),
+        }
+    }
+
+    /// The shared block that the bytes are all of, if they are.
+    pub fn whole(&self) -> Option<&SharedBlock>
+        ensures { IfSome result (λ block. block.now ≡ self.now) }
+    {
+        match &self.whole {
+            Whole::Block(block) if self.len == BLOCK_BYTES => {
+                let _ = block.as_slice();
+                Some(block)
+            }
+            _ => None,
         }
     }
 
@@ -54,7 +112,11 @@ impl SharedBytes {
     pub fn as_slice(&self) -> &[u8]
         ensures { result.now ≡ self.now }
     {
-        self.bytes.as_slice()
+        let whole = match &self.whole {
+            Whole::Made(bytes) => bytes.as_slice(),
+            Whole::Block(block) => block.as_slice(),
+        };
+        &whole[self.offset..self.offset + self.len]
     }
 
     /// What the numbers of a whole block count to. It is counted here where it wasn't known.
@@ -74,7 +136,9 @@ impl Clone for SharedBytes {
 
     fn clone(&self) -> Result<SharedBytes, AllocError> {
         Ok(SharedBytes {
-            bytes: Arc::try_clone(&self.bytes)?,
+            whole: self.whole.clone()?,
+            offset: self.offset,
+            len: self.len,
             counted: self.counted,
         })
     }

@@ -15,8 +15,8 @@ use Rattle.txn_law.specs.Group.{blocks_of, is_among}
 use Rattle.txn_law.proofs.Laid.{among_group, among_after}
 use Rattle.txn_law.proofs.TidyCommit.{none_lies, nothing, once_is}
 use Rattle.txn.specs.Neat.{IsAsLogged}
-use Rattle.txn.specs.Refreshed.{refreshed_among}
-use Rattle.txn.proofs.Renewing.{map_equal}
+use Rattle.txn.specs.Refreshed.{renewed_each}
+use Rattle.txn.proofs.Renewing.{each_newest, map_equal, refreshed_none, with_newest}
 
 -- the logger or the installer has gone on
 pub logged_on : (old new : Log) → HasGoneOn old new → (present : List Present) → All (IsAsLogged old) present
@@ -81,34 +81,30 @@ module _ (old new : Log) (group : List (BlockNo × Content)) (seen : HasAppended
               ∙ ap (λ (o : Option Content). or_else o (newest old resident.block.0)) (silent none)
               ∙ there (newest old resident.block.0) refl none) ∙ e in cc)
 
-  -- and only those of the group aren't yet
-  pub refreshed_is : (blocks : List BlockNo) → group_blocks group ≡ blocks → (present : List Present)
-      → All (IsAsLogged old) present → map (refreshed_among new blocks) present ≡ refreshed new present
-  refreshed_is blocks same present h =
-      map_equal (refreshed_among new blocks) (refreshed_resident new) present
-      (All-weaker (IsAsLogged old) (λ resident. refreshed_among new blocks resident ≡ refreshed_resident new resident)
-      (λ resident fits. each resident fits (is_among resident.block blocks) refl) present h)
+  -- and that's what they are with the contents of the group
+  pub refreshed_is : (present : List Present) → All (IsAsLogged old) present
+      → renewed_each present group ≡ refreshed new present
+  refreshed_is present h =
+      each_newest group present
+      ∙ map_equal (with_newest group) (refreshed_resident new) present
+      (All-weaker (IsAsLogged old) (λ resident. with_newest group resident ≡ refreshed_resident new resident)
+      each present h)
     where
       as_it_was : (resident : Present) → IsAsLogged old resident → (o : Option Content)
           → newest old resident.block.0 ≡ o → resident.content ≡ refreshed_content resident.content o
-      as_it_was resident fits None is = unlogged resident.content
-        where
-          unlogged : (there : Option Content) → there ≡ refreshed_content there None
-          unlogged None = refl
-          unlogged (Some c) = refl
+      as_it_was resident fits None is = refreshed_none resident.content
       as_it_was resident fits (Some c) is =
           fits c is ∙ sym (ap (λ (there : Option Content). refreshed_content there (Some c)) (fits c is))
 
-      each : (resident : Present) → IsAsLogged old resident → (t : Bool) → is_among resident.block blocks ≡ t
-          → (if t then refreshed_resident new resident else resident) ≡ refreshed_resident new resident
-      each resident fits true e = refl
-      each resident fits false e =
-          let absent : newest_in group resident.block.0 ≡ None =
-          nothing (newest_in group resident.block.0) (sym (among_group group resident.block)
-          ∙ ap (is_among resident.block) same ∙ e) in
-          let unchanged : newest new resident.block.0 ≡ newest old resident.block.0 =
-          seen.newest_content resident.block.0
-          ∙ ap (λ (o : Option Content). or_else o (newest old resident.block.0)) absent in
+      go : (resident : Present) → IsAsLogged old resident → (o : Option Content)
+          → refreshed_content resident.content o
+          ≡ refreshed_content resident.content (or_else o (newest old resident.block.0))
+      go resident fits None =
+          sym (refreshed_none resident.content) ∙ as_it_was resident fits (newest old resident.block.0) refl
+      go resident fits (Some content) = refl
+
+      each : (resident : Present) → IsAsLogged old resident → with_newest group resident ≡ refreshed_resident new resident
+      each resident fits =
           ap (λ (content : Option Content). record { block = resident.block; content = content })
-          (as_it_was resident fits (newest old resident.block.0) refl
-          ∙ ap (refreshed_content resident.content) (sym unchanged))
+          (go resident fits (newest_in group resident.block.0)
+          ∙ ap (refreshed_content resident.content) (sym (seen.newest_content resident.block.0)))

@@ -14,7 +14,7 @@ use crate::refreshing::refresh;
 use crate::state::State;
 use crate::{Change, Object, Receipt, Tx};
 use disk::BlockNo;
-use groups::{are_sized, blocks_of_objects, group_of};
+use groups::{are_sized, blocks_of_objects, group_of, pointers_to};
 use std::alloc::Global;
 use wal::{Append, Room};
 
@@ -63,11 +63,14 @@ impl<C: Change> State<C> {
         let Ok(group) = group_of(alloc, &self.present, &self.log, blocks, change.written()) else {
             return Commit::NoMemory(tx, change);
         };
+        let Ok(pointers) = pointers_to(alloc, group.as_slice()) else {
+            return Commit::NoMemory(tx, change);
+        };
         match self.log.append(group) {
             Append::Appended => {
                 let Tx { number } = tx;
                 let place = self.log.places();
-                refresh(&mut self.present, &self.log, blocks);
+                refresh(&mut self.present, pointers);
                 let installed = self.log.installed();
                 let kept = Record::of(place, read, &change);
                 keep(&mut self.records, &mut self.present, kept, installed);

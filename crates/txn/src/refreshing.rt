@@ -1,29 +1,17 @@
 //! What is in memory after a commit.
-ghost use Rattle.std.specs.Prelude.{◌≡◌, map};
-ghost use Rattle.txn.specs.Refreshed.{refreshed_among, refreshed_where};
+ghost use Rattle.std.specs.Prelude.{◌≡◌};
+ghost use Rattle.txn.specs.Refreshed.{renewed_each};
 
-use disk::BlockNo;
+use disk::{BlockNo, SharedBlock};
 use objects::Residency;
-use wal::Wal;
 
-/// Makes each of these blocks that is in memory what the log has.
-pub(crate) fn refresh(present: &mut Residency, log: &Wal, blocks: &[BlockNo])
+/// Puts each of these blocks in the place of the one in memory, where there is one.
+pub(crate) fn refresh(present: &mut Residency, blocks: Vec<(BlockNo, SharedBlock)>)
     ensures { present.new ≡ record present.old {
-      blocks = map (refreshed_among log.now blocks.now) present.old.blocks;
+      blocks = renewed_each present.old.blocks blocks.items;
     } }
 {
-    for block in blocks {
-        refresh_one(present, log, block);
-    }
-}
-
-// The same of one block.
-fn refresh_one(present: &mut Residency, log: &Wal, block: &BlockNo)
-    ensures { present.new ≡ record present.old {
-      blocks = map (refreshed_where log.now block.now) present.old.blocks;
-    } }
-{
-    if let Some(newest) = log.latest(*block) {
-        present.renew(*block, newest);
+    for (block, content) in blocks {
+        present.renew(block, content);
     }
 }

@@ -20,9 +20,9 @@ ghost use Rattle.txn.specs.Source.{IsSource, IsSourceWithin};
 use crate::outcomes::{Claim, Want};
 use crate::state::State;
 use crate::{Change, FetchIo, Tx};
-use disk::{Block, BlockNo};
+use disk::{Block, BlockNo, SharedBlock};
 use locks::{Hold, Table, for_fetching, for_reading, for_writing};
-use objects::{Addr, Mode, Residency, SharedBytes, extract};
+use objects::{Addr, Mode, Residency, SharedBytes};
 use std::alloc::{AllocError, Global};
 
 // What want found, before the transaction is handed back.
@@ -108,17 +108,17 @@ impl<C: Change> State<C> {
             )?;
             return Ok(Source::Bytes(bytes));
         }
-        let mut content = Block::zeros(alloc)?;
         if let Some(newest) = self.log.latest(addr.block) {
-            content.copy_from(newest);
-            let bytes = extract(alloc, &content, addr)?;
+            let content = newest.clone()?;
+            let bytes = SharedBytes::of_block(&content, addr)?;
             self.take_with(for_reading(transaction, addr, mode), Some(content))?;
             return Ok(Source::Bytes(bytes));
         }
+        let buffer = Block::zeros(alloc)?;
         self.take_with(for_fetching(transaction, addr, mode), None)?;
         Ok(Source::Fetch(FetchIo {
             block: addr.block,
-            buffer: content,
+            buffer,
         }))
     }
 
@@ -134,7 +134,7 @@ impl<C: Change> State<C> {
 
     // Takes what a wish is for, which is free, with its block, which isn't in memory and gets this content, or is
     // to be fetched. All of it is taken, or nothing.
-    fn take_with(&mut self, hold: Hold, content: Option<Block>) -> Result<(), AllocError>
+    fn take_with(&mut self, hold: Hold, content: Option<SharedBlock>) -> Result<(), AllocError>
         requires free { IsFree self.old.holds hold.transaction hold.addr hold.mode }
         requires absent { present_of self.old.present hold.addr.block ≡ None }
         requires logged { (newer : Content) → newest self.old.log hold.addr.block.0 ≡ Some newer

@@ -5,7 +5,7 @@ ghost use Rattle.disk.specs.declared.block.Side.{Side};
 ghost use Rattle.wal.specs.Sides.{call_is_made};
 ghost use Rattle.wal_law.specs.Io.{Io, IsCallWithin, HasMade, HasMadeCall};
 
-use disk::{Block, CrashDisk, Failed};
+use disk::{Block, CrashDisk, Failed, Handed};
 use std::marker::Model;
 use wal_law::IoCall;
 
@@ -15,7 +15,7 @@ pub struct SideIo {
     pub(crate) beginning: u64,
     pub(crate) step: usize,
     pub(crate) call: IoCall,
-    pub(crate) content: Block,
+    pub(crate) content: Handed,
 }
 
 /// One of the logger.
@@ -49,7 +49,7 @@ impl SideIo {
     pub fn content(&self) -> &Block
         ensures { result.now ≡ self.now.content }
     {
-        &self.content
+        self.content.block()
     }
 
     /// Makes the call.
@@ -60,7 +60,7 @@ impl SideIo {
         ensures model { D.keeps_model disk.new → D.keeps_model disk.old }
         ensures law { (side : Side) → call_is_made side (D.device disk.old) self.now result (D.device disk.new) }
     {
-        make(disk, self.call, &self.content)
+        make(disk, self.call, self.content.block())
     }
 }
 

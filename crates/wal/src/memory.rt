@@ -16,7 +16,7 @@ mod search;
 use crate::{Room, Seq};
 use batch::{Batch, Batches};
 use circ::Recovered;
-use disk::{Block, BlockNo};
+use disk::{Block, BlockNo, SharedBlock};
 use limits::LOG_SLOTS;
 use log_changes::Changes;
 use std::alloc::{AllocError, Global};
@@ -84,7 +84,7 @@ impl Wal {
     }
 
     /// The newest content of a block. One that the log doesn't have is home.
-    pub fn latest(&self, block: BlockNo) -> Option<&Block>
+    pub fn latest(&self, block: BlockNo) -> Option<&SharedBlock>
         ensures { MatchOption result (newest self.now block.0 ≡ None) (λ content. newest self.now block.0
             ≡ Some content.now) }
     {

@@ -11,7 +11,7 @@ impl SideIo {
         ensures call { P.calls port.new ≡ P.calls port.old ++ (port_call self.now, result) ∷ [] }
         ensures side { P.on port.new ≡ P.on port.old }
     {
-        make_on(port, self.call, &self.content)
+        make_on(port, self.call, self.content.block())
     }
 }
 

@@ -4,7 +4,7 @@ ghost use Rattle.wal.specs.Log.{AreOnce, IsHomeOn, blocks_of};
 ghost use Rattle.wal.specs.Room.{HasPlaces};
 
 use circ::{LogFault, Recovered, address_at, end_of, put_address, put_end, put_start, read_log};
-use disk::{Block, BlockNo, CrashDisk, MemDisk, Side};
+use disk::{Block, BlockNo, CrashDisk, MemDisk, SharedBlock, Side};
 use limits::{FIRST_HOME_BLOCK, LOG_HEADER_BLOCK, LOG_SLOTS, START_BLOCK};
 use std::alloc::Global;
 use std::test::Fail;
@@ -30,7 +30,7 @@ fn opened(alloc: Global, start: u32) -> Result<Wal, Fail> {
 }
 
 // A group that changes so many blocks from a home on, each to a block that begins with the byte.
-fn group(alloc: Global, first: u8, count: u16, byte: u8) -> Result<Vec<(BlockNo, Block)>, Fail>
+fn group(alloc: Global, first: u8, count: u16, byte: u8) -> Result<Vec<(BlockNo, SharedBlock)>, Fail>
     requires { count < 1024 }
     ensures homes { IfOk result (λ group. All (IsHomeOn BLOCKS) (blocks_of group.items)) }
     ensures once { IfOk result (λ group. AreOnce (blocks_of group.items)) }
@@ -39,13 +39,14 @@ fn group(alloc: Global, first: u8, count: u16, byte: u8) -> Result<Vec<(BlockNo,
     for i in 0..u32::from(count) {
         let mut content = Block::zeros(alloc)?;
         content.put(0, &[byte]);
+        let content = SharedBlock::new(alloc, content)?;
         group.push((BlockNo(FIRST_HOME_BLOCK + u32::from(first) + i), content))?;
     }
     Ok(group)
 }
 
 // Adds a group where it finds room.
-fn add(alloc: Global, log: &mut Wal, group: Vec<(BlockNo, Block)>) -> Result<Append, Fail>
+fn add(alloc: Global, log: &mut Wal, group: Vec<(BlockNo, SharedBlock)>) -> Result<Append, Fail>
     requires homes { All (IsHomeOn BLOCKS) (blocks_of group.items) }
     requires once { AreOnce (blocks_of group.items) }
 {
@@ -58,7 +59,7 @@ fn add(alloc: Global, log: &mut Wal, group: Vec<(BlockNo, Block)>) -> Result<App
 }
 
 // The blocks of a group.
-fn blocks_in(alloc: Global, group: &[(BlockNo, Block)]) -> Result<Vec<BlockNo>, Fail>
+fn blocks_in(alloc: Global, group: &[(BlockNo, SharedBlock)]) -> Result<Vec<BlockNo>, Fail>
     ensures { IfOk result (λ blocks. blocks.items ≡ blocks_of group.now) }
 {
     let mut blocks = Vec::new(alloc);

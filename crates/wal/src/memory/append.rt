@@ -9,13 +9,13 @@ ghost use Rattle.wal_law.specs.Calls.{KeepsAgreement};
 
 use super::Wal;
 use crate::Append;
-use disk::{Block, BlockNo};
+use disk::{BlockNo, SharedBlock};
 use limits::LOG_SLOTS;
 use log_changes::Changes;
 
 impl Wal {
     /// Adds the changes of a commit, which takes the next place. A refusal leaves the log as it was.
-    pub fn append(&mut self, group: Vec<(BlockNo, Block)>) -> Append
+    pub fn append(&mut self, group: Vec<(BlockNo, SharedBlock)>) -> Append
         requires places { HasPlaces self.old (blocks_of group.items) }
         requires homes { All (IsHomeOn self.old.blocks) (blocks_of group.items) }
         requires once { AreOnce (blocks_of group.items) }
@@ -31,7 +31,7 @@ impl Wal {
     }
 
     // Adds the changes of a commit.
-    fn add(&mut self, group: Vec<(BlockNo, Block)>) -> Append
+    fn add(&mut self, group: Vec<(BlockNo, SharedBlock)>) -> Append
         requires places { HasPlaces self.old (blocks_of group.items) }
         requires homes { All (IsHomeOn self.old.blocks) (blocks_of group.items) }
         requires once { AreOnce (blocks_of group.items) }
@@ -56,7 +56,7 @@ impl Wal {
 }
 
 // How many blocks of a group no change from an index on is of.
-fn count_new(changes: &Changes, ahead: usize, group: &[(BlockNo, Block)]) -> usize
+fn count_new(changes: &Changes, ahead: usize, group: &[(BlockNo, SharedBlock)]) -> usize
     requires { ahead ≤ length changes.now.changes }
     ensures { result ≡ length (new_blocks (changed_blocks (drop ahead changes.now.changes)) (blocks_of group.now)) }
 {

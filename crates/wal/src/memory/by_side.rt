@@ -9,7 +9,7 @@ use super::Wal;
 use super::batch::Stage;
 use super::header::put_header;
 use circ::put_start;
-use disk::{Block, BlockNo, Side};
+use disk::{Block, BlockNo, Handed, Side};
 use limits::{FIRST_SLOT_BLOCK, LOG_HEADER_BLOCK, LOG_SLOTS, START_BLOCK};
 
 impl Wal {
@@ -59,22 +59,21 @@ impl Wal {
         }
     }
 
-    // Puts a block of what a side has taken into a call's content, and answers where it goes.
-    pub(super) fn put_body(&self, side: Side, number: usize, content: &mut Block) -> BlockNo
+    // Hands a block of what a side has taken out as a call's content, with the buffer beside it, and answers where it goes.
+    pub(super) fn hand_body(&self, side: Side, number: usize, buffer: Block) -> (BlockNo, Handed)
         requires { number < taken_by side self.now }
-        ensures value { IsBody side self.now number result content.new }
-        ensures within { result.0 < self.now.blocks }
+        ensures value { IsBody side self.now number result.0 result.1 }
+        ensures within { result.0.0 < self.now.blocks }
     {
         match side {
             Side::Log => {
                 let index = self.logged + number;
-                content.copy_from(&self.changes.list()[index].content);
-                slot_block(self.changes.start() + index as u64)
+                let content = Handed::shared(buffer, &self.changes.list()[index].content);
+                (slot_block(self.changes.start() + index as u64), content)
             }
             Side::Home => {
                 let change = &self.changes.list()[number];
-                content.copy_from(&change.content);
-                change.block
+                (change.block, Handed::shared(buffer, &change.content))
             }
         }
     }

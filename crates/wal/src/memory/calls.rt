@@ -15,7 +15,7 @@ ghost use Rattle.wal_law.specs.Logger.{IsNextLogCall, is_log_out, may_log, with_
 use super::Wal;
 use super::batch::Stage;
 use crate::{InstIo, IoCall, LogIo, SideIo};
-use disk::{Block, Side};
+use disk::{Block, Handed, Side};
 
 impl Wal {
     /// Takes what there is for a side where it has taken nothing, and hands out the side's next call.
@@ -125,7 +125,7 @@ impl Wal {
         }
         let after = self.after(side);
         let batch = self.batches.of_mut(side);
-        batch.buffer = Some(content);
+        batch.buffer = Some(content.into_buffer());
         if !ok {
             self.broken = true;
             return;
@@ -184,12 +184,20 @@ impl Wal {
         ensures call { IsNextCall side self.now result }
         ensures within { IsCallWithin self.now.blocks result.call }
     {
-        let mut content = buffer;
         let batch = self.batches.of(side);
-        let call = match batch.stage {
-            Stage::Body(number) => IoCall::Write(self.put_body(side, number, &mut content)),
-            Stage::Header => IoCall::Write(self.put_telling(side, &mut content)),
-            Stage::BodyBarrier | Stage::HeaderBarrier => IoCall::Barrier(side),
+        let (call, content) = match batch.stage {
+            Stage::Body(number) => {
+                let (block, content) = self.hand_body(side, number, buffer);
+                (IoCall::Write(block), content)
+            }
+            Stage::Header => {
+                let mut content = buffer;
+                let block = self.put_telling(side, &mut content);
+                (IoCall::Write(block), Handed::own(content))
+            }
+            Stage::BodyBarrier | Stage::HeaderBarrier => {
+                (IoCall::Barrier(side), Handed::own(buffer))
+            }
         };
         SideIo {
             beginning: self.changes.start() + self.ahead(side) as u64,

@@ -1,37 +1,26 @@
-use Rattle.std.proofs.Common.{◌∙◌, List, ap, map, sym}
-use Rattle.std.proofs.lemmas.List.{take_all}
+use Rattle.std.proofs.Common.{◌∙◌, ◌++◌, ◌∷◌, [], List, ap, append_assoc, sym}
+use Rattle.std.specs.Vec.Iter.{into_iter_items}
+use Rattle.disk.specs.Device.{Content}
 use Rattle.disk.specs.declared.block.BlockNo.{BlockNo}
 use Rattle.objects.specs.Pins.{Residents}
+use Rattle.objects.specs.Present.{renewed}
 use Rattle.objects.specs.declared.present.Present.{Present}
-use Rattle.txn.specs.Refreshed.{refreshed_among}
-use Rattle.txn.proofs.Renewing.{among_none, among_step}
+use Rattle.txn.proofs.Renewing.{one_more}
 use Rattle.txn.proofs.refreshing.refresh.Goals as goal
-
--- the same blocks pinned as often
-abbrev with_blocks : Residents → List Present → Residents
-with_blocks resident blocks = record resident { blocks = blocks }
-
-pub loop-block-init : goal.loop-block-init
-loop-block-init c =
-    let first : Residents = c.args.present.now in
-    ap (with_blocks first) (sym (among_none c.args.log.now first.blocks))
 
 pub loop-block-preserved : goal.loop-block-preserved
 loop-block-preserved c =
     let first : Residents = c.args.present.now in
-    let before : Residents = c.loop-block.present in
-    let after : Residents = c.refresh_one.new.present in
-    let step = ap (λ (r : Residents). r.blocks) c.refresh_one.ensures in
-    let done = ap (λ (r : Residents). r.blocks) c.loop-block.invariant in
-    c.refresh_one.ensures ∙ ap (with_blocks before) (sym step)
-    ∙ ap (λ (r : Residents). with_blocks r after.blocks) c.loop-block.invariant
-    ∙ ap (with_blocks first)
-    (among_step c.args.log.now c.args.blocks.now c.loop-block.block-index _ first.blocks before.blocks
-    after.blocks c.loop-block-test.true done step)
-
-pub returns : goal.returns
-returns c =
-    let first : Residents = c.args.present.now in
-    c.loop-block.invariant
-    ∙ ap (λ (bs : List BlockNo). with_blocks first (map (refreshed_among c.args.log.now bs) first.blocks))
-    (take_all c.loop-block.block-index c.args.blocks.now c.loop-block-test.false)
+    let old = c.loop-block.invariant in
+    let e = c.in-Some.ensures.steps.0 in
+    let x : BlockNo × Content = (c.in-Some.block, c.in-Some.content) in
+    let rest : List (BlockNo × Content) = into_iter_items c.next.new.self in
+    record {
+      group = old.group ∙ ap (λ (xs : List (BlockNo × Content)). c.loop-block.yielded ++ xs) e
+          ∙ sym (append_assoc c.loop-block.yielded (x ∷ []) rest);
+      renewed = c.renew.ensures
+          ∙ ap (λ (r : Residents). record r { blocks = renewed r.blocks c.in-Some.block c.in-Some.content })
+          old.renewed
+          ∙ ap (λ (blocks : List Present). record first { blocks = blocks })
+          (sym (one_more first.blocks c.loop-block.yielded c.in-Some.block c.in-Some.content));
+    }

@@ -8,6 +8,7 @@ with_count-requires c =
     subst (λ (bytes : List ℕ). IsCountedIn bytes c.count.result)
     (sym (c.in_ok-bytes.ensures.bytes
     ∙ whole_part c.self.inside.block c.args.addr.offset c.args.addr.len
-    (ap length (sym c.as_slice.ensures.bytes) ∙ c.as_slice.ensures.len) c.args.addr.within
+    (ap length (sym (c.as_slice.ensures.bytes ∙ c.block.ensures ∙ c.in_ok-bytes.ensures.same))
+    ∙ c.as_slice.ensures.len) c.args.addr.within
     c.if-addr-lt-BLOCK_BYTES.false
-    ∙ c.self.view_is)) c.count.ensures.counted
+    ∙ sym c.in_ok-bytes.ensures.same)) c.count.ensures.counted

@@ -12,5 +12,5 @@ invariant_of-self c =
     record {
       few = c.self.invariant.few;
       noted = subst (AreNoted numbers pins) (sym c.renew.ensures)
-          (noted_renewed c.args.block numbers pins c.args.content.now c.self.inside.blocks c.self.invariant.noted);
+          (noted_renewed c.args.block numbers pins c.args.content c.self.inside.blocks c.self.invariant.noted);
     }

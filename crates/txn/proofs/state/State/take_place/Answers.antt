@@ -21,6 +21,7 @@ use Rattle.txn.proofs.Logged.{quiet_in, refreshed_is}
 use Rattle.txn.proofs.Neat.{neat_with}
 use Rattle.txn.specs.Neat.{IsNeat}
 use Rattle.txn.specs.Pinned.{AreCountable, block_of_each, objects_in}
+use Rattle.txn.specs.Refreshed.{renewed_each}
 use Rattle.txn.proofs.state.State.take_place.Goals as goal
 
 pub append-requires-clause-once : goal.append-requires-clause-once
@@ -110,8 +111,9 @@ invariant_of-self-in-Appended g c =
     subst (λ (old : CoreState). IsOwn old c.args.tx plan) (sym c.self.view_is) c.requires.own in
     let is : there.blocks ≡ refreshed log old.blocks =
     c.keep.ensures.pins.1 ∙ ap (λ (r : Residents). r.blocks) c.refresh.ensures
-    ∙ refreshed_is core.log log group appended c.args.blocks.now c.in-Ok-group_of.ensures.blocks old.blocks
-    c.self.invariant.logged in
+    ∙ ap (renewed_each old.blocks)
+    (c.in-Ok-pointers_to.ensures ∙ c.as_slice-2.ensures.value)
+    ∙ refreshed_is core.log log group appended old.blocks c.self.invariant.logged in
     let pins : (at : BlockNo) → pins_of there at ≡ pins_of old at
     + (if nat_lt (installed_place log) log.places then objects_in plan.read at else 0) =
     λ at. c.keep.ensures.pins.0 at
@@ -179,8 +181,10 @@ returns-in-Appended-clause-answer g c =
             records = records;
           }) tx) c.tx.view_is)
           (c.keep.ensures.pins.1 ∙ ap (λ (r : Residents). r.blocks) c.refresh.ensures
+          ∙ ap (renewed_each resident.blocks)
+          (c.in-Ok-pointers_to.ensures ∙ c.as_slice-2.ensures.value)
           ∙ refreshed_is core.log log c.in-Ok-group_of.group.items (c.append.ensures.seen (search rules))
-          c.args.blocks.now c.in-Ok-group_of.ensures.blocks resident.blocks c.self.invariant.logged
+          resident.blocks c.self.invariant.logged
           ∙ ap (λ (old : CoreState). refreshed log old.present) c.self.view_is)
           (kept ∙ ap (λ (old : CoreState). with_record log log.places plan old.records) c.self.view_is);
       law = subst (λ (l : Log). KeepsAgreement l c.close.new.self.log) seen

@@ -1,5 +1,6 @@
 use Rattle.std.proofs.Common.{subst}
-use Rattle.wal_law.specs.Io.{Io, HasMade}
+use Rattle.disk.specs.Device.{Content}
+use Rattle.wal_law.specs.Io.{Io, HasMade, HasMadeCall}
 use Rattle.wal.proofs.Sides.{is_made}
 use Rattle.wal.proofs.io.SideIo.perform.Goals as goal
 
@@ -7,5 +8,8 @@ pub returns-clause-law : goal.returns-clause-law
 returns-clause-law g c = λ side.
     let old = g.D.CrashDisk.device c.args.disk.now in
     let new = g.D.CrashDisk.device c.make.new.disk in
+    let made : HasMadeCall old c.self.inside.call c.self.inside.content c.make.result new =
+    subst (λ (content : Content). HasMadeCall old c.self.inside.call content c.make.result new) c.block.ensures
+    c.make.ensures.call in
     is_made side old new c.args.self.now c.make.result
-    (subst (λ (io : Io). HasMade old io c.make.result new) c.self.view_is c.make.ensures.call)
+    (subst (λ (io : Io). HasMade old io c.make.result new) c.self.view_is made)

@@ -2,6 +2,7 @@
 use Rattle.std.proofs.Common.{◌≡◌, ◌<◌, ◌+◌, ◌∙◌, ℕ, ap, arith, inl, inr, subst, sym}
 use Rattle.disk.specs.Device.{Content}
 use Rattle.wal_law.specs.Io.{Io}
+use Rattle.wal_law.specs.declared.calls.IoCall.{IoCall}
 use Rattle.wal_law.specs.Log.{Log}
 use Rattle.wal.specs.Batch.{IsStageOf, step_at}
 use Rattle.wal.specs.BySide.{IsBody, IsTelling, ahead_of, step_of, taken_by}
@@ -21,8 +22,8 @@ returns-clause-call c =
     let io : Io = record {
       beginning = c.start.result + c.ahead.result;
       step = c.step.result;
-      call = c.match-batch.call;
-      content = c.match-batch.content;
+      call = c.match-batch.call.0;
+      content = c.match-batch.call.1;
     } in
     let start : c.start.result ≡ log.start = c.start.ensures ∙ ap (λ (l : Log). l.start) c.self.view_is in
     let beginning : io.beginning ≡ log.start + ahead_of side log = omega (arith, start, c.ahead.ensures) in
@@ -38,21 +39,26 @@ returns-clause-call c =
           let fits : IsStageOf batch.taken (Body number) = stage_fits side c.self.inside batch (Body number)
           c.self.invariant c.of-batch.ensures w.in-Body.is in
           let within : step_of side log < taken_by side log = omega (arith, taken, is, fits) in
-          next_body_is side log io w.put_body.result within beginning step w.call-is
-          (subst (λ (content : Content). IsBody side log (step_of side log) w.put_body.result content)
-          (sym w.content-is) (subst (λ (n : ℕ). IsBody side log n w.put_body.result w.put_body.new.content) (sym is)
-          w.put_body.ensures.value))
+          next_body_is side log io w.hand_body-content.result.0 within beginning step
+          (ap (λ (out : IoCall × Content). out.0) w.call-is)
+          (subst (λ (content : Content). IsBody side log (step_of side log) w.hand_body-content.result.0 content)
+          (sym (ap (λ (out : IoCall × Content). out.1) w.call-is))
+          (subst (λ (n : ℕ). IsBody side log n w.hand_body-content.result.0 w.hand_body-content.result.1) (sym is)
+          w.hand_body-content.ensures.value))
       | in-Header w ↦ let is : step_of side log ≡ taken_by side log + 1 =
           at ∙ ap (λ (stage : Stage). step_at batch.taken stage) w.in-Header.is ∙ ap (λ (n : ℕ). n + 1) (sym taken) in
-          next_telling_is side log io w.put_telling.result is beginning step w.call-is
-          (subst (λ (content : Content). IsTelling side log w.put_telling.result content) (sym w.content-is)
-          w.put_telling.ensures.value)
+          next_telling_is side log io w.put_telling-block.result is beginning step
+          (ap (λ (out : IoCall × Content). out.0) w.call-is)
+          (subst (λ (content : Content). IsTelling side log w.put_telling-block.result content)
+          (sym (ap (λ (out : IoCall × Content). out.1) w.call-is ∙ w.own.ensures)) w.put_telling-block.ensures.value)
       | in-BodyBarrier w ↦ elim w.in-BodyBarrier.is as (λ _. IsNextCall side log io) [
         | inl first ↦ let is : step_of side log ≡ taken_by side log =
             at ∙ ap (λ (stage : Stage). step_at batch.taken stage) first ∙ sym taken in
-            next_barrier_is side log io (omega (arith, is)) (λ other. omega (arith, is, other)) beginning step w.call-is
+            next_barrier_is side log io (omega (arith, is)) (λ other. omega (arith, is, other)) beginning step
+            (ap (λ (out : IoCall × Content). out.0) w.call-is)
         | inr last ↦ let is : step_of side log ≡ taken_by side log + 2 =
             at ∙ ap (λ (stage : Stage). step_at batch.taken stage) last ∙ ap (λ (n : ℕ). n + 2) (sym taken) in
-            next_barrier_is side log io (omega (arith, is)) (λ other. omega (arith, is, other)) beginning step w.call-is
+            next_barrier_is side log io (omega (arith, is)) (λ other. omega (arith, is, other)) beginning step
+            (ap (λ (out : IoCall × Content). out.0) w.call-is)
       ]
     ]

@@ -6,27 +6,27 @@ use Rattle.wal_law.specs.Log.{Log, log_end}
 use Rattle.wal_law.specs.Logger.{slot_block}
 use Rattle.wal.specs.BySide.{IsBody}
 use Rattle.wal.specs.View.{log_of}
-use Rattle.wal.proofs.memory.Wal.put_body.Goals as goal
+use Rattle.wal.proofs.memory.Wal.hand_body.Goals as goal
 
 pub returns-in-Log-clause-value : goal.returns-in-Log-clause-value
 returns-in-Log-clause-value c =
     let log : Log = log_of c.self.inside in
     let at : c.slot_block.result.0 ≡ slot_block (log_end log + c.args.number) = omega arith in
-    let body : IsBody LogSide log c.args.number c.slot_block.result c.copy_from.new.self = λ change is.
+    let body : IsBody LogSide log c.args.number c.slot_block.result c.shared-content.result = λ change is.
     let one : c.index.result.now ≡ change = c.index.ensures
     ∙ ap (λ (xs : List LogChange). get_or xs (log.logged + c.args.number) c.index.result.now) c.list.ensures
     ∙ get_or_from_slice_get log.changes (log.logged + c.args.number) change c.index.result.now is in
-    (ap (λ (n : ℕ). record { 0 = n }) at, c.copy_from.ensures ∙ ap (λ (x : LogChange). x.content) one) in
-    rw c.in-Log.is (subst (λ (l : Log). IsBody LogSide l c.args.number c.slot_block.result c.copy_from.new.self)
+    (ap (λ (n : ℕ). record { 0 = n }) at, c.shared-content.ensures ∙ ap (λ (x : LogChange). x.content) one) in
+    rw c.in-Log.is (subst (λ (l : Log). IsBody LogSide l c.args.number c.slot_block.result c.shared-content.result)
     c.self.view_is body)
 
 pub returns-in-Home-clause-value : goal.returns-in-Home-clause-value
 returns-in-Home-clause-value c =
     let log : Log = log_of c.self.inside in
-    let body : IsBody Home log c.args.number c.index-change.result.now.block c.copy_from-in-Home.new.self = λ change is.
+    let body : IsBody Home log c.args.number c.index-change.result.now.block c.shared.result = λ change is.
     let one : c.index-change.result.now ≡ change = c.index-change.ensures
     ∙ ap (λ (xs : List LogChange). get_or xs c.args.number c.index-change.result.now) c.list-in-Home.ensures
     ∙ get_or_from_slice_get log.changes c.args.number change c.index-change.result.now is in
-    (ap (λ (x : LogChange). x.block) one, c.copy_from-in-Home.ensures ∙ ap (λ (x : LogChange). x.content) one) in
+    (ap (λ (x : LogChange). x.block) one, c.shared.ensures ∙ ap (λ (x : LogChange). x.content) one) in
     rw c.in-Home.is (subst (λ (l : Log). IsBody Home l c.args.number c.index-change.result.now.block
-    c.copy_from-in-Home.new.self) c.self.view_is body)
+    c.shared.result) c.self.view_is body)
