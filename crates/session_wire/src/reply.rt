@@ -12,6 +12,9 @@ use rpc::{LAST_FRAGMENT, put_accepted, put_refusal};
 use std::alloc::Global;
 use xdr::{Writer, XdrFault};
 
+// As many bytes as most replies have that carry no data.
+const MOSTLY_WRITTEN: usize = 256;
+
 /// The bytes of a reply, as a record of one fragment. One that has a length of 2^32 or more in it, or 2^31
 /// bytes in all, is `Length`; where memory is refused it is `NoMemory`.
 #[tactic(auto, unfolding(xdr::specs::Items::word))]
@@ -34,7 +37,7 @@ fn message(alloc: Global, xid: u32, reply: RpcReply) -> Result<Writer, XdrFault>
     ensures { Encodes result (word 0) (bytes_of xid (body_of reply.entry))
         (body_too_long (body_of reply.entry)) }
 {
-    let mut out = Writer::new(alloc);
+    let mut out = Writer::with_room(alloc, MOSTLY_WRITTEN)?;
     out.unsigned(0)?;
     match reply {
         RpcReply::Nfs(done) => {

@@ -33,6 +33,16 @@ impl Writer {
         }
     }
 
+    /// Nothing was written yet, and there is room for so many bytes.
+    pub fn with_room(alloc: Global, bytes: usize) -> Result<Writer, XdrFault>
+        ensures written { IfOk result (λ writer. writer ≡ []) }
+        ensures refused { IfErr result (λ e. e ≡ NoMemory) }
+    {
+        Ok(Writer {
+            bytes: Vec::with_capacity(alloc, bytes)?,
+        })
+    }
+
     pub fn as_slice(&self) -> &[u8]
         ensures { result.now ≡ self.now }
     {
