@@ -1,6 +1,7 @@
 //! What a call asks for behind a run that stopped, without another. These are positions, of which nothing is claimed:
 //! the procedure is run again once all of it was read.
 ghost use Rattle.std.specs.Prelude.{◌≡◌, ◌≤◌, IfErr, IfSome};
+ghost use Rattle.inode.specs.declared.stop.Stop.TheVariants.{NoMemory};
 ghost use Rattle.limits.specs.declared.TheConstants.{FILE_INDEXES};
 ghost use Rattle.inode.specs.Over.{MayStop};
 ghost use Rattle.procedures.specs.Listing.{entry_room};
@@ -28,17 +29,17 @@ use std::alloc::{AllocError, Global};
 
 /// Nothing; the blocks of a file that a READ asks for; what a WRITE asks for; what a name asks for that a directory
 /// gets; what the blocks ask for that a file frees; what a listing asks for; the bitmaps; or the pointer blocks of a
-/// file.
+/// file. It lies in a box, as it is long and each function that hands it on would copy it.
 #[derive(Drop)]
 pub(crate) enum Ahead {
     Nothing,
-    Blocks(Blocks),
-    Writing(Writing),
-    Entering(Entering),
-    Freeing(Freeing),
-    Listing(Listing),
+    Blocks(Box<Blocks>),
+    Writing(Box<Writing>),
+    Entering(Box<Entering>),
+    Freeing(Box<Freeing>),
+    Listing(Box<Listing>),
     Pieces(Pieces),
-    Pointers(Pointers),
+    Pointers(Box<Pointers>),
 }
 
 /// The blocks of a file from an index on up to another.
@@ -187,8 +188,24 @@ impl Ahead {
     }
 }
 
+// A position, in a box.
+fn boxed<T: Drop>(alloc: Global, position: T) -> Result<Box<T>, Stop>
+    ensures { IfErr result (λ why. why ≡ NoMemory) }
+{
+    match Box::new(alloc, position) {
+        Ok(boxed) => Ok(boxed),
+        Err(_) => Err(Stop::NoMemory),
+    }
+}
+
 // The blocks that a READ asks for.
-fn blocks_of(snap: &Snap, file: &Handle, offset: u64, count: u32) -> Result<Ahead, Stop> {
+fn blocks_of(
+    alloc: Global,
+    snap: &Snap,
+    file: &Handle,
+    offset: u64,
+    count: u32,
+) -> Result<Ahead, Stop> {
     let Some((number, _)) = file.parts() else {
         return Ok(Ahead::Nothing);
     };
@@ -200,11 +217,12 @@ fn blocks_of(snap: &Snap, file: &Handle, offset: u64, count: u32) -> Result<Ahea
     }
     let wanted = count.min(TRANSFER_BYTES) as u64;
     let end = offset + wanted.min(inode.size - offset);
-    Ok(Ahead::Blocks(Blocks {
+    let blocks = Blocks {
         inode,
         at: (offset / BLOCK_BYTES as u64) as usize,
         end: ((end + BLOCK_BYTES as u64 - 1) / BLOCK_BYTES as u64) as usize,
-    }))
+    };
+    Ok(Ahead::Blocks(boxed(alloc, blocks)?))
 }
 
 // What of so many bytes is left for entries.
@@ -249,39 +267,60 @@ fn listing_of(
     if cookie < PARENT_COOKIE {
         listing.add(directory.parent, b"..")?;
     }
-    Ok(Ahead::Listing(listing))
+    Ok(Ahead::Listing(boxed(alloc, listing)?))
 }
 
-// What a name asks for that a directory gets.
-fn entering(
+/// What a name asks for that a directory gets.
+pub(crate) fn entering(
     alloc: Global,
     snap: &Snap,
     name: &DirectoryName,
     makes: bool,
     has_block: bool,
-) -> Result<Ahead, Stop> {
+) -> Result<Ahead, Stop>
+    ensures { IfErr result (λ why. MayStop snap.now why) }
+{
     match Entering::begin(alloc, snap, &name.directory, makes, has_block)? {
-        Some(entering) => Ok(Ahead::Entering(entering)),
+        Some(entering) => Ok(Ahead::Entering(boxed(alloc, entering)?)),
         None => Ok(Ahead::Nothing),
     }
 }
 
-// What the blocks ask for that a file frees, if it does.
-fn freed(freeing: Option<Freeing>) -> Ahead {
+/// What the blocks ask for that a file frees, if it does.
+pub(crate) fn freed(alloc: Global, freeing: Option<Freeing>) -> Result<Ahead, Stop>
+    ensures { IfErr result (λ why. why ≡ NoMemory) }
+{
     match freeing {
-        Some(freeing) => Ahead::Freeing(freeing),
-        None => Ahead::Nothing,
+        Some(freeing) => Ok(Ahead::Freeing(boxed(alloc, freeing)?)),
+        None => Ok(Ahead::Nothing),
     }
 }
 
-// What a call asks for in a row, from its first object on.
+// Whether what a call asks for in a row is more than its names, the files to which they lead, and their pointer blocks.
+fn has_a_row(call: &Call) -> bool {
+    !matches!(
+        call,
+        Call::Null
+            | Call::GetAttr { .. }
+            | Call::Lookup { .. }
+            | Call::Access { .. }
+            | Call::ReadLink { .. }
+            | Call::FsInfo { .. }
+            | Call::PathConf { .. }
+            | Call::Commit { .. }
+    )
+}
+
+// What a call asks for in a row, from its first object on. It stands apart, so that a plan that goes on elsewhere has
+// no room for it.
+#[inline(never)]
 fn in_a_row(alloc: Global, call: &Call, snap: &Snap, names: &Names) -> Result<Ahead, Stop> {
     match call {
         Call::Read {
             file,
             offset,
             count,
-        } => blocks_of(snap, file, *offset, *count),
+        } => blocks_of(alloc, snap, file, *offset, *count),
         Call::ReadDir {
             directory,
             cookie,
@@ -326,25 +365,25 @@ fn in_a_row(alloc: Global, call: &Call, snap: &Snap, names: &Names) -> Result<Ah
             bytes,
             ..
         } => match Writing::begin(snap, file, *offset, bytes.as_slice().len())? {
-            Some(writing) => Ok(Ahead::Writing(writing)),
+            Some(writing) => Ok(Ahead::Writing(boxed(alloc, writing)?)),
             None => Ok(Ahead::Nothing),
         },
         Call::SetAttr {
             object,
             attributes,
             ..
-        } => Ok(freed(cut_at(snap, object, attributes.size)?)),
+        } => freed(alloc, cut_at(snap, object, attributes.size)?),
         Call::Create { name, how } => match named(snap, names, name)? {
-            Some(number) => Ok(freed(cut_for(snap, number, how)?)),
+            Some(number) => freed(alloc, cut_for(snap, number, how)?),
             None => entering(alloc, snap, name, true, false),
         },
         Call::MkDir { name, .. } => entering(alloc, snap, name, true, false),
         Call::SymLink { name, .. } => entering(alloc, snap, name, true, true),
         Call::Link { name, .. } => entering(alloc, snap, name, false, false),
-        Call::Remove { name } => Ok(freed(unnamed(snap, names, name, false)?)),
-        Call::RmDir { name } => Ok(freed(unnamed(snap, names, name, true)?)),
+        Call::Remove { name } => freed(alloc, unnamed(snap, names, name, false)?),
+        Call::RmDir { name } => freed(alloc, unnamed(snap, names, name, true)?),
         Call::Rename { target, .. } => match named(snap, names, target)? {
-            Some(number) => Ok(freed(Freeing::replaced(snap, number)?)),
+            Some(number) => freed(alloc, Freeing::gone(snap, number)?),
             None => entering(alloc, snap, target, false, false),
         },
         Call::FsStat { .. } => Ok(Ahead::Pieces(Pieces::begin())),
@@ -427,6 +466,9 @@ fn pointers_behind(
     for number in files_of(call, snap, names) {
         if let Some(number) = number {
             if let Some(pointers) = pointers_of(snap, number) {
+                let Ok(pointers) = boxed(alloc, pointers) else {
+                    return None;
+                };
                 if let Some(ahead) = begun(alloc, snap, plan, Ahead::Pointers(pointers)) {
                     return Some(ahead);
                 }
@@ -444,6 +486,9 @@ pub(crate) fn behind(alloc: Global, call: &Call, snap: &Snap, names: &Names, pla
     }
     if let Some(ahead) = pointers_behind(alloc, call, snap, names, plan) {
         return ahead;
+    }
+    if !has_a_row(call) {
+        return Ahead::Nothing;
     }
     let Ok(ahead) = in_a_row(alloc, call, snap, names) else {
         return Ahead::Nothing;

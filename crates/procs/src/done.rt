@@ -49,14 +49,14 @@ impl Done {
     pub fn reply(&self) -> &Reply
         ensures { result.now ≡ self.now.reply }
     {
-        &self.draft.reply
+        self.draft.reply()
     }
 
     /// The reply, by itself.
     pub fn into_reply(self) -> Reply
         ensures { result ≡ self.reply }
     {
-        self.draft.reply
+        self.draft.into_reply()
     }
 }
 
@@ -77,19 +77,19 @@ impl Change for Done {
     ghost are_counts = { IsLawful };
 
     fn read(&self) -> &[Object] {
-        &self.draft.read
+        self.draft.read()
     }
 
     fn written(&self) -> &[Object] {
-        &self.draft.written
+        self.draft.written()
     }
 
     fn blocks(&self) -> u32 {
-        self.draft.blocks
+        self.draft.blocks()
     }
 
     fn inodes(&self) -> u32 {
-        self.draft.inodes
+        self.draft.inodes()
     }
 
     fn is_planned(&self) {

@@ -11,9 +11,14 @@ use std::snapshot::Snapshot;
 use txn::Object;
 
 /// What was worked out for a call, which is kept for proofs alone. It writes no more blocks than a transaction
-/// changes.
+/// changes. It lies in a box, as a reply is long and each function that hands it on would copy it.
 #[derive(Drop)]
 pub(crate) struct Draft {
+    parts: Box<DraftParts>,
+}
+
+#[derive(Drop)]
+pub(crate) struct DraftParts {
     ctx: Snapshot<Ctx>,
     asked: Snapshot<Call>,
     pub(crate) reply: Reply,
@@ -32,16 +37,16 @@ impl Model for Draft {
     ghost Value = { Outcome };
 
     ghost view = { λ draft. record {
-      ctx = draft.ctx.value;
-      asked = draft.asked.value;
-      reply = draft.reply;
-      read = draft.read.items;
-      written = draft.written.items;
-      blocks = draft.blocks;
-      inodes = draft.inodes;
+      ctx = draft.parts.value.ctx.value;
+      asked = draft.parts.value.asked.value;
+      reply = draft.parts.value.reply;
+      read = draft.parts.value.read.items;
+      written = draft.parts.value.written.items;
+      blocks = draft.parts.value.blocks;
+      inodes = draft.parts.value.inodes;
     } };
 
-    ghost invariant = { λ draft. length (blocks_of draft.written.items) ≤ CHANGED_BLOCKS };
+    ghost invariant = { λ draft. length (blocks_of draft.parts.value.written.items) ≤ CHANGED_BLOCKS };
 }
 
 impl Draft {
@@ -61,7 +66,8 @@ impl Draft {
         ensures reply { IfOk result (λ done. done.reply ≡ reply) }
         ensures written { IfOk result (λ done. done.written ≡ written.items) }
     {
-        Ok(Draft {
+        let alloc = *snap.objects.allocator();
+        let parts = DraftParts {
             ctx: Snapshot::of(ctx),
             asked: Snapshot::of(call),
             reply,
@@ -69,13 +75,58 @@ impl Draft {
             written,
             blocks: snap.geometry.blocks,
             inodes: snap.geometry.inodes,
+        };
+        Ok(Draft {
+            parts: Box::new(alloc, parts)?,
         })
+    }
+
+    /// The reply.
+    pub(crate) fn reply(&self) -> &Reply
+        ensures { result.now ≡ self.now.reply }
+    {
+        &self.parts.reply
+    }
+
+    /// The reply, by itself.
+    pub(crate) fn into_reply(self) -> Reply
+        ensures { result ≡ self.reply }
+    {
+        Box::into_inner(self.parts).reply
+    }
+
+    /// The objects that were read for it.
+    pub(crate) fn read(&self) -> &[Object]
+        ensures { result.now ≡ self.now.read }
+    {
+        &self.parts.read
+    }
+
+    /// The objects that it writes.
+    pub(crate) fn written(&self) -> &[Object]
+        ensures { result.now ≡ self.now.written }
+    {
+        &self.parts.written
+    }
+
+    /// How many blocks the image has.
+    pub(crate) fn blocks(&self) -> u32
+        ensures { result ≡ self.now.blocks }
+    {
+        self.parts.blocks
+    }
+
+    /// How many inodes it has.
+    pub(crate) fn inodes(&self) -> u32
+        ensures { result ≡ self.now.inodes }
+    {
+        self.parts.inodes
     }
 
     /// It writes few blocks.
     pub(crate) fn few(&self)
         ensures { length (blocks_of self.now.written) ≤ CHANGED_BLOCKS }
     {
-        let _ = &self.written;
+        let _ = &self.parts;
     }
 }

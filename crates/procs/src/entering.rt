@@ -37,7 +37,9 @@ impl Entering {
         directory: &Handle,
         makes: bool,
         has_block: bool,
-    ) -> Result<Option<Entering>, Stop> {
+    ) -> Result<Option<Entering>, Stop>
+        ensures { IfErr result (λ why. MayStop snap.now why) }
+    {
         let Some((number, _)) = directory.parts() else {
             return Ok(None);
         };

@@ -79,17 +79,16 @@ impl Freeing {
         }))
     }
 
-    /// What the file of a number asks for that loses a name, if that is its last. It may be looked through for names
-    /// before.
-    pub(crate) fn gone(
-        snap: &Snap,
-        number: u32,
-        is_looked_through: bool,
-    ) -> Result<Option<Freeing>, Stop> {
+    /// What the file of a number asks for that loses a name, if that is its last: as a directory it is looked through
+    /// for names before.
+    pub(crate) fn gone(snap: &Snap, number: u32) -> Result<Option<Freeing>, Stop>
+        ensures { IfErr result (λ why. MayStop snap.now why) }
+    {
         let Some(inode) = held(snap, number)? else {
             return Ok(None);
         };
-        if inode.kind != InodeKind::Directory && inode.nlink > 1 {
+        let is_directory = inode.kind == InodeKind::Directory;
+        if !is_directory && inode.nlink > 1 {
             return Ok(None);
         }
         Ok(Some(Freeing {
@@ -97,7 +96,7 @@ impl Freeing {
             kept: 0,
             is_zeroed: false,
             number: Some(number),
-            is_looked_through,
+            is_looked_through: is_directory,
             pointers: Pointers::begin(inode),
             marked: 0,
             is_past_far: false,
@@ -107,12 +106,9 @@ impl Freeing {
         }))
     }
 
-    /// What the file of a number asks for whose name another file takes: as a directory it is looked through for names.
-    pub(crate) fn replaced(snap: &Snap, number: u32) -> Result<Option<Freeing>, Stop> {
-        let Some(inode) = held(snap, number)? else {
-            return Ok(None);
-        };
-        Freeing::gone(snap, number, inode.kind == InodeKind::Directory)
+    /// Whether the file is a directory.
+    pub(crate) fn is_of_directory(&self) -> bool {
+        self.inode.kind == InodeKind::Directory
     }
 
     // Asks for what is looked through for names. Whether there is none.

@@ -18,6 +18,7 @@ mod pointers;
 mod reading;
 mod refused;
 mod rules;
+mod searched;
 mod shrinking;
 mod telling;
 mod work;

@@ -6,6 +6,7 @@ ghost use Rattle.procs.specs.Planning.{IsKnownBy};
 use crate::ahead::{Ahead, behind};
 use crate::anew::{is_same, names_of};
 use crate::next::Plan;
+use crate::searched::go_on_behind;
 use crate::work::run;
 use disk::BlockNo;
 use inode::{Snap, Stop};
@@ -156,7 +157,15 @@ impl Planner {
                 return Plan::Need(addr, mode);
             }
         }
-        match self.ahead.next(alloc, &self.snap) {
+        match go_on_behind(
+            alloc,
+            call,
+            &self.snap,
+            names,
+            &search,
+            &mut self.searches,
+            &mut self.ahead,
+        ) {
             Some(Stop::Need(addr, mode)) => return Plan::Need(addr, mode),
             Some(Stop::Claim(block)) => return Plan::Claim(block),
             _ => {}

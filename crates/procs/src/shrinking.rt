@@ -1,5 +1,9 @@
 //! Which files free blocks by a call: those that it cuts, and those whose last name it takes.
+ghost use Rattle.std.specs.Prelude.{◌≡◌, IfErr};
+ghost use Rattle.inode.specs.Over.{MayStop};
+
 use crate::freeing::Freeing;
+use files::is_own_name;
 use inode::{Snap, Stop, held};
 use name_search::Names;
 use nfs_types::{CreateHow, DirectoryName, Handle};
@@ -28,7 +32,9 @@ pub(crate) fn cut_for(snap: &Snap, number: u32, how: &CreateHow) -> Result<Optio
 }
 
 /// The number of the file to which a name leads, by what is known of the names of the call.
-pub(crate) fn named(snap: &Snap, names: &Names, name: &DirectoryName) -> Result<Option<u32>, Stop> {
+pub(crate) fn named(snap: &Snap, names: &Names, name: &DirectoryName) -> Result<Option<u32>, Stop>
+    ensures { IfErr result (λ why. MayStop snap.now why) }
+{
     let Some((number, _)) = name.directory.parts() else {
         return Ok(None);
     };
@@ -41,15 +47,24 @@ pub(crate) fn named(snap: &Snap, names: &Names, name: &DirectoryName) -> Result<
     }
 }
 
-/// What the file asks for that loses a name. Where it is looked through for names before, it has to have none.
+/// What the file asks for that loses a name, where it is a directory or where it is none.
 pub(crate) fn unnamed(
     snap: &Snap,
     names: &Names,
     name: &DirectoryName,
-    is_looked_through: bool,
-) -> Result<Option<Freeing>, Stop> {
-    match named(snap, names, name)? {
-        Some(number) => Freeing::gone(snap, number, is_looked_through),
-        None => Ok(None),
+    is_directory: bool,
+) -> Result<Option<Freeing>, Stop>
+    ensures { IfErr result (λ why. MayStop snap.now why) }
+{
+    let Some(number) = named(snap, names, name)? else {
+        return Ok(None);
+    };
+    let Some(freeing) = Freeing::gone(snap, number)? else {
+        return Ok(None);
+    };
+    if freeing.is_of_directory() == is_directory && !is_own_name(name.name.as_slice()) {
+        Ok(Some(freeing))
+    } else {
+        Ok(None)
     }
 }

@@ -39,6 +39,8 @@ pub(crate) enum Row<'a> {
     Writes(File, u32, &'a [u64]),
     Sizes(File, &'a [u64]),
     Takes(u32),
+    As(u32, Asked<'a>),
+    RemovesAll(File, u8, u8, u8),
 }
 
 // What the first two rows make, and the third of names.
@@ -171,13 +173,13 @@ fn formatted(alloc: Global, blocks: u32) -> Result<MemDisk, Fail> {
 }
 
 // The superuser's context in the first boot.
-fn context(alloc: Global, transaction: u64) -> Ctx
+fn context(alloc: Global, uid: u32, transaction: u64) -> Ctx
     ensures { SoundTime result.moment }
 {
     Ctx {
         credential: Credential {
-            uid: 0,
-            gid: 0,
+            uid,
+            gid: uid,
             gids: NumberList::new(Vec::new(alloc)),
         },
         moment: NOW,
@@ -190,6 +192,7 @@ fn context(alloc: Global, transaction: u64) -> Ctx
 fn add(
     alloc: Global,
     entries: &mut Vec<(Ctx, Call)>,
+    uid: u32,
     transaction: u64,
     call: Call,
 ) -> Result<(), Fail>
@@ -199,7 +202,7 @@ fn add(
     if !can_be_spelled(&call) {
         return Err("it can't be spelled")?;
     }
-    entries.push((context(alloc, transaction), call))?;
+    entries.push((context(alloc, uid, transaction), call))?;
     Ok(())
 }
 
@@ -228,8 +231,18 @@ fn goes_alike(
     transaction: u64,
     asked: &Asked,
 ) -> Result<bool, Fail> {
+    goes_alike_as(alloc, disk, 0, transaction, asked)
+}
+
+fn goes_alike_as(
+    alloc: Global,
+    disk: &mut MemDisk,
+    uid: u32,
+    transaction: u64,
+    asked: &Asked,
+) -> Result<bool, Fail> {
     let mut entries = Vec::new(alloc);
-    add(alloc, &mut entries, transaction, call(alloc, asked)?)?;
+    add(alloc, &mut entries, uid, transaction, call(alloc, asked)?)?;
     let is_alike = are_alike(alloc, disk, &entries)?;
     replay(alloc, disk, &entries)?;
     Ok(is_alike)
@@ -328,6 +341,21 @@ fn row_goes_alike(
         }
         Row::Sizes(file, sizes) => return sizes_go_alike(alloc, disk, next, file, sizes),
         Row::Takes(piece) => take_all(alloc, disk, piece)?,
+        Row::As(uid, ref asked) => {
+            if !goes_alike_as(alloc, disk, uid, next, asked)? {
+                return Ok(None);
+            }
+            next = next.saturating_add(1);
+        }
+        Row::RemovesAll(directory, first, from, end) => {
+            for second in from..end {
+                let asked = Asked::Remove(directory, &[first, second]);
+                if !goes_alike(alloc, disk, next, &asked)? {
+                    return Ok(None);
+                }
+                next = next.saturating_add(1);
+            }
+        }
     }
     Ok(Some(next))
 }
