@@ -139,7 +139,10 @@ module _ (L : RattleType) (l : Ledger.Ghosts L.Denot) where
                 search (open_send, crosses, sendable) depth 40 fits 20000,
                 (
                   search (crosses, sendable) depth 40 fits 20000,
-                  (search (crosses, sendable) depth 40 fits 20000, tt),
+                  (
+                    search (crosses, sendable) depth 40 fits 20000,
+                    (search (crosses, sendable) depth 40 fits 20000, tt),
+                  ),
                 ),
               ),
             ),

@@ -32,4 +32,10 @@ impl<L: Ledger> Batch<L> {
     pub fn is_full(&self) -> bool {
         self.jobs.len() >= BATCH_CALLS
     }
+
+    /// Whether what was driven is one call, which waits to be settled, and none is left.
+    pub fn is_one_that_waits(&self) -> bool {
+        let is_alone = self.jobs.is_empty() && self.answers.is_empty() && self.held_up.is_none();
+        is_alone && self.waiting.len() == 1
+    }
 }

@@ -41,6 +41,8 @@ pub struct BatchOutcome {
     pub is_begun: bool,
     /// Something was committed, and so many commits are kept that it waits until some of them are home.
     pub is_crowded: bool,
+    /// Its one call waits to be settled, and no other has a seat. The logger wasn't told of it.
+    pub is_alone: bool,
 }
 
 /// Hands a free seat a job, and drives it to its answer, or parks it.
@@ -69,22 +71,26 @@ fn hand<L: Ledger, G: Whole, I: Whole, P: Port, S, R: Wait + Clock>(
 }
 
 /// Drives the calls of a batch in a row, one after another in a free seat, up to the first that has to wait for
-/// something but to be settled. The jobs that are left come behind it, or found no seat free.
+/// something but to be settled. The jobs that are left come behind it, or found no seat free. Who `logs` settles
+/// the change of one that is alone.
 pub fn drive_batch<L: Ledger, G: Whole, I: Whole, P: Port, S, R: Wait + Clock>(
     rt: &R,
     server: &ServerState<L, G, I, P, S>,
     batch: &mut Batch<L>,
+    logs: bool,
 ) -> BatchOutcome {
     let jobs = batch.jobs.len();
     let (is_well, look) = drive_under_lock(rt, server, batch);
+    let is_alone = logs && batch.is_one_that_waits() && server.sync.free.is_one_out(rt);
     let is_crowded = match look {
-        Some(look) => server.tell_of_commit(rt, look),
+        Some(look) => server.tell_of_commit(rt, look, is_alone),
         None => false,
     };
     BatchOutcome {
         is_well,
         is_begun: batch.jobs.len() < jobs,
         is_crowded,
+        is_alone,
     }
 }
 
@@ -197,7 +203,7 @@ fn go_on<L: Ledger, G: Whole, I: Whole, P: Port, S: Source, R: Wait + Clock>(
         let rounds = server.sync.rounds.count();
         let (made, look) = steps(rt, server, &mut *seat);
         if let Some(look) = look {
-            if server.tell_of_commit(rt, look) {
+            if server.tell_of_commit(rt, look, false) {
                 wait_while_crowded(rt, server);
             }
         }

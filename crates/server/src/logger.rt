@@ -2,7 +2,7 @@
 use crate::state::ServerState;
 use disk::Port;
 use limits::{CHANGED_BLOCKS, LOG_SLOTS};
-use pool::{Gate, Point, Turn, Whole, logger_io};
+use pool::{Gate, IoSeat, Point, Turn, Whole, logger_io};
 use server_parts::Notice;
 use std::sync::Wait;
 use std::sync::atomic::{AtomicU64, Ordering};
@@ -18,11 +18,11 @@ const HALF_OF_LOG: u64 = LOG_SLOTS / 2;
 
 // Counts the blocks that were logged since the installer was last told not to wait.
 #[derive(Drop)]
-struct Logged {
-    blocks: AtomicU64,
+struct Logged<'a> {
+    blocks: &'a AtomicU64,
 }
 
-impl Gate for Logged {
+impl Gate for Logged<'_> {
     fn pass(&self, point: Point) {
         if point == Point::Log {
             self.blocks.fetch_add(1, Ordering::SeqCst);
@@ -31,34 +31,73 @@ impl Gate for Logged {
 }
 
 /// Settles what is committed, and tells the seats that wait for it, until the end is told and all is settled,
-/// or the store is broken.
+/// or the store is broken. While it waits, others may have its seat.
 pub fn log_all<L: Ledger, G: Whole, I: Whole, P: Port, S, R: Wait + Clock>(
     rt: &R,
     server: &ServerState<L, G, I, P, S>,
 ) {
-    let mut seat = server.logger.lock(rt);
-    let logged = Logged {
-        blocks: AtomicU64::new(0),
-    };
     let mut told = 0;
     for _ in rt.forever() {
-        match server.shared.log(rt, &mut *seat) {
-            Turn::Broken => break,
-            Turn::Moved => {
-                logger_io(&mut *seat, &logged);
-                if tell(rt, server, &mut told) {
-                    wake_installer(rt, server, &logged);
-                }
-            }
-            Turn::Idle => {
-                if !logger_io(&mut *seat, &logged) && !wait(rt, server) {
-                    break;
-                }
-            }
+        let turn = {
+            let mut seat = server.logger.lock(rt);
+            log_up_to(rt, server, &mut *seat, &mut told, u64::MAX)
+        };
+        if turn == Turn::Broken || !wait(rt, server) {
+            break;
         }
     }
     // A store that is broken settles no more: what waits is answered so.
     server.sync.parking.raise(rt, u64::MAX);
+}
+
+/// Settles what is committed up to a place, by the logger's seat, where the logger doesn't have it; and wakes the
+/// logger where more is to be settled.
+pub fn log_alone<L: Ledger, G: Whole, I: Whole, P: Port, S, R: Wait>(
+    rt: &R,
+    server: &ServerState<L, G, I, P, S>,
+    place: u64,
+) {
+    if let Some(mut seat) = server.logger.try_lock() {
+        let mut told = place.saturating_sub(1);
+        let _ = log_up_to(rt, server, &mut *seat, &mut told, place);
+    }
+    if !server.shared.look(rt).is_settled {
+        server.sync.to_log.notify(rt);
+    }
+}
+
+// Makes the log's calls by the logger's seat, until what was told as settled comes to a place, nothing can be logged,
+// or the store is broken.
+fn log_up_to<L: Ledger, G: Whole, I: Whole, P: Port, S, R: Wait>(
+    rt: &R,
+    server: &ServerState<L, G, I, P, S>,
+    seat: &mut IoSeat<G, P>,
+    told: &mut u64,
+    place: u64,
+) -> Turn {
+    let logged = Logged {
+        blocks: &server.sync.logged,
+    };
+    for _ in rt.forever() {
+        match server.shared.log(rt, seat) {
+            Turn::Broken => return Turn::Broken,
+            Turn::Moved => {
+                logger_io(seat, &logged);
+                if tell(rt, server, told) {
+                    wake_installer(rt, server);
+                }
+                if *told >= place {
+                    return Turn::Moved;
+                }
+            }
+            Turn::Idle => {
+                if !logger_io(seat, &logged) {
+                    return Turn::Idle;
+                }
+            }
+        }
+    }
+    Turn::Idle
 }
 
 // Tells that there is room, and what is settled. True where that is more than was told.
@@ -84,13 +123,12 @@ fn tell<L: Ledger, G: Whole, I: Whole, P: Port, S, R: Wait>(
 fn wake_installer<L: Ledger, G: Whole, I: Whole, P: Port, S, R: Wait>(
     rt: &R,
     server: &ServerState<L, G, I, P, S>,
-    logged: &Logged,
 ) {
-    if logged.blocks.load(Ordering::SeqCst) < HALF_OF_LOG {
+    if server.sync.logged.load(Ordering::SeqCst) < HALF_OF_LOG {
         server.sync.to_install.notify(rt);
         return;
     }
-    logged.blocks.store(0, Ordering::SeqCst);
+    server.sync.logged.store(0, Ordering::SeqCst);
     server.sync.to_install.notify_now(rt);
 }
 

@@ -1,6 +1,7 @@
 //! The thread that reads a connection.
 use crate::batch::Batch;
 use crate::driver::{Seen, drive_batch, see_through, wait_while_crowded};
+use crate::logger::log_alone;
 use crate::state::ServerState;
 use disk::{Port, Source};
 use limits::{MOST_WAITING_BYTES, REPLY_BATCH_BYTES, STREAM_PIECE_BYTES};
@@ -58,6 +59,7 @@ fn read_pieces<L: Ledger, G: Whole, I: Whole, P: Port, S: Source, R: Wait + Cloc
     let Ok(mut batch) = Batch::new(server.alloc) else {
         return true;
     };
+    let mut replies = ReplyBytes::new(server.alloc, context.key, context.number);
     let mut stream = Stream::new(server.alloc, of);
     for _ in rt.forever() {
         if !context.connection.wait_for_room(rt, MOST_WAITING_BYTES) {
@@ -75,7 +77,7 @@ fn read_pieces<L: Ledger, G: Whole, I: Whole, P: Port, S: Source, R: Wait + Cloc
             Ok(empty) => buffer = empty,
             Err(_) => return true,
         }
-        if !serve_records(rt, server, context, &mut stream, &mut batch) {
+        if !serve_records(rt, server, context, &mut stream, &mut batch, &mut replies) {
             return true;
         }
     }
@@ -89,15 +91,15 @@ fn serve_records<L: Ledger, G: Whole, I: Whole, P: Port, S: Source, R: Wait + Cl
     context: &ConnectionContext<'_, L>,
     stream: &mut Stream,
     batch: &mut Batch<L>,
+    replies: &mut ReplyBytes<L>,
 ) -> bool {
-    let mut replies = ReplyBytes::new(server.alloc, context.key, context.number);
     for _ in rt.forever() {
-        let gathered = gather(rt, server, context, stream, batch, &mut replies);
-        let is_well = answer_batch(rt, server, context, batch, &mut replies);
+        let gathered = gather(rt, server, context, stream, batch, replies);
+        let is_well = answer_batch(rt, server, context, batch, replies);
         let goes_on = is_well && gathered != Gathered::Closes;
         let is_over = !goes_on || gathered == Gathered::All;
         if is_over || replies.len() >= REPLY_BATCH_BYTES {
-            if !write(rt, server.alloc, context, &mut replies) {
+            if !write(rt, server.alloc, context, replies) {
                 return false;
             }
         }
@@ -182,9 +184,9 @@ fn answer_batch<L: Ledger, G: Whole, I: Whole, P: Port, S: Source, R: Wait + Clo
 }
 
 // Drives calls of a batch, parks those that wait to be settled, puts the replies of the others, and drives the one
-// that was held up to its answer; where no seat is free, hands the first on. So what a seat has taken is waited for
-// by no other of this connection, and nothing is written while a seat is in hand. False where the connection is to
-// end.
+// that was held up to its answer; where no seat is free, hands the first on. One that is alone is settled by this
+// thread, by the logger's seat. So what a seat has taken is waited for by no other of this connection, and nothing is
+// written while a seat is in hand. False where the connection is to end.
 fn answer_some<L: Ledger, G: Whole, I: Whole, P: Port, S: Source, R: Wait + Clock>(
     rt: &R,
     server: &ServerState<L, G, I, P, S>,
@@ -192,13 +194,18 @@ fn answer_some<L: Ledger, G: Whole, I: Whole, P: Port, S: Source, R: Wait + Cloc
     batch: &mut Batch<L>,
     replies: &mut ReplyBytes<L>,
 ) -> bool {
-    let outcome = drive_batch(rt, server, batch);
+    // Who has replies to write, or another call to drive, doesn't wait for the device.
+    let logs = replies.len() == 0 && batch.jobs.len() == 1;
+    let outcome = drive_batch(rt, server, batch, logs);
     let mut is_well = outcome.is_well;
     for _ in 0..batch.waiting.len() {
         let Some(parked) = batch.waiting.pop_front() else {
             break;
         };
         context.connection.hand_on(rt);
+        if outcome.is_alone {
+            log_alone(rt, server, parked.place);
+        }
         if let Err(key) = server.sync.parking.park(rt, parked) {
             is_well = drive_on(rt, server, context, key, replies) && is_well;
         }

@@ -9,6 +9,7 @@ use pool::{Answer, Connections, IoSeat, Look, Pool, Put, ReplyBytes, Seat, Share
 use server_parts::{FreeSeats, Moments, Notifier, Parking, Rounds, Seats, moment_of};
 use server_replies::Connection;
 use std::alloc::{AllocError, Global};
+use std::sync::atomic::AtomicU64;
 use std::sync::ledger::Ledger;
 use std::sync::{Arc, Mutex, Wait};
 use std::time::Clock;
@@ -36,6 +37,8 @@ pub struct Synchronization<L: Ledger> {
     pub moments: Mutex<Moments>,
     // Who drives seats takes it for the steps that it makes in a row.
     pub scheduler: Mutex<()>,
+    // How many blocks were logged since the installer was last told not to wait.
+    pub logged: AtomicU64,
 }
 
 impl<L: Ledger> Synchronization<L> {
@@ -55,6 +58,7 @@ impl<L: Ledger> Synchronization<L> {
             open: Mutex::new(Connections::new(alloc)),
             moments: Mutex::new(Moments::new()),
             scheduler: Mutex::new(()),
+            logged: AtomicU64::new(0),
         })
     }
 
@@ -142,10 +146,10 @@ impl<L: Ledger, G: Whole, I: Whole, P: Port, S> ServerState<L, G, I, P, S> {
         }
     }
 
-    /// Wakes the logger, where a commit waits for it, and the installer, where many are kept. True where so many
-    /// are that who has committed waits until some of them are home.
-    pub fn tell_of_commit<R: Wait>(&self, rt: &R, look: Look) -> bool {
-        if !look.is_settled {
+    /// Wakes the logger, where a commit waits for it that who calls doesn't log, and the installer, where many are
+    /// kept. True where so many are that who has committed waits until some of them are home.
+    pub fn tell_of_commit<R: Wait>(&self, rt: &R, look: Look, logs: bool) -> bool {
+        if !look.is_settled && !logs {
             self.sync.to_log.notify(rt);
         }
         if look.kept > URGENT_COMMITS {
