@@ -30,7 +30,12 @@ fn opened(alloc: Global, start: u32) -> Result<Wal, Fail> {
 }
 
 // A group that changes so many blocks from a home on, each to a block that begins with the byte.
-fn group(alloc: Global, first: u8, count: u16, byte: u8) -> Result<Vec<(BlockNo, SharedBlock)>, Fail>
+fn group(
+    alloc: Global,
+    first: u8,
+    count: u16,
+    byte: u8,
+) -> Result<Vec<(BlockNo, SharedBlock)>, Fail>
     requires { count < 1024 }
     ensures homes { IfOk result (λ group. All (IsHomeOn BLOCKS) (blocks_of group.items)) }
     ensures once { IfOk result (λ group. AreOnce (blocks_of group.items)) }

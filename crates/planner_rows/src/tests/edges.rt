@@ -66,12 +66,18 @@ const SERVER: NewAttributes = NewAttributes {
 };
 
 const CLIENT: NewAttributes = NewAttributes {
-    atime: SetTime::Client(Moment { seconds: 1, nanoseconds: 2 }),
+    atime: SetTime::Client(Moment {
+        seconds: 1,
+        nanoseconds: 2,
+    }),
     ..UNSET
 };
 
 const NO_TIME: NewAttributes = NewAttributes {
-    mtime: SetTime::Client(Moment { seconds: 1, nanoseconds: 1_000_000_000 }),
+    mtime: SetTime::Client(Moment {
+        seconds: 1,
+        nanoseconds: 1_000_000_000,
+    }),
     ..UNSET
 };
 
@@ -95,11 +101,17 @@ const ROWS: &[Row] = &[
     Row::As(7, Asked::Create(OPEN, b"d", CreateHow::Unchecked(MINE))),
     Row::As(7, Asked::Create(OPEN, b"e", CreateHow::Unchecked(OTHERS))),
     Row::As(7, Asked::Create(OPEN, b"f", CreateHow::Guarded(GROUP))),
-    Row::As(7, Asked::Create(OPEN, b"g", CreateHow::Guarded(OTHER_GROUP))),
+    Row::As(
+        7,
+        Asked::Create(OPEN, b"g", CreateHow::Guarded(OTHER_GROUP)),
+    ),
     Row::As(7, Asked::Create(OPEN, b"h", CreateHow::Unchecked(SIZED))),
     Row::As(7, Asked::Create(OPEN, b"i", CreateHow::Unchecked(NONE))),
     Row::As(7, Asked::Create(OPEN, b"j", CreateHow::Unchecked(LARGEST))),
-    Row::As(7, Asked::Create(OPEN, b"k", CreateHow::Unchecked(TOO_LARGE))),
+    Row::As(
+        7,
+        Asked::Create(OPEN, b"k", CreateHow::Unchecked(TOO_LARGE)),
+    ),
     Row::As(7, Asked::Create(OPEN, b"l", CreateHow::Unchecked(SERVER))),
     Row::As(7, Asked::Create(OPEN, b"m", CreateHow::Unchecked(CLIENT))),
     Row::As(7, Asked::Create(OPEN, b"n", CreateHow::Unchecked(NO_TIME))),
