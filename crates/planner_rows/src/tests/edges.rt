@@ -1,13 +1,19 @@
-//! Edges.
+//! Calls behind the search for their name that a run has to decide: by callers who may not, with attributes that not
+//! everyone may give, of names that can't be made or taken away, and of files of another kind; in a directory with an
+//! indirect block; and where no number is free.
 use crate::tests::lives::{PLAIN, Row, first_unlike};
 use limits::LEAST_BLOCKS;
 use nfs_types::{CreateHow, Moment, NewAttributes, SetTime, Verifier};
 use std::test::Fail;
 use worked::procedures::{Asked, File, ONES, ROOT, UNSET, ZEROS};
 
+// The directories of the first two rows: one that only its owner may change, and one that everybody may.
+
 const CLOSED: File = File(2, 1, 1);
 
 const OPEN: File = File(3, 1, 2);
+
+// What new files are to have, by a caller of number and group 7.
 
 const ALL: NewAttributes = NewAttributes {
     mode: Some(511),
@@ -163,9 +169,9 @@ const ROWS: &[Row] = &[
     Row::Asks(Asked::RmDir(ROOT, b"t")),
 ];
 
-const FIRST: File = File(2, 1, 1);
+// What the first rows of the other two lists make.
 
-const FILE: File = File(3, 1, 2);
+const FIRST: File = File(2, 1, 1);
 
 // A directory with an indirect block.
 const WIDE: &[Row] = &[

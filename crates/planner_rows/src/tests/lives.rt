@@ -30,8 +30,9 @@ const STARTS: [u32; 3] = [0, 3, 8];
 
 /// A row: a call of the superuser; the second file's links in a directory, or files that are made in the first one, at
 /// the names of a first byte and each second byte from one on and below an end; so many bytes that a file gets at each
-/// of these offsets; sizes that it gets, one behind the other; or none of the blocks is free from then on that have a
-/// bit in a piece of the bitmap.
+/// of these offsets; sizes that it gets, one behind the other; none of the blocks is free from then on that have a
+/// bit in a piece of the bitmap; a call of another caller; or a directory's names of a first byte and such second
+/// bytes are taken away.
 pub(crate) enum Row<'a> {
     Asks(Asked<'a>),
     Links(File, u8, u8, u8),
@@ -172,7 +173,7 @@ fn formatted(alloc: Global, blocks: u32) -> Result<MemDisk, Fail> {
     Ok(disk)
 }
 
-// The superuser's context in the first boot.
+// The context in the first boot of a caller of this number, which his group has too.
 fn context(alloc: Global, uid: u32, transaction: u64) -> Ctx
     ensures { SoundTime result.moment }
 {
@@ -234,6 +235,7 @@ fn goes_alike(
     goes_alike_as(alloc, disk, 0, transaction, asked)
 }
 
+// The same of a call by a caller of this number.
 fn goes_alike_as(
     alloc: Global,
     disk: &mut MemDisk,
@@ -260,8 +262,44 @@ fn take_all(alloc: Global, disk: &mut MemDisk, piece: u32) -> Result<(), Fail> {
     Ok(())
 }
 
-// The same for WRITEs of so many bytes of a file at these offsets, of which the first has this number. The number of the
-// next, where all were alike.
+// The same, with the number of the next call, where it goes alike.
+fn next_behind(
+    alloc: Global,
+    disk: &mut MemDisk,
+    uid: u32,
+    transaction: u64,
+    asked: &Asked,
+) -> Result<Option<u64>, Fail> {
+    if goes_alike_as(alloc, disk, uid, transaction, asked)? {
+        Ok(Some(transaction.saturating_add(1)))
+    } else {
+        Ok(None)
+    }
+}
+
+// The same for REMOVEs of a directory's names of a first byte and each second byte from one on and below an end. The
+// first has this number. The number of the next, where all were alike.
+fn removes_go_alike(
+    alloc: Global,
+    disk: &mut MemDisk,
+    transaction: u64,
+    directory: File,
+    first: u8,
+    from: u8,
+    end: u8,
+) -> Result<Option<u64>, Fail> {
+    let mut next = transaction;
+    for second in from..end {
+        let asked = Asked::Remove(directory, &[first, second]);
+        if !goes_alike(alloc, disk, next, &asked)? {
+            return Ok(None);
+        }
+        next = next.saturating_add(1);
+    }
+    Ok(Some(next))
+}
+
+// The same for WRITEs of so many bytes of a file at these offsets.
 fn writes_go_alike(
     alloc: Global,
     disk: &mut MemDisk,
@@ -312,12 +350,8 @@ fn row_goes_alike(
 ) -> Result<Option<u64>, Fail> {
     let mut next = transaction;
     match *row {
-        Row::Asks(ref asked) => {
-            if !goes_alike(alloc, disk, next, asked)? {
-                return Ok(None);
-            }
-            next = next.saturating_add(1);
-        }
+        Row::Asks(ref asked) => return next_behind(alloc, disk, 0, next, asked),
+        Row::As(uid, ref asked) => return next_behind(alloc, disk, uid, next, asked),
         Row::Links(directory, first, from, end) => {
             for second in from..end {
                 let asked = Asked::Link(FILE, directory, &[first, second]);
@@ -341,20 +375,8 @@ fn row_goes_alike(
         }
         Row::Sizes(file, sizes) => return sizes_go_alike(alloc, disk, next, file, sizes),
         Row::Takes(piece) => take_all(alloc, disk, piece)?,
-        Row::As(uid, ref asked) => {
-            if !goes_alike_as(alloc, disk, uid, next, asked)? {
-                return Ok(None);
-            }
-            next = next.saturating_add(1);
-        }
         Row::RemovesAll(directory, first, from, end) => {
-            for second in from..end {
-                let asked = Asked::Remove(directory, &[first, second]);
-                if !goes_alike(alloc, disk, next, &asked)? {
-                    return Ok(None);
-                }
-                next = next.saturating_add(1);
-            }
+            return removes_go_alike(alloc, disk, next, directory, first, from, end);
         }
     }
     Ok(Some(next))
