@@ -1,11 +1,7 @@
 -- Contents that are blocks.
-use Rattle.std.specs.Prelude.{◌≡◌, ℕ, ◌<◌, ◌≤◌, List, length, get_or, All}
-use Rattle.limits.specs.declared.TheConstants.{BLOCK_BYTES}
+use Rattle.std.specs.Prelude.{◌≡◌, ℕ, ◌<◌, ◌≤◌, List, length, All}
 use Rattle.disk.specs.Device.{Content, Device}
-
--- 4,096 bytes
-abbrev pub IsBlock : Content → Type 0
-IsBlock content = (length content ≡ BLOCK_BYTES) × ((index : ℕ) → get_or content index 0 < 256)
+pub use Rattle.buffers.specs.Blocks.{IsBlock}
 
 -- what a crash may leave of a block: there is a content, and each of them is a block
 abbrev pub AreContents : List Content → Type 0

@@ -89,7 +89,10 @@ impl<F: BlockFile> NotedFile<F> {
             × (self.new.calls.items ≡ self.old.calls.items ++ (FileCall.Read offset bytes, result) ∷ []) }
         ensures file { self.new.file ≡ self.old.file }
     {
-        let result = out.fill(&self.file, offset).or(Err(Failed));
+        let result = self
+            .file
+            .read_exact_at(out.as_mut_slice(), offset)
+            .or(Err(Failed));
         out.whole();
         self.note(&FileCall::Read(offset, Snapshot::of(out)), &result);
         result

@@ -14,10 +14,10 @@ mod mem_disk;
 mod mem_ports;
 mod ports;
 mod room;
-mod shared_block;
 mod threaded_disk;
 
-pub use block::{Block, BlockNo, Side};
+pub use block::{BlockNo, Side};
+pub use buffers::{Block, SharedBlock};
 pub use device::{CrashDisk, Failed};
 pub use file::ports::{FilePort, FileSource};
 pub use file::{BlockFile, FileCall, FirstContents, open_locked};
@@ -31,5 +31,4 @@ pub use laws::{
 pub use mem_disk::MemDisk;
 pub use mem_ports::{MemPort, MemSource};
 pub use ports::{Port, PortCall, Source, Splits};
-pub use shared_block::SharedBlock;
 pub use threaded_disk::ThreadedDisk;

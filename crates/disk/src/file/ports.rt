@@ -168,7 +168,9 @@ impl<F: BlockFile> FileSource<F> {
         if block.0 >= self.blocks || block.side() != Side::Home {
             return Err(Failed);
         }
-        out.fill(&*self.file, offset(block)).or(Err(Failed))
+        self.file
+            .read_exact_at(out.as_mut_slice(), offset(block))
+            .or(Err(Failed))
     }
 }
 
