@@ -8,7 +8,7 @@ use crate::space::{blocks_left, is_room_for, numbers_left};
 use files::{Entry, Files, Head, SlotName};
 use inode::{Snap, Stop, held};
 use name_search::Names;
-use nfs_types::Octets;
+use nfs_types::{Octets, Pieces};
 use std::alloc::Global;
 
 /// The files on the blocks that were read so far, and what is known of names in their directories.
@@ -105,10 +105,10 @@ impl<'a> Files for BlockFiles<'a> {
         }
     }
 
-    fn bytes(&self, alloc: Global, file: &Head, offset: u64, count: u32) -> Result<Octets, Stop> {
+    fn bytes(&self, alloc: Global, file: &Head, offset: u64, count: u32) -> Result<Pieces, Stop> {
         match held(self.snap, file.number)? {
-            Some(inode) => Ok(Octets::new(bytes_from(alloc, self.snap, &inode, offset, count)?)),
-            None => Ok(Octets::new(Vec::new(alloc))),
+            Some(inode) => bytes_from(alloc, self.snap, &inode, offset, count),
+            None => Ok(Pieces::new(alloc)),
         }
     }
 

@@ -24,7 +24,7 @@ use inode::{Snap, Stop, piece, target};
 use layout::{Inode, InodeKind};
 use limits::TRANSFER_BYTES;
 use name_search::Names;
-use nfs_types::Octets;
+use nfs_types::Pieces;
 use std::alloc::Global;
 
 // What a name leads to in the directory of a number: by what is known of these names, if there are any.
@@ -134,18 +134,18 @@ pub(crate) fn bytes_from(
     inode: &Inode,
     offset: u64,
     count: u32,
-) -> Result<Vec<u8>, Stop>
+) -> Result<Pieces, Stop>
     ensures ok { IfOk result (λ bytes. (blocks : Image) (tree : Tree) (file : ℕ)
         → HasInode snap.now blocks tree file inode.now
-        → bytes.items ≡ piece offset count (bytes_of (body_in snap.now.geometry blocks inode.now))) }
+        → bytes ≡ piece offset count (bytes_of (body_in snap.now.geometry blocks inode.now))) }
     ensures err { IfErr result (λ stop. MayStop snap.now stop) }
     ensures pause { IfErr result (λ stop. (blocks : Image) (tree : Tree) (file : ℕ)
         → HasInode snap.now blocks tree file inode.now → IsPause stop) }
 {
     match inode.kind {
         InodeKind::Regular => piece(alloc, snap, inode, offset, at_most(count)),
-        InodeKind::Directory => Ok(Vec::new(alloc)),
-        InodeKind::Link => Ok(Vec::new(alloc)),
+        InodeKind::Directory => Ok(Pieces::new(alloc)),
+        InodeKind::Link => Ok(Pieces::new(alloc)),
     }
 }
 

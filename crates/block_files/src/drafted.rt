@@ -7,7 +7,7 @@ use crate::BlockFiles;
 use drafts::Draft;
 use files::{Entry, Files, Head, SlotName};
 use inode::Stop;
-use nfs_types::Octets;
+use nfs_types::{Octets, Pieces};
 use std::alloc::Global;
 
 /// The files on the blocks that were read so far, with what was written over them.
@@ -94,7 +94,7 @@ impl<'a> Files for DraftFiles<'a> {
         self.now().next_name(alloc, directory, from)
     }
 
-    fn bytes(&self, alloc: Global, file: &Head, offset: u64, count: u32) -> Result<Octets, Stop> {
+    fn bytes(&self, alloc: Global, file: &Head, offset: u64, count: u32) -> Result<Pieces, Stop> {
         self.now().bytes(alloc, file, offset, count)
     }
 

@@ -101,12 +101,30 @@ impl<'a> Draft<'a> {
         ensures err { IfErr result (λ stop. MayStop self.old.seen stop) }
         ensures pause { IfErr result (λ stop. IsPause stop) }
     {
+        self.put_shared(addr, SharedBytes::new(bytes)?)
+    }
+
+    /// The same of bytes that are shared.
+    pub fn put_shared(&mut self, addr: Addr, bytes: SharedBytes) -> Result<(), Stop>
+        requires len { length bytes ≡ addr.len }
+        requires object { IsObject self.old.there.geometry addr }
+        ensures shows { OnOk result ((image : Image) → Shows self.old image
+            → Shows self.new (with_bytes image addr.block.0 addr.offset bytes)) }
+        ensures image { OnOk result ((blocks : Image) → image_of blocks self.new
+            ≡ with_bytes (image_of blocks self.old) addr.block.0 addr.offset bytes) }
+        ensures seen { self.new.seen ≡ self.old.seen }
+        ensures geometry { self.new.there.geometry ≡ self.old.there.geometry }
+        ensures spent { spent self.new ≤ spent self.old + cond (nat_eq addr.len PIECE_BYTES) 0 1 }
+        ensures once { spent self.new + fresh addr.block.0 addr.offset addr.len self.new
+            ≤ spent self.old + fresh addr.block.0 addr.offset addr.len self.old }
+        ensures stays { (block offset len : ℕ) → fresh block offset len self.new ≤ fresh block offset len self.old }
+        ensures err { IfErr result (λ stop. MayStop self.old.seen stop) }
+        ensures pause { IfErr result (λ stop. IsPause stop) }
+    {
         if !is_given(self.seen, addr) {
             return Err(Stop::Need(addr, Mode::Exclusive));
         }
-        let alloc = *bytes.allocator();
-        let shared = SharedBytes::new(alloc, bytes)?;
-        let object = Object::new(addr, shared);
+        let object = Object::new(addr, bytes);
         let copy = object.clone()?;
         make_room(&mut self.there)?;
         match self.written.push(object) {

@@ -11,12 +11,12 @@ ghost use Rattle.layout.specs.Places.{is_data};
 ghost use Rattle.inode.specs.Over.{IsOver, IsPause, MayStop};
 ghost use Rattle.drafts.specs.Drafted.{Shows, fresh, fresh_block, image_of, spent};
 
-use disk::BlockNo;
+use disk::{Block, BlockNo, SharedBlock};
 use drafts::Draft;
 use inode::{Snap, Stop, data_block};
 use layout_records::with_piece;
 use limits::BLOCK_BYTES;
-use objects::Addr;
+use objects::{Addr, SharedBytes};
 use std::alloc::{AllocError, Global};
 
 // The bytes that take the place of all that a block has. It is claimed where it wasn't read.
@@ -72,7 +72,18 @@ pub(crate) fn filled(
     Ok(with_piece(alloc, bytes, from, piece)?)
 }
 
-/// Writes a data block.
+// The bytes of a block, shared.
+fn shared(bytes: Vec<u8>) -> Result<SharedBytes, AllocError>
+    requires { length bytes.items ≡ BLOCK_BYTES }
+    ensures is { IfOk result (λ block. block ≡ bytes.items) }
+    ensures len { IfOk result (λ block. length block ≡ BLOCK_BYTES) }
+{
+    let alloc = *bytes.allocator();
+    let block = SharedBlock::new(alloc, Block::from_vec(bytes))?;
+    SharedBytes::of_whole(&block)
+}
+
+/// Writes a data block. None of its bytes is copied.
 pub fn put_block(draft: &mut Draft, number: u32, bytes: Vec<u8>) -> Result<(), Stop>
     requires lies { is_data draft.old.there.geometry number ≡ true }
     requires len { length bytes.items ≡ BLOCK_BYTES }
@@ -88,5 +99,9 @@ pub fn put_block(draft: &mut Draft, number: u32, bytes: Vec<u8>) -> Result<(), S
     ensures err { IfErr result (λ stop. MayStop draft.old.seen stop) }
     ensures pause { IfErr result (λ stop. IsPause stop) }
 {
-    draft.put(Addr::whole(BlockNo(number)), bytes)
+    let whole = Addr::whole(BlockNo(number));
+    match shared(bytes) {
+        Ok(block) => draft.put_shared(whole, block),
+        Err(_) => Err(Stop::NoMemory),
+    }
 }

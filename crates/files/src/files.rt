@@ -14,7 +14,7 @@ ghost use Rattle.procedures.specs.ReadLink.{target_of};
 ghost use Rattle.files.specs.Heads.{IsFileAt, IsFileIn, IsNextName, entry_of};
 
 use crate::{Entry, Head, SlotName};
-use nfs_types::Octets;
+use nfs_types::{Octets, Pieces};
 use std::alloc::{AllocError, Global};
 
 /// The files of a server, wherever they lie. An operation may stop before its end.
@@ -94,7 +94,7 @@ pub trait Files: Drop {
         file: &Head,
         offset: u64,
         count: u32,
-    ) -> Result<Octets, Self::Stop>
+    ) -> Result<Pieces, Self::Stop>
         ensures err { IfErr result (λ stop. may_stop (source self.now) stop) }
         ensures pause { IfErr result (λ stop. (world : World) (tree : Tree) → stands self.now world tree
             → is_pause stop) }

@@ -9,10 +9,11 @@ ghost use Rattle.objects.specs.Present.{present_of, content_in};
 ghost use Rattle.objects.specs.Spliced.{spliced};
 ghost use Rattle.std.specs.Option.{unwrap_or};
 
+use crate::laid_block::LaidBlock;
 use arrayvec::ArrayVec;
 use disk::{Block, BlockNo, SharedBlock};
 use limits::{BLOCK_BYTES, CHANGED_BLOCKS};
-use objects::{Object, Residency, splice};
+use objects::{Object, Residency};
 use std::alloc::{AllocError, Global};
 use wal::Wal;
 
@@ -72,20 +73,16 @@ fn laid_over(
     alloc: Global,
     present: &Residency,
     wal: &Wal,
-    made: Option<Block>,
+    made: Option<LaidBlock>,
     object: &Object,
-) -> Result<Block, AllocError>
+) -> Result<LaidBlock, AllocError>
     ensures { IfOk result (λ content. content ≡ spliced (unwrap_or made
         (base_in (content_in (present_of present.now.blocks object.now.addr.block))
         (newest wal.now object.now.addr.block.0)))
         object.now.addr.offset object.now.bytes) }
 {
     match made {
-        Some(content) => {
-            let mut content = content;
-            splice(&mut content, object);
-            Ok(content)
-        }
+        Some(content) => content.with(alloc, object),
         None => laid_first(alloc, present, wal, object),
     }
 }
@@ -97,7 +94,7 @@ fn laid_first(
     present: &Residency,
     wal: &Wal,
     object: &Object,
-) -> Result<Block, AllocError>
+) -> Result<LaidBlock, AllocError>
     ensures { IfOk result (λ content. content ≡ spliced
         (base_in (content_in (present_of present.now.blocks object.now.addr.block))
         (newest wal.now object.now.addr.block.0))
@@ -107,11 +104,20 @@ fn laid_first(
     let base = base_of(present, wal, addr.block);
     let bytes = object.bytes();
     if bytes.len() == BLOCK_BYTES {
-        return Block::from_slice(alloc, bytes);
+        return all_of(alloc, object);
     }
-    let mut content = copied(alloc, base)?;
-    splice(&mut content, object);
-    Ok(content)
+    LaidBlock::own(copied(alloc, base)?).with(alloc, object)
+}
+
+// An object that is a whole block: by pointer, where its bytes are those of a shared block.
+fn all_of(alloc: Global, object: &Object) -> Result<LaidBlock, AllocError>
+    requires { length object.now.bytes ≡ BLOCK_BYTES }
+    ensures { IfOk result (λ content. content ≡ object.now.bytes) }
+{
+    match object.whole() {
+        Some(block) => Ok(LaidBlock::shared(block.clone()?)),
+        None => Ok(LaidBlock::own(Block::from_slice(alloc, object.bytes())?)),
+    }
 }
 
 // A block of one owner again, or zeros.
@@ -132,7 +138,7 @@ fn content_with(
     wal: &Wal,
     block: BlockNo,
     objects: &[Object],
-) -> Result<Block, AllocError>
+) -> Result<SharedBlock, AllocError>
     ensures { IfOk result (λ content. IsLaid present.now.blocks wal.now objects.now (block, content)) }
 {
     let mut made = None;
@@ -143,8 +149,8 @@ fn content_with(
         }
     }
     match made {
-        Some(content) => Ok(content),
-        None => copied(alloc, base_of(present, wal, block)),
+        Some(content) => content.into_shared(alloc),
+        None => Ok(SharedBlock::new(alloc, copied(alloc, base_of(present, wal, block))?)?),
     }
 }
 
@@ -162,7 +168,7 @@ pub fn group_of(
 {
     let mut group = Vec::with_capacity(alloc, blocks.len())?;
     for block in blocks {
-        let content = SharedBlock::new(alloc, content_with(alloc, present, wal, *block, objects)?)?;
+        let content = content_with(alloc, present, wal, *block, objects)?;
         let _ = content.as_slice();
         group.push((*block, content))?;
     }

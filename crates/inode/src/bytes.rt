@@ -11,45 +11,37 @@ ghost use Rattle.layout.specs.Parts.{content_in};
 ghost use Rattle.inode.specs.Asked.{IsBlockAddr, IsNeededAt, IsNeededBetween, IsStopFor, MayStopFor};
 ghost use Rattle.inode.specs.Over.{HasInode, IsOver, IsPause, MayStop, all_bytes};
 
-use crate::map::{block_number, data_block};
+use crate::map::{block_number, data_block, data_object};
 use crate::snap::Snap;
 use crate::stop::Stop;
+use buffers::{Pieces, SharedOctets};
 use layout::Inode;
 use limits::{BLOCK_BYTES, LARGEST_FILE, TARGET_BYTES};
 use std::alloc::{AllocError, Global};
 
-// Adds a part of these bytes.
-fn add_part(bytes: &[u8], from: usize, len: usize, out: &mut Vec<u8>) -> Result<(), AllocError>
-    requires { from + len ≤ length bytes.now }
-    ensures { OnOk result (out.new.items ≡ out.old.items ++ take len (drop from bytes.now)) }
-{
-    out.extend_from_slice(&bytes[from..from + len])
-}
-
-// Adds a piece of the block of a number: zeros where there is none.
-fn add_piece(
+// A piece of the block of a number: zeros where there is none. The bytes of a block that was read aren't copied.
+fn block_part(
+    alloc: Global,
     snap: &Snap,
     number: u32,
     from: usize,
     len: usize,
-    out: &mut Vec<u8>,
-) -> Result<(), Stop>
+) -> Result<SharedOctets, Stop>
     requires placed { is_data_block_or_none snap.now.geometry number ≡ true }
     requires within { from + len ≤ BLOCK_BYTES }
-    ensures ok { OnOk result ((blocks : Image) (tree : Tree) → IsOver snap.now blocks tree
-        → out.new.items ≡ out.old.items
-        ++ take len (drop from (content_of (content_in snap.now.geometry blocks) number))) }
+    ensures ok { IfOk result (λ part. (blocks : Image) (tree : Tree) → IsOver snap.now blocks tree
+        → part ≡ take len (drop from (content_of (content_in snap.now.geometry blocks) number))) }
     ensures err { IfErr result (λ stop. MayStop snap.now stop) }
     ensures asks { IfErr result (λ stop. MayStopFor (IsBlockAddr number) stop) }
     ensures pause { IfErr result (λ stop. IsPause stop) }
 {
     if number == 0 {
-        add_part(&[0; BLOCK_BYTES], from, len, out)?;
-        return Ok(());
+        let zeros = SharedOctets::copied(alloc, &[0; BLOCK_BYTES][from..from + len])?;
+        return Ok(zeros);
     }
-    let bytes = data_block(snap, number)?;
-    add_part(bytes, from, len, out)?;
-    Ok(())
+    let object = data_object(snap, number)?;
+    let part = object.part(from, len)?;
+    Ok(part)
 }
 
 // How many bytes from a place on lie in its block, before the end.
@@ -65,6 +57,14 @@ fn piece_len(at: u64, end: u64) -> usize
     } else {
         room
     }
+}
+
+// No fewer blocks than those that have bytes of a file from one place to another.
+fn blocks_between(start: u64, end: u64) -> usize
+    requires order { start ≤ end }
+    requires small { end ≤ LARGEST_FILE }
+{
+    (end / BLOCK_BYTES as u64 - start / BLOCK_BYTES as u64) as usize + 1
 }
 
 /// Asks for the block at an index of a file, if it has one.
@@ -105,25 +105,26 @@ fn bytes_between(
     inode: &Inode,
     start: u64,
     end: u64,
-) -> Result<Vec<u8>, Stop>
+) -> Result<Pieces, Stop>
     requires order { start ≤ end }
     requires small { end ≤ LARGEST_FILE }
     ensures ok { IfOk result (λ bytes. (blocks : Image) (tree : Tree) (file : ℕ)
         → HasInode snap.now blocks tree file inode.now
-        → bytes.items ≡ take (end - start) (drop start (all_bytes snap.now.geometry blocks inode.now))) }
+        → bytes ≡ take (end - start) (drop start (all_bytes snap.now.geometry blocks inode.now))) }
     ensures err { IfErr result (λ stop. MayStop snap.now stop) }
     ensures asks { IfErr result (λ stop. MayStopFor (IsNeededBetween snap.now inode.now start end) stop) }
     ensures pause { IfErr result (λ stop. (blocks : Image) (tree : Tree) (file : ℕ)
         → HasInode snap.now blocks tree file inode.now → IsPause stop) }
 {
     ask_between(snap, inode, start, end)?;
-    let mut bytes = Vec::with_capacity(alloc, (end - start) as usize)?;
+    let mut bytes = Pieces::with_room(alloc, blocks_between(start, end))?;
     let mut at = start;
     'pieces: while at < end {
         let len = piece_len(at, end);
         let number = block_number(snap, inode, (at / BLOCK_BYTES as u64) as usize)?;
         let from = (at % BLOCK_BYTES as u64) as usize;
-        add_piece(snap, number, from, len, &mut bytes)?;
+        let part = block_part(alloc, snap, number, from, len)?;
+        bytes.push(part)?;
         at += len as u64;
     }
     Ok(bytes)
@@ -136,9 +137,9 @@ pub fn piece(
     inode: &Inode,
     offset: u64,
     count: u32,
-) -> Result<Vec<u8>, Stop>
+) -> Result<Pieces, Stop>
     ensures ok { IfOk result (λ bytes. (blocks : Image) (tree : Tree) (file : ℕ)
-        → HasInode snap.now blocks tree file inode.now → bytes.items
+        → HasInode snap.now blocks tree file inode.now → bytes
         ≡ take count (drop offset (take inode.now.size (all_bytes snap.now.geometry blocks inode.now)))) }
     ensures err { IfErr result (λ stop. MayStop snap.now stop) }
     ensures asks { IfErr result (λ stop. MayStopFor
@@ -150,7 +151,7 @@ pub fn piece(
         return Err(Stop::Io);
     }
     if offset >= inode.size {
-        return Ok(Vec::new(alloc));
+        return Ok(Pieces::new(alloc));
     }
     let rest = inode.size - offset;
     if rest < count as u64 {
@@ -165,13 +166,13 @@ fn first_bytes(alloc: Global, snap: &Snap, number: u32, len: usize) -> Result<Ve
     requires placed { is_data_block_or_none snap.now.geometry number ≡ true }
     requires within { len ≤ BLOCK_BYTES }
     ensures ok { IfOk result (λ bytes. (blocks : Image) (tree : Tree) → IsOver snap.now blocks tree
-        → bytes.items ≡ [] ++ take len (drop 0 (content_of (content_in snap.now.geometry blocks) number))) }
+        → bytes.items ≡ take len (drop 0 (content_of (content_in snap.now.geometry blocks) number))) }
     ensures err { IfErr result (λ stop. MayStop snap.now stop) }
     ensures asks { IfErr result (λ stop. MayStopFor (IsBlockAddr number) stop) }
     ensures pause { IfErr result (λ stop. IsPause stop) }
 {
-    let mut bytes = Vec::new(alloc);
-    add_piece(snap, number, 0, len, &mut bytes)?;
+    let part = block_part(alloc, snap, number, 0, len)?;
+    let bytes = Vec::from_slice(alloc, part.as_slice())?;
     Ok(bytes)
 }
 

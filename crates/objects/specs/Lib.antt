@@ -3,7 +3,6 @@ pub mod Numbers
 pub mod Counted
 pub mod Mode
 pub mod Spliced
-pub mod Shared
 pub mod Object
 pub mod Present
 pub mod Pins

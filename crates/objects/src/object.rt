@@ -1,10 +1,11 @@
 //! Objects: parts of blocks with their bytes.
-ghost use Rattle.std.specs.Prelude.{◌≡◌, IfSome, length};
+ghost use Rattle.std.specs.Prelude.{◌≡◌, ◌+◌, ◌≤◌, IfOk, IfSome, length, take, drop};
 ghost use Rattle.limits.specs.declared.TheConstants.{BLOCK_BYTES};
 ghost use Rattle.objects.specs.Counted.{IsCountedIn};
 ghost use Rattle.objects.specs.declared.addr.Addr.{Addr as Address};
 
 use crate::{Addr, Counted, SharedBytes};
+use buffers::SharedOctets;
 use disk::SharedBlock;
 use std::alloc::AllocError;
 use std::marker::Model;
@@ -57,6 +58,14 @@ impl Object {
         ensures { IfSome result (λ block. block.now ≡ self.now.bytes) }
     {
         self.bytes.whole()
+    }
+
+    /// So many of its bytes, from one on. None of them is copied.
+    pub fn part(&self, from: usize, len: usize) -> Result<SharedOctets, AllocError>
+        requires { from + len ≤ self.now.addr.len }
+        ensures { IfOk result (λ part. part ≡ take len (drop from self.now.bytes)) }
+    {
+        self.bytes.part(from, len)
     }
 
     /// What the numbers of a whole block count to.

@@ -13,7 +13,7 @@ pub fn extract(alloc: Global, content: &Block, addr: Addr) -> Result<SharedBytes
     ensures bytes { IfOk result (λ bytes. bytes ≡ extracted content.now addr.offset addr.len) }
     ensures len { IfOk result (λ bytes. length bytes ≡ addr.len) }
 {
-    SharedBytes::new(alloc, copied(alloc, content.as_slice(), addr)?)
+    SharedBytes::new(copied(alloc, content.as_slice(), addr)?)
 }
 
 /// Lays an object's bytes into a block at its address. Extracted again, there are just these; and what lies

@@ -1,70 +1,50 @@
 //! Bytes that are shared.
-ghost use Rattle.std.specs.Prelude.{◌≡◌, IfOk, IfSome, length};
+ghost use Rattle.std.specs.Prelude.{◌≡◌, ◌+◌, ◌≤◌, IfOk, IfSome, length, take, drop};
 ghost use Rattle.limits.specs.declared.TheConstants.{BLOCK_BYTES};
 ghost use Rattle.objects.specs.Counted.{IsCountedIn};
 ghost use Rattle.objects.specs.Spliced.{extracted};
 
 use crate::{Addr, Counted};
+use buffers::SharedOctets;
 use disk::SharedBlock;
 use limits::BLOCK_BYTES;
-use std::alloc::{AllocError, Global};
+use std::alloc::AllocError;
 use std::marker::Model;
-use std::sync::Arc;
 
-// What shared bytes are a part of: bytes that were made for them, or a block that is shared.
-#[derive(Drop)]
-pub(crate) enum Whole {
-    Made(Arc<Vec<u8>, Global>),
-    Block(SharedBlock),
-}
-
-impl Clone for Whole {
-    ghost use Rattle.objects.specs.Shared.{bytes_of};
-
-    ghost is_clone = { λ whole copy. bytes_of copy ≡ bytes_of whole };
-
-    fn clone(&self) -> Result<Whole, AllocError> {
-        match self {
-            Whole::Made(bytes) => Ok(Whole::Made(Arc::try_clone(bytes)?)),
-            Whole::Block(block) => Ok(Whole::Block(block.clone()?)),
-        }
-    }
-}
-
-/// Bytes that nobody changes any more, and of a whole block maybe what its numbers count to. They were made for it, or
-/// are a part of a shared block. A clone copies none of them.
+/// Bytes that nobody changes any more, and of a whole block maybe what its numbers count to. A clone copies none of them.
 #[derive(Drop)]
 pub struct SharedBytes {
-    whole: Whole,
-    offset: usize,
-    len: usize,
+    octets: SharedOctets,
     counted: Option<Counted>,
 }
 
 impl Model for SharedBytes {
-    ghost use Rattle.std.specs.Prelude.{ℕ, List};
+    ghost use Rattle.std.specs.Prelude.{ℕ, List, IfSome};
+    ghost use Rattle.objects.specs.Counted.{IsCountedIn};
 
     ghost Value = { List ℕ };
 
-    ghost use Rattle.objects.specs.Shared.{IsPartOf, part};
+    ghost view = { λ shared. shared.octets };
 
-    ghost view = { part };
-
-    ghost invariant = { IsPartOf };
+    ghost invariant = { λ shared. IfSome shared.counted (IsCountedIn shared.octets) };
 }
 
 impl SharedBytes {
     /// Shares these bytes.
-    pub fn new(alloc: Global, bytes: Vec<u8>) -> Result<SharedBytes, AllocError>
+    pub fn new(bytes: Vec<u8>) -> Result<SharedBytes, AllocError>
         ensures { IfOk result (λ shared. shared ≡ bytes.items) }
     {
-        let len = bytes.len();
-        Ok(SharedBytes {
-            whole: Whole::Made(Arc::new(alloc, bytes)?),
-            offset: 0,
-            len,
+        Ok(SharedBytes::of_octets(SharedOctets::new(bytes)?))
+    }
+
+    /// Bytes that are shared already.
+    pub fn of_octets(octets: SharedOctets) -> SharedBytes
+        ensures { result ≡ octets }
+    {
+        SharedBytes {
+            octets,
             counted: None,
-        })
+        }
     }
 
     /// The bytes at an address of a shared block. None of them is copied.
@@ -72,14 +52,18 @@ impl SharedBytes {
         ensures bytes { IfOk result (λ bytes. bytes ≡ extracted block.now addr.offset addr.len) }
         ensures len { IfOk result (λ bytes. length bytes ≡ addr.len) }
     {
-        let whole = block.clone()?;
-        let _ = whole.as_slice();
-        Ok(SharedBytes {
-            whole: Whole::Block(whole),
-            offset: addr.offset,
-            len: addr.len,
-            counted: None,
-        })
+        let octets = SharedOctets::of_block(block, addr.offset, addr.len)?;
+        Ok(SharedBytes::of_octets(octets))
+    }
+
+    /// The bytes of a whole block.
+    pub fn of_whole(block: &SharedBlock) -> Result<SharedBytes, AllocError>
+        ensures bytes { IfOk result (λ bytes. bytes ≡ block.now) }
+        ensures len { IfOk result (λ bytes. length bytes ≡ BLOCK_BYTES) }
+    {
+        let _ = block.as_slice();
+        let octets = SharedOctets::of_block(block, 0, BLOCK_BYTES)?;
+        Ok(SharedBytes::of_octets(octets))
     }
 
     /// The same bytes with what they count to.
@@ -88,9 +72,7 @@ impl SharedBytes {
         ensures { result ≡ self }
     {
         SharedBytes {
-            whole: self.whole,
-            offset: self.offset,
-            len: self.len,
+            octets: self.octets,
             counted: Some(counted),
         }
     }
@@ -99,24 +81,22 @@ impl SharedBytes {
     pub fn whole(&self) -> Option<&SharedBlock>
         ensures { IfSome result (λ block. block.now ≡ self.now) }
     {
-        match &self.whole {
-            Whole::Block(block) if self.len == BLOCK_BYTES => {
-                let _ = block.as_slice();
-                Some(block)
-            }
-            _ => None,
-        }
+        self.octets.whole()
+    }
+
+    /// So many of the bytes, from one on. None of them is copied.
+    pub fn part(&self, from: usize, len: usize) -> Result<SharedOctets, AllocError>
+        requires { from + len ≤ length self.now }
+        ensures { IfOk result (λ part. part ≡ take len (drop from self.now)) }
+    {
+        self.octets.part(from, len)
     }
 
     /// The bytes.
     pub fn as_slice(&self) -> &[u8]
         ensures { result.now ≡ self.now }
     {
-        let whole = match &self.whole {
-            Whole::Made(bytes) => bytes.as_slice(),
-            Whole::Block(block) => block.as_slice(),
-        };
-        &whole[self.offset..self.offset + self.len]
+        self.octets.as_slice()
     }
 
     /// What the numbers of a whole block count to. It is counted here where it wasn't known.
@@ -136,9 +116,7 @@ impl Clone for SharedBytes {
 
     fn clone(&self) -> Result<SharedBytes, AllocError> {
         Ok(SharedBytes {
-            whole: self.whole.clone()?,
-            offset: self.offset,
-            len: self.len,
+            octets: self.octets.clone()?,
             counted: self.counted,
         })
     }

@@ -93,7 +93,7 @@ fn objects(alloc: Global, told: &[(At, u8)]) -> Result<Vec<Object>, AllocError> 
 }
 
 fn object(alloc: Global, addr: Addr, byte: u8) -> Result<Object, AllocError> {
-    let bytes = SharedBytes::new(alloc, vec![in alloc; byte; addr.len]?)?;
+    let bytes = SharedBytes::new(vec![in alloc; byte; addr.len]?)?;
     Ok(Object::new(addr, bytes))
 }
 

@@ -7,7 +7,7 @@ pub returns-in-Regular-clause-ok : goal.returns-in-Regular-clause-ok
 returns-in-Regular-clause-ok c =
     IfOk-weaker c.piece.result _ _ (λ bytes is blocks tree file has.
     regular_bytes c.args.snap.now.geometry blocks c.args.inode.now c.args.offset c.args.count c.at_most.result
-    bytes.items c.in-Regular.is c.at_most.ensures (is blocks tree file has)) c.piece.ensures.ok
+    bytes c.in-Regular.is c.at_most.ensures (is blocks tree file has)) c.piece.ensures.ok
 
 pub returns-in-Regular-clause-pause : goal.returns-in-Regular-clause-pause
 returns-in-Regular-clause-pause c =
@@ -16,10 +16,10 @@ returns-in-Regular-clause-pause c =
 
 pub returns-in-Directory-clause-ok : goal.returns-in-Directory-clause-ok
 returns-in-Directory-clause-ok c = λ blocks tree file has.
-    c.new.ensures.items
+    c.new.ensures
     ∙ directory_bytes c.args.snap.now.geometry blocks c.args.inode.now c.args.offset c.args.count c.in-Directory.is
 
 pub returns-in-Link-clause-ok : goal.returns-in-Link-clause-ok
 returns-in-Link-clause-ok c = λ blocks tree file has.
-    c.new-in-Link.ensures.items
+    c.new-in-Link.ensures
     ∙ link_bytes c.args.snap.now.geometry blocks c.args.inode.now c.args.offset c.args.count c.in-Link.is

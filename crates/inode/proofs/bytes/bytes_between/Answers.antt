@@ -16,11 +16,12 @@ pieces-preserved c =
       omega (arith, order),
       omega (arith, end),
       λ blocks tree file has.
-          c.in_ok-add_piece.ensures.ok blocks tree has.over
+          c.in_ok-push.ensures.put
           ∙ grown c.args.start c.pieces.at c.piece_len-len.result
-          (all_bytes c.args.snap.now.geometry blocks c.args.inode.now) c.pieces.bytes.items _ order
+          (all_bytes c.args.snap.now.geometry blocks c.args.inode.now) c.pieces.bytes _ order
           (c.pieces.invariant.2 blocks tree file has)
-          (next_piece c.args.snap.now blocks tree file c.args.inode.now has c.in_ok-number.number c.pieces.at
+          (c.in_ok-part.ensures.ok blocks tree has.over
+          ∙ next_piece c.args.snap.now blocks tree file c.args.inode.now has c.in_ok-number.number c.pieces.at
           c.piece_len-len.result (omega (arith, more, small)) c.piece_len-len.ensures.within
           (c.in_ok-number.ensures.ok blocks tree file has)),
     )
@@ -51,12 +52,12 @@ returns-in_err-number-clause-asks c =
     (may_indirect_at c.args.snap.now c.args.inode.now (c.pieces.at / BLOCK_BYTES) c.in_err-number.field-0.0
     c.in_err-number.ensures.asks))
 
-pub returns-in_err-add_piece-clause-asks : goal.returns-in_err-add_piece-clause-asks
-returns-in_err-add_piece-clause-asks c =
+pub returns-in_err-part-clause-asks : goal.returns-in_err-part-clause-asks
+returns-in_err-part-clause-asks c =
     let from = c.pieces.invariant.0 in
     let below = c.pieces-test.true in
-    at_err c.from_residual-in_err-add_piece.result c.in_err-add_piece.field-0.0 _ (search rules)
+    at_err c.from_residual-in_err-part.result c.in_err-part.field-0.0 _ (search rules)
     (may_between c.args.snap.now c.args.inode.now (c.pieces.at / BLOCK_BYTES) c.args.start c.args.end
-    (omega (arith, from)) (omega (arith, below)) c.in_err-add_piece.field-0.0
+    (omega (arith, from)) (omega (arith, below)) c.in_err-part.field-0.0
     (may_mapped_at c.args.snap.now c.args.inode.now (c.pieces.at / BLOCK_BYTES) c.in_ok-number.number
-    c.in_ok-number.ensures.read c.in_err-add_piece.field-0.0 c.in_err-add_piece.ensures.asks))
+    c.in_ok-number.ensures.read c.in_err-part.field-0.0 c.in_err-part.ensures.asks))

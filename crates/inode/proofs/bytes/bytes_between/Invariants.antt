@@ -9,7 +9,7 @@ abbrev pub invariant-pieces : goal.invariant-pieces
 invariant-pieces l =
     (l.start ≤ l.at) × (l.at ≤ l.end)
     × ((blocks : Image) (tree : Tree) (file : ℕ) → HasInode l.snap blocks tree file l.inode
-    → l.bytes.items ≡ take (l.at - l.start) (drop l.start (all_bytes l.snap.geometry blocks l.inode)))
+    → l.bytes ≡ take (l.at - l.start) (drop l.start (all_bytes l.snap.geometry blocks l.inode)))
 
 abbrev pub decreases-pieces : goal.decreases-pieces
 decreases-pieces l = l.end - l.at

@@ -1,19 +1,20 @@
-use Rattle.std.proofs.Common.{rules, ap, ◌∙◌}
+use Rattle.std.proofs.Common.{ap, ◌∙◌}
+use Rattle.std.proofs.lemmas.Result.{IfErr-weaker, IfOk-weaker}
 use Rattle.procedures.specs.Read.{bytes_of, piece}
-use Rattle.dir.proofs.Passed.{at_err}
 use Rattle.block_files.proofs.Told.{same_body}
 use Rattle.block_files.proofs.asking.BlockFilesFiles.bytes.Goals as goal
 
-pub returns-in_err-bytes_from-in-Some-clause-pause : goal.returns-in_err-bytes_from-in-Some-clause-pause
-returns-in_err-bytes_from-in-Some-clause-pause c =
-    at_err c.from_residual-in_err-bytes_from-in-Some.result c.in_err-bytes_from-in-Some.field-0.0 _ (search rules)
-    (λ blocks tree over. c.in_err-bytes_from-in-Some.ensures.pause blocks tree c.args.file.now.number
-    (rw c.in-Some.is at (c.in_ok-inode.ensures.ok blocks tree over)).0)
+pub returns-in-Some-clause-pause : goal.returns-in-Some-clause-pause
+returns-in-Some-clause-pause c =
+    IfErr-weaker c.bytes_from.result _ _ (λ why pauses blocks tree over.
+    pauses blocks tree c.args.file.now.number (rw c.in-Some.is at (c.in_ok-inode.ensures.ok blocks tree over)).0)
+    c.bytes_from.ensures.pause
 
-pub returns-in_ok-bytes_from-in-Some-clause-ok : goal.returns-in_ok-bytes_from-in-Some-clause-ok
-returns-in_ok-bytes_from-in-Some-clause-ok c = λ blocks tree body over file.
+pub returns-in-Some-clause-ok : goal.returns-in-Some-clause-ok
+returns-in-Some-clause-ok c =
+    IfOk-weaker c.bytes_from.result _ _ (λ bytes is blocks tree body over file.
     let held = rw c.in-Some.is at (c.in_ok-inode.ensures.ok blocks tree over) in
-    let there = c.in_ok-bytes_from-in-Some.ensures.ok blocks tree c.args.file.now.number held.0
+    is blocks tree c.args.file.now.number held.0
     ∙ ap (λ one. piece c.args.offset c.args.count (bytes_of one))
-    (same_body c.args.self.now.snap.now blocks tree c.args.file.now body c.in-Some.inode held file) in
-    search (rules, there)
+    (same_body c.args.self.now.snap.now blocks tree c.args.file.now body c.in-Some.inode held file))
+    c.bytes_from.ensures.ok
