@@ -10,7 +10,7 @@ use crate::put::{
 use nfs_codec::{put_handle, put_stability, put_text, put_verifier};
 use nfs_types::{
     Call, CreateHow, DirectoryName, Handle, Moment, MountCall, NewAttributes, Octets, ProgramCall,
-    SpecialFile, Stability, Verifier,
+    SharedOctets, SpecialFile, Stability, Verifier,
 };
 use xdr::{Writer, XdrFault};
 
@@ -133,13 +133,14 @@ fn put_read(out: &mut Writer, file: &Handle, offset: u64, count: u32) -> Result<
     out.unsigned(count)
 }
 
+#[tactic(auto, unfolding(nfs_codec::specs::Items::text))]
 fn put_write(
     out: &mut Writer,
     file: &Handle,
     offset: u64,
     count: u32,
     stability: Stability,
-    bytes: &Octets,
+    bytes: &SharedOctets,
 ) -> Result<(), XdrFault>
     ensures { Writes codes.write result out.old out.new (file.now, (offset, (count, (stability, bytes.now)))) }
 {
@@ -147,7 +148,7 @@ fn put_write(
     out.hyper(offset)?;
     out.unsigned(count)?;
     put_stability(out, stability)?;
-    put_text(out, bytes)
+    out.opaque(bytes.as_slice())
 }
 
 fn put_create(out: &mut Writer, name: &DirectoryName, how: &CreateHow) -> Result<(), XdrFault>

@@ -6,12 +6,12 @@ ghost use Rattle.nfs_results.specs.Results as codes;
 
 use crate::told::{
     read_handle, read_moment, read_optional_attributes, read_optional_handle, read_stability,
-    read_text, read_verifier,
+    read_verifier,
 };
 use limits::RECORD_BYTES;
 use nfs_types::{
-    Created, FileSystemInfo, FileSystemSpace, Looked, Mounted, NumberList, PathLimits, ReadBytes,
-    Written,
+    Created, FileSystemInfo, FileSystemSpace, Looked, Mounted, NumberList, PathLimits, Pieces,
+    ReadBytes, Written,
 };
 use std::alloc::Global;
 use xdr::{Reader, XdrFault};
@@ -27,14 +27,18 @@ pub fn read_looked(alloc: Global, reader: &mut Reader) -> Result<Looked, XdrFaul
 }
 
 /// What READ gives.
-#[tactic(auto, unfolding(nfs_results::specs::Results::read_bytes))]
+#[tactic(auto, unfolding(nfs_results::specs::Results::read_bytes, nfs_codec::specs::Items::text))]
 pub fn read_read_bytes(alloc: Global, reader: &mut Reader) -> Result<ReadBytes, XdrFault>
     ensures { Gives (λ x. (x, reader.new)) result (codes.read_bytes.read reader.old) }
 {
     let count = reader.unsigned()?;
     let eof = reader.flag()?;
-    let bytes = read_text(alloc, reader)?;
-    Ok(ReadBytes { count, eof, bytes })
+    let bytes = reader.opaque(RECORD_BYTES)?;
+    Ok(ReadBytes {
+        count,
+        eof,
+        bytes: Pieces::copied(alloc, bytes)?,
+    })
 }
 
 /// What WRITE did.

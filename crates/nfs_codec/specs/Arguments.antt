@@ -1,6 +1,7 @@
 -- The arguments of calls (RFC 1813, sections 3.3 and 5.2): how each procedure's are spelled, and the call
 -- that they make.
-use Rattle.std.specs.Prelude.{◌≡◌, ℕ, Bool, false, List, [], Option, Result}
+use Rattle.std.specs.Prelude.{◌≡◌, ◌≤◌, ◌+◌, ◌-◌, ℕ, Bool, false, List, [], length, take, drop, Option, Result}
+use Rattle.xdr.specs.Items.{padding}
 use Rattle.nfs_types.specs.declared.attributes.NewAttributes.{NewAttributes}
 use Rattle.nfs_types.specs.declared.call.Call.{Call}
 use Rattle.nfs_types.specs.declared.call.Call.TheVariants as calls
@@ -260,3 +261,8 @@ calls_of p = record {
 -- the call that all of the bytes spell
 abbrev pub call_of : ProgramProcedure → List ℕ → Result ProgramCall XdrFault
 call_of p bytes = whole (call_at p bytes)
+
+-- bytes end with a string and its padding
+pub record EndsWith (bytes string : List ℕ) : Type 0 where
+  pub within : length string + padding (length string) ≤ length bytes
+  pub is : take (length string) (drop (length bytes - (length string + padding (length string))) bytes) ≡ string

@@ -1,44 +1,56 @@
 //! Reading the arguments of a call (RFC 1813, sections 3.3 and 5.2). Each is read whole before anything is
 //! copied, so that memory is refused only to a call that can be read.
-ghost use Rattle.std.specs.Prelude.{◌≡◌, IfOk, IfErr};
+ghost use Rattle.std.specs.Prelude.{◌≡◌, ◌<◌, ◌≤◌, ◌+◌, ◌-◌, ℕ, get_or, take, drop, length, IfOk, IfErr};
+ghost use Rattle.nfs_types.specs.declared.call.Call.TheVariants as calls;
 ghost use Rattle.nfs_types.specs.declared.program.MountProcedure.TheVariants as mount;
 ghost use Rattle.nfs_types.specs.declared.program.Procedure.TheVariants as nfs;
+ghost use Rattle.nfs_types.specs.declared.program.ProgramCall.TheVariants as program_calls;
 ghost use Rattle.nfs_types.specs.declared.program.ProgramProcedure.TheVariants as procedures;
+ghost use Rattle.xdr.specs.Items.{padding};
 ghost use Rattle.xdr.specs.Reading.{GivesWhole, Reads};
-ghost use Rattle.nfs_codec.specs.Arguments.{call_of, path as path_code};
+ghost use Rattle.nfs_codec.specs.Arguments.{EndsWith, call_of, path as path_code};
 
 use crate::items::{
     NameBytes, read_create_how, read_directory_name, read_guard, read_handle, read_new_attributes,
     read_special_file, read_stability, read_text, read_verifier,
 };
+use bytes::Bytes;
 use nfs_types::{
     Call, DirectoryName, Handle, MountCall, MountProcedure, Octets, PATH_BYTES, Procedure,
-    ProgramCall, ProgramProcedure,
+    ProgramCall, ProgramProcedure, SharedOctets, Stability,
 };
 use std::alloc::Global;
 use xdr::{Reader, XdrFault};
 
-/// The call of a procedure that all of these bytes spell.
+/// The call of a procedure that all bytes of a message from one on spell. The data of a WRITE stay where they lie in the
+/// message; all else is copied.
 pub fn decode_call(
     alloc: Global,
     procedure: ProgramProcedure,
-    arguments: &[u8],
+    message: &Bytes,
+    from: usize,
 ) -> Result<ProgramCall, XdrFault>
-    ensures { GivesWhole result (call_of procedure arguments.now) }
+    requires { from ≤ length message.now }
+    ensures { GivesWhole result (call_of procedure (drop from message.now)) }
 {
     match procedure {
-        ProgramProcedure::Nfs(procedure) => decode_nfs_call(alloc, procedure, arguments),
-        ProgramProcedure::Mount(procedure) => decode_mount_call(alloc, procedure, arguments),
+        ProgramProcedure::Nfs(procedure) => decode_nfs_call(alloc, procedure, message, from),
+        ProgramProcedure::Mount(procedure) => {
+            decode_mount_call(alloc, procedure, &message.as_slice()[from..])
+        }
     }
 }
 
 fn decode_nfs_call(
     alloc: Global,
     procedure: Procedure,
-    arguments: &[u8],
+    message: &Bytes,
+    from: usize,
 ) -> Result<ProgramCall, XdrFault>
-    ensures { GivesWhole result (call_of (procedures.Nfs procedure) arguments.now) }
+    requires { from ≤ length message.now }
+    ensures { GivesWhole result (call_of (procedures.Nfs procedure) (drop from message.now)) }
 {
+    let arguments = &message.as_slice()[from..];
     match procedure {
         Procedure::Null => decode_null(arguments),
         Procedure::GetAttr => decode_get_attr(alloc, arguments),
@@ -47,7 +59,7 @@ fn decode_nfs_call(
         Procedure::Access => decode_access(alloc, arguments),
         Procedure::ReadLink => decode_read_link(alloc, arguments),
         Procedure::Read => decode_read(alloc, arguments),
-        Procedure::Write => decode_write(alloc, arguments),
+        Procedure::Write => decode_write(alloc, message, from),
         Procedure::Create => decode_create(alloc, arguments),
         Procedure::MkDir => decode_mk_dir(alloc, arguments),
         Procedure::SymLink => decode_sym_link(alloc, arguments),
@@ -162,8 +174,20 @@ fn decode_read(alloc: Global, arguments: &[u8]) -> Result<ProgramCall, XdrFault>
     }))
 }
 
-fn decode_write(alloc: Global, arguments: &[u8]) -> Result<ProgramCall, XdrFault>
-    ensures { GivesWhole result (call_of (procedures.Nfs nfs.Write) arguments.now) }
+// The arguments of a WRITE as they stand in the message.
+#[derive(Clone, Copy)]
+struct WriteBytes<'a> {
+    file: &'a [u8],
+    offset: u64,
+    count: u32,
+    stability: Stability,
+    bytes: &'a [u8],
+}
+
+fn read_write(arguments: &[u8]) -> Result<WriteBytes<'_>, XdrFault>
+    ensures { Reads (λ x. program_calls.Nfs
+        (calls.Write (record { bytes = x.file.now }) x.offset x.count x.stability x.bytes.now))
+        result (call_of (procedures.Nfs nfs.Write) arguments.now) }
 {
     let mut reader = Reader::new(arguments);
     let file = read_handle(&mut reader)?;
@@ -172,13 +196,59 @@ fn decode_write(alloc: Global, arguments: &[u8]) -> Result<ProgramCall, XdrFault
     let stability = read_stability(&mut reader)?;
     let bytes = read_text(&mut reader)?;
     reader.end()?;
-    Ok(ProgramCall::Nfs(Call::Write {
-        file: handle(alloc, file)?,
+    Ok(WriteBytes {
+        file,
         offset,
         count,
         stability,
-        bytes: octets(alloc, bytes)?,
+        bytes,
+    })
+}
+
+fn decode_write(alloc: Global, message: &Bytes, from: usize) -> Result<ProgramCall, XdrFault>
+    requires { from ≤ length message.now }
+    ensures { GivesWhole result (call_of (procedures.Nfs nfs.Write) (drop from message.now)) }
+{
+    let bytes = message.as_slice();
+    are_bytes(bytes);
+    let write = read_write(&bytes[from..])?;
+    owned_write(alloc, message, write)
+}
+
+// Each byte is below 256.
+fn are_bytes(bytes: &[u8])
+    ensures { (index : ℕ) → get_or bytes.now index 0 < 256 }
+{}
+
+// The call of a WRITE whose data a message ends with.
+fn owned_write(
+    alloc: Global,
+    message: &Bytes,
+    write: WriteBytes<'_>,
+) -> Result<ProgramCall, XdrFault>
+    requires { EndsWith message.now write.bytes.now }
+    ensures ok { IfOk result (λ c. c ≡ program_calls.Nfs (calls.Write (record { bytes = write.entry.file.now })
+        write.entry.offset write.entry.count write.entry.stability write.entry.bytes.now)) }
+    ensures err { IfErr result (λ e. e ≡ XdrFault.NoMemory) }
+{
+    Ok(ProgramCall::Nfs(Call::Write {
+        file: handle(alloc, write.file)?,
+        offset: write.offset,
+        count: write.count,
+        stability: write.stability,
+        bytes: last_of(message, write.bytes.len())?,
     }))
+}
+
+// The string of this length that a message ends with, but for its padding. None of its bytes is copied.
+fn last_of(message: &Bytes, len: usize) -> Result<SharedOctets, XdrFault>
+    requires { len + padding len ≤ length message.now }
+    ensures ok { IfOk result (λ s. s ≡ take len (drop (length message.now - (len + padding len)) message.now)) }
+    ensures err { IfErr result (λ e. e ≡ XdrFault.NoMemory) }
+{
+    let padding = (4 - len % 4) % 4;
+    let from = message.len() - (len + padding);
+    Ok(SharedOctets::of_bytes(message.slice(from..from + len)?))
 }
 
 fn decode_create(alloc: Global, arguments: &[u8]) -> Result<ProgramCall, XdrFault>

@@ -1,6 +1,6 @@
 -- The results of procedures (RFC 1813, sections 3.3 and 5.2): how each is spelled, and the reply that it
 -- makes. A result begins with its status; NULL's has none.
-use Rattle.std.specs.Prelude.{◌≡◌, ◌⊎◌, ℕ, Bool, List, [], ◌∷◌, Option, Result, Ok, Err, false}
+use Rattle.std.specs.Prelude.{◌≡◌, ◌⊎◌, ℕ, Bool, List, [], ◌∷◌, ◌++◌, length, replicate, Option, Result, Ok, Err, false}
 use Rattle.std.proofs.Common.{inl, inr}
 use Rattle.limits.specs.declared.TheConstants.{RECORD_BYTES}
 use Rattle.nfs_types.specs.declared.attributes.Attributes.{Attributes}
@@ -33,6 +33,8 @@ use Rattle.nfs_types.specs.declared.status.Status.{Status}
 use Rattle.nfs_types.specs.declared.status.Status.TheVariants as statuses
 use Rattle.nfs_types.specs.declared.verifier.Verifier.{Verifier}
 use Rattle.xdr.specs.declared.fault.XdrFault.{XdrFault}
+use Rattle.xdr.specs.Items as items
+use Rattle.xdr.specs.Items.{padding}
 use Rattle.xdr.specs.Codes.{Code, word, double, flag, nothing, ◌then◌, viewed, chain, counted, arm_or, arms}
 use Rattle.xdr.specs.Codes.{union}
 use Rattle.xdr.specs.Codes.{made_of, whole}
@@ -358,6 +360,40 @@ mount_result_bytes mount_replies.Unmount = []
 abbrev pub result_bytes : ProgramReply → List ℕ
 result_bytes (program_replies.Nfs reply) = nfs_result_bytes reply
 result_bytes (program_replies.Mount reply) = mount_result_bytes reply
+
+-- ---- the data of a READ, the last item of its result, and what is in front of it
+
+-- all but the data and its padding
+abbrev pub read_front : Result ReadBytes Status → Option Attributes → List ℕ
+read_front (Ok done) file = items.word 0 ++ optional_attributes.spell file
+    ++ items.word done.count ++ items.flag done.eof ++ items.word (length done.bytes)
+read_front (Err status) file = read.spell (Err status, file)
+
+-- bytes, and zeros up to a multiple of four
+abbrev pub padded : List ℕ → List ℕ
+padded bytes = bytes ++ replicate (padding (length bytes)) 0
+
+abbrev pub read_data : Result ReadBytes Status → List ℕ
+read_data (Ok done) = padded done.bytes
+read_data (Err status) = []
+
+-- all of a result but the data of a READ
+abbrev pub nfs_front : Reply → List ℕ
+nfs_front (replies.Read outcome file) = read_front outcome file
+nfs_front reply = nfs_result_bytes reply
+
+abbrev pub front_bytes : ProgramReply → List ℕ
+front_bytes (program_replies.Nfs reply) = nfs_front reply
+front_bytes (program_replies.Mount reply) = mount_result_bytes reply
+
+-- the data of a READ, padded; nothing of another reply
+abbrev pub nfs_data : Reply → List ℕ
+nfs_data (replies.Read outcome file) = read_data outcome
+nfs_data reply = []
+
+abbrev pub data_bytes : ProgramReply → List ℕ
+data_bytes (program_replies.Nfs reply) = nfs_data reply
+data_bytes (program_replies.Mount reply) = []
 
 -- ---- whether a length in a reply is past what four bytes can tell
 

@@ -2,6 +2,7 @@
 //! `specs/`, over the items of `nfs_codec`.
 #![tactic(auto)]
 
+mod data;
 mod entries;
 mod laws;
 mod outcomes;
@@ -9,9 +10,10 @@ mod results;
 mod status;
 mod told;
 
+pub use data::{append_data, data_len};
 pub use laws::{
     results_are_refused_so, results_share_no_spelling, spelled_results_are_read,
     spelling_gives_the_reply,
 };
-pub use results::{encode_mount_reply, encode_reply};
+pub use results::{encode_front, encode_mount_reply, encode_reply};
 pub use status::{number_of_status, status_numbered};

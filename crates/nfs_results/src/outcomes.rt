@@ -5,10 +5,8 @@ ghost use Rattle.nfs_results.specs.Results as codes;
 ghost use Rattle.xdr.specs.Codes.{word, items_bytes};
 
 use crate::told::{put_optional_attributes, put_optional_handle};
-use nfs_codec::{put_handle, put_moment, put_stability, put_text, put_verifier};
-use nfs_types::{
-    Created, FileSystemInfo, FileSystemSpace, Looked, Mounted, PathLimits, ReadBytes, Written,
-};
+use nfs_codec::{put_handle, put_moment, put_stability, put_verifier};
+use nfs_types::{Created, FileSystemInfo, FileSystemSpace, Looked, Mounted, PathLimits, Written};
 use xdr::{Writer, XdrFault};
 
 /// What LOOKUP found.
@@ -18,16 +16,6 @@ pub fn put_looked(out: &mut Writer, looked: &Looked) -> Result<(), XdrFault>
 {
     put_handle(out, &looked.object)?;
     put_optional_attributes(out, &looked.attributes)
-}
-
-/// What READ gives.
-#[tactic(auto, unfolding(crate::specs::Results::read_bytes))]
-pub fn put_read_bytes(out: &mut Writer, read: &ReadBytes) -> Result<(), XdrFault>
-    ensures { Writes codes.read_bytes result out.old out.new read.now }
-{
-    out.unsigned(read.count)?;
-    out.flag(read.eof)?;
-    put_text(out, &read.bytes)
 }
 
 /// What WRITE did.

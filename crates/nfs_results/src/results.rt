@@ -1,15 +1,17 @@
 //! Writing the results of calls (RFC 1813, sections 3.3 and 5.2).
-ghost use Rattle.xdr.specs.Writing.{Writes, WritesBytes, Encodes};
+ghost use Rattle.std.specs.Prelude.{◌≡◌, false, IfOk, IfErr};
+ghost use Rattle.xdr.specs.Writing.{Writes, WritesBytes, Encodes, RefusesToWrite};
 ghost use Rattle.xdr.specs.Items.{word};
 ghost use Rattle.nfs_results.specs.Results as codes;
-ghost use Rattle.nfs_results.specs.Results.{result_bytes, nfs_result_bytes, mount_result_bytes};
+ghost use Rattle.nfs_results.specs.Results.{result_bytes, nfs_result_bytes, mount_result_bytes, front_bytes, nfs_front};
+ghost use Rattle.nfs_results.specs.Results.{read_front};
 ghost use Rattle.nfs_results.specs.Results.{status_number, too_long, nfs_too_long, mount_too_long};
 ghost use Rattle.nfs_types.specs.declared.program.ProgramReply.TheVariants as program_replies;
 
+use crate::data::append_data;
 use crate::entries::{put_listed, put_listed_plus};
 use crate::outcomes::{
-    put_created, put_info, put_limits, put_looked, put_mounted, put_read_bytes, put_space,
-    put_written,
+    put_created, put_info, put_limits, put_looked, put_mounted, put_space, put_written,
 };
 use crate::status::number_of_status;
 use crate::told::{put_attributes, put_optional_attributes, put_weak_cache};
@@ -18,20 +20,31 @@ use nfs_types::{
     Attributes, Created, FileSystemInfo, FileSystemSpace, Listed, ListedPlus, Looked, MountReply,
     Mounted, Octets, PathLimits, ReadBytes, Reply, Status, Verifier, WeakCacheData, Written,
 };
+use std::alloc::Global;
 use xdr::{Writer, XdrFault};
 
-/// Writes the result of a procedure of NFS behind what is there.
-pub fn encode_reply(out: Writer, reply: &Reply) -> Result<Writer, XdrFault>
-    ensures { Encodes result out (result_bytes (program_replies.Nfs reply.now))
+/// Writes the result of a procedure of NFS behind what is there, all but the data of a READ.
+pub fn encode_front(out: Writer, reply: &Reply) -> Result<Writer, XdrFault>
+    ensures { Encodes result out (front_bytes (program_replies.Nfs reply.now))
         (too_long (program_replies.Nfs reply.now)) }
 {
     let mut out = out;
-    put_reply(&mut out, reply)?;
+    put_front(&mut out, reply)?;
     Ok(out)
 }
 
-fn put_reply(out: &mut Writer, reply: &Reply) -> Result<(), XdrFault>
-    ensures { WritesBytes result out.old out.new (nfs_result_bytes reply.now) (nfs_too_long reply.now) }
+/// The result of a procedure of NFS, all of it.
+pub fn encode_reply(alloc: Global, reply: &Reply) -> Result<Vec<u8>, XdrFault>
+    ensures ok { IfOk result (λ bytes. (bytes.items ≡ nfs_result_bytes reply.now) × (nfs_too_long reply.now ≡ false)) }
+    ensures err { IfErr result (λ e. RefusesToWrite e (nfs_too_long reply.now)) }
+{
+    let mut bytes = encode_front(Writer::new(alloc), reply)?.into_bytes();
+    append_data(reply, &mut bytes)?;
+    Ok(bytes)
+}
+
+fn put_front(out: &mut Writer, reply: &Reply) -> Result<(), XdrFault>
+    ensures { WritesBytes result out.old out.new (nfs_front reply.now) (nfs_too_long reply.now) }
 {
     match reply {
         Reply::Null => Ok(()),
@@ -183,19 +196,23 @@ fn put_read_link(
     }
 }
 
-#[tactic(auto, unfolding(crate::specs::Results::read))]
+// All but the data.
+#[tactic(auto, unfolding(crate::specs::Results::read, crate::specs::Results::read_bytes, nfs_codec::specs::Items::text))]
 fn put_read(
     out: &mut Writer,
     outcome: &Result<ReadBytes, Status>,
     file: &Option<Attributes>,
 ) -> Result<(), XdrFault>
-    ensures { Writes codes.read result out.old out.new (outcome.now, file.now) }
+    ensures { WritesBytes result out.old out.new (read_front outcome.now file.now)
+        (codes.read.too_long (outcome.now, file.now)) }
 {
     match outcome {
         Ok(done) => {
             out.unsigned(0)?;
             put_optional_attributes(out, file)?;
-            put_read_bytes(out, done)
+            out.unsigned(done.count)?;
+            out.flag(done.eof)?;
+            out.length(done.bytes.len())
         }
         Err(status) => {
             out.unsigned(number_of_status(*status))?;

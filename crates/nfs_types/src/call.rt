@@ -1,6 +1,6 @@
 //! The calls of NFS version 3 with their arguments (RFC 1813, section 3.3).
 
-use crate::{DeviceNumber, Handle, Moment, NewAttributes, Octets, Verifier};
+use crate::{DeviceNumber, Handle, Moment, NewAttributes, Octets, SharedOctets, Verifier};
 
 /// A name in a directory (`diropargs3`).
 #[derive(Drop)]
@@ -69,7 +69,7 @@ pub enum Call {
         offset: u64,
         count: u32,
         stability: Stability,
-        bytes: Octets,
+        bytes: SharedOctets,
     },
     Create {
         name: DirectoryName,

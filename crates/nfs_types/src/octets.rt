@@ -4,7 +4,7 @@ ghost use Rattle.std.specs.Prelude.{◌≡◌, IfOk};
 use std::alloc::{AllocError, Global};
 use std::marker::Model;
 
-/// A string of bytes: a name, a link's target, a file's data, a handle.
+/// A string of bytes: a name, a link's target, a handle.
 #[derive(Clone, Drop)]
 pub struct Octets {
     bytes: Vec<u8>,

@@ -5,8 +5,8 @@ ghost use Rattle.std.specs.Prelude.{◌≡◌, IfOk};
 ghost use Rattle.nfs_types.specs.declared.reply.Reply.TheVariants as replies;
 
 use crate::{
-    Attributes, Handle, ListedEntries, ListedEntriesPlus, Moment, Octets, Stability, Status,
-    Verifier, WeakCacheData,
+    Attributes, Handle, ListedEntries, ListedEntriesPlus, Moment, Octets, Pieces, Stability,
+    Status, Verifier, WeakCacheData,
 };
 use std::alloc::AllocError;
 
@@ -22,7 +22,7 @@ pub struct Looked {
 pub struct ReadBytes {
     pub count: u32,
     pub eof: bool,
-    pub bytes: Octets,
+    pub bytes: Pieces,
 }
 
 /// What WRITE did: how many bytes, how they are kept, and the verifier of this boot.

@@ -9,6 +9,7 @@ ghost use Rattle.session_wire.specs.Replies.{body_of};
 ghost use Rattle.session_wire.specs.declared.message.ReplyBody.TheVariants as body;
 
 use crate::mounted::mount;
+use bytes::Bytes;
 use nfs_types::{Call, Credential, Ctx, Moment, ProgramCall, ProgramReply, Reply};
 use plain_server::PlainTree;
 use plain_steps::answer;
@@ -60,7 +61,7 @@ pub struct PlainFiles {
 pub fn answer_record(
     alloc: Global,
     files: &mut PlainFiles,
-    message: &[u8],
+    message: &Bytes,
 ) -> Result<Option<Vec<u8>>, AllocError>
     ensures closes { Closes message.now → result ≡ Ok None }
     ensures closed { result ≡ Ok None → Closes message.now × (files_of files.new ≡ files_of files.old) }
@@ -69,7 +70,7 @@ pub fn answer_record(
     ensures lost { OnErr result ((bytes : List ℕ) × IsMessageAnswered (files_of files.old) message.now bytes
         (files_of files.new)) }
 {
-    are_bytes(message);
+    are_bytes(message.as_slice());
     match judge(alloc, message) {
         Judged::Closed => Ok(None),
         Judged::Refused { xid, refusal } => Ok(Some(refused(alloc, xid, refusal)?)),

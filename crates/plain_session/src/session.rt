@@ -11,6 +11,7 @@ ghost use Rattle.plain_session.specs.Serving.{session_of};
 use crate::answers::{Pace, PlainFiles, answer_record};
 use crate::image::data_blocks;
 use crate::records::{Cut, first_record};
+use bytes::Bytes;
 use nfs_types::Moment;
 use plain_server::PlainTree;
 use std::alloc::{AllocError, Global};
@@ -150,7 +151,8 @@ fn answer_next(
         Cut::Record { record, taken } => (record, taken),
     };
     let rest = rest_of(alloc, unread.as_slice(), taken)?;
-    let Some(reply) = answer_record(alloc, files, record.as_slice())? else {
+    let message = Bytes::from_vec(record)?;
+    let Some(reply) = answer_record(alloc, files, &message)? else {
         return Ok(Some(Connection::Closed));
     };
     replies.extend_from_slice(reply.as_slice())?;

@@ -5,7 +5,7 @@ ghost use Rattle.session_wire.specs.Replies.{body_of};
 use crate::Evidence;
 use nfs_types::{ProgramReply, Reply};
 use pool_jobs::{Immediate, Ticket};
-use session_wire::{ReplyBody, RpcReply, reply_bytes};
+use session_wire::{ReplyBody, RpcReply, append_reply};
 use std::alloc::Global;
 use std::marker::{Model, PhantomData};
 use std::snapshot::Snapshot;
@@ -52,7 +52,7 @@ impl<L: Ledger> Model for Answer<L> {
 }
 
 impl<L: Ledger> Answer<L> {
-    ghost use Rattle.std.specs.Prelude.{◌≡◌, ◌⊎◌, false, true, Option, IfErr, IfOk};
+    ghost use Rattle.std.specs.Prelude.{◌≡◌, ◌⊎◌, ◌++◌, false, true, Option, IfErr, OnErr, OnOk};
     ghost use Rattle.model.specs.Calls.{begins_transaction};
     ghost use Rattle.nfs_types.specs.declared.reply.Reply.TheVariants.{Null};
     ghost use Rattle.pool_answers.specs.Evident.{IsEvident, IsInItsPlace, IsOwn, IsShownStable, answer_to};
@@ -156,13 +156,14 @@ impl<L: Ledger> Answer<L> {
         (self.key, self.number)
     }
 
-    /// The answer as a record of one fragment. One that has a length of 2^32 or more in it, or 2^31 bytes in all,
-    /// is `Length`; where memory is refused it is `NoMemory`.
-    pub(crate) fn bytes(&self, alloc: Global) -> Result<Vec<u8>, XdrFault>
-        ensures ok { IfOk result (λ bytes. bytes.items ≡ spelled self.now) }
+    /// Puts the answer behind other bytes, as a record of one fragment. One that has a length of 2^32 or more in it, or
+    /// 2^31 bytes in all, is `Length`; where memory is refused it is `NoMemory`. Where it fails nothing changes.
+    pub(crate) fn append_to(&self, alloc: Global, out: &mut Vec<u8>) -> Result<(), XdrFault>
+        ensures ok { OnOk result (out.new.items ≡ out.old.items ++ spelled self.now) }
         ensures err { IfErr result (λ e. ((e ≡ Length) × IsTooLong self.now.xid self.now.body) ⊎ (e ≡ NoMemory)) }
+        ensures refused { OnErr result (out.new.items ≡ out.old.items) }
     {
-        reply_bytes(alloc, self.xid, reply_of(&self.body))
+        append_reply(alloc, out, self.xid, reply_of(&self.body))
     }
 }
 

@@ -109,14 +109,13 @@ impl<L: Ledger> ReplyBytes<L> {
         if key != self.key || number != self.number {
             return Put::Another;
         }
-        let Ok(bytes) = answer.bytes(alloc) else {
-            return Put::Refused;
-        };
-        if self.bytes.extend_from_slice(bytes.as_slice()).is_err() {
-            return Put::Refused;
+        match answer.append_to(alloc, &mut self.bytes) {
+            Ok(()) => {
+                self.answers = self.answers.and(answer, &());
+                Put::Done
+            }
+            Err(_) => Put::Refused,
         }
-        self.answers = self.answers.and(answer, &());
-        Put::Done
     }
 
     /// Lets go of all.

@@ -9,7 +9,7 @@ ghost use Rattle.procs_telling.specs.Given.{bytes_given};
 
 use files::{Files, Head, Told, find, has_right};
 use limits::{EXECUTE_RIGHT, READ_RIGHT, TRANSFER_BYTES};
-use nfs_types::{Credential, Ctx, FileKind, Handle, Octets, ReadBytes, Status};
+use nfs_types::{Credential, Ctx, FileKind, Handle, Pieces, ReadBytes, Status};
 use std::alloc::Global;
 
 fn may_read_file(caller: &Credential, head: &Head) -> bool
@@ -33,10 +33,10 @@ fn read_refusal(caller: &Credential, head: &Head) -> Option<Status>
 }
 
 // The bytes that are given, no more than one call moves, and whether a file of this size ends with them.
-fn read_bytes(size: u64, offset: u64, given: Octets) -> ReadBytes
+fn read_bytes(size: u64, offset: u64, given: Pieces) -> ReadBytes
     ensures { length given ≤ TRANSFER_BYTES → result ≡ bytes_given size offset given }
 {
-    let count = given.as_slice().len().min(TRANSFER_BYTES as usize) as u32;
+    let count = given.len().min(TRANSFER_BYTES as usize) as u32;
     ReadBytes {
         count,
         eof: size as u128 <= offset as u128 + count as u128,

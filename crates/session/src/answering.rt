@@ -12,6 +12,7 @@ ghost use Rattle.session_wire.specs.Replies.{body_of};
 use crate::output::Output;
 use crate::serving::SessionFault;
 use crate::writing::put;
+use bytes::Bytes;
 use disk::CrashDisk;
 use nfs_types::{Credential, Moment, MountCall, ProgramCall};
 use rpc::Refusal;
@@ -24,7 +25,7 @@ use store::{Store, Verdict, procedure};
 pub fn serve_record<D: CrashDisk, W: Write>(
     alloc: Global,
     store: &mut Store<D>,
-    message: &[u8],
+    message: &Bytes,
     writer: &mut Output<W>,
     moment: Moment,
 ) -> Result<(), SessionFault>
@@ -38,7 +39,7 @@ pub fn serve_record<D: CrashDisk, W: Write>(
         message.now result
         (store_of (D.device store.new.disk) store.new.core store.new.boot) (told_of W.contents writer.new) }
 {
-    are_bytes(message);
+    are_bytes(message.as_slice());
     match judge(alloc, message) {
         Judged::Closed => Err(SessionFault::Record),
         Judged::Refused { xid, refusal } => put(alloc, writer, xid, RpcReply::Refused(refusal)),

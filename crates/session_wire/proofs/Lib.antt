@@ -1,6 +1,8 @@
 pub mod Numbered
 pub mod CodedHeaders
 pub mod Behind
+pub mod LastBytes
+pub mod Fronts
 pub mod CallLaws
 pub mod ReplyLaws
 pub mod ServedStreams

@@ -1,5 +1,5 @@
 -- What a record of bytes is taken for, test by test (RFC 5531, section 9).
-use Rattle.std.specs.Prelude.{◌≡◌, ℕ, List, Option, Some, None, Result, Ok, Err, ◌==◌, if◌then◌else◌, ◌⊎◌}
+use Rattle.std.specs.Prelude.{◌≡◌, ◌≤◌, ◌-◌, ℕ, List, length, drop, Option, Some, None, Result, Ok, Err, ◌==◌, if◌then◌else◌, ◌⊎◌}
 use Rattle.nfs_types.specs.declared.ctx.Credential.{Credential}
 use Rattle.nfs_types.specs.declared.program.Program.{Program}
 use Rattle.nfs_types.specs.declared.program.ProgramCall.{ProgramCall}
@@ -53,6 +53,10 @@ on_opening (Ok o) =
     (if o.0.rpc_version == RPC_VERSION then on_header o.0.xid (header_at o.1)
     else Refused o.0.xid RpcMismatch) else Closed
 on_opening (Err e) = Closed
+
+-- these are the last bytes of the others
+abbrev pub AreLast : List ℕ → List ℕ → Type 0
+AreLast bytes rest = (length rest ≤ length bytes) × (drop (length bytes - length rest) bytes ≡ rest)
 
 -- no call is closed; then the version of RPC, the rest of the header, the credential, and what is called
 abbrev pub judged : List ℕ → Judged

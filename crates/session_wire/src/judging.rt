@@ -1,11 +1,12 @@
 //! What a record of bytes is taken for: the tests of its header in their order, then its arguments.
-ghost use Rattle.std.specs.Prelude.{◌≡◌};
+ghost use Rattle.std.specs.Prelude.{◌≡◌, ◌<◌, ◌≤◌, ℕ, drop, get_or, length};
 ghost use Rattle.rpc.specs.Credentials.{named};
 ghost use Rattle.rpc.specs.Headers.{header_at, heading};
-ghost use Rattle.session_wire.specs.Judging.{Judges, judged, on_header, requested};
+ghost use Rattle.session_wire.specs.Judging.{AreLast, Judges, judged, on_header, requested};
 
 use crate::message::Judged;
 use crate::programs::program_of;
+use bytes::Bytes;
 use nfs_codec::{decode_call, procedure_of};
 use nfs_types::ProgramCall;
 use rpc::{
@@ -17,10 +18,11 @@ use xdr::{Reader, XdrFault};
 
 /// What a record is taken for. Its header is read without memory. Where memory is refused for the arguments or
 /// for the caller's groups, the call is taken for one that is refused with `SystemError`.
-pub fn judge(alloc: Global, bytes: &[u8]) -> Judged
-    ensures { Judges result (judged bytes.now) }
+pub fn judge(alloc: Global, message: &Bytes) -> Judged
+    ensures { Judges result (judged message.now) }
 {
-    let mut reader = Reader::new(bytes);
+    each_fits(message);
+    let mut reader = Reader::new(message.as_slice());
     let Ok(opening) = read_opening(&mut reader) else {
         return Judged::Closed;
     };
@@ -31,7 +33,7 @@ pub fn judge(alloc: Global, bytes: &[u8]) -> Judged
     if opening.rpc_version != RPC_VERSION {
         return refused(xid, Refusal::RpcMismatch);
     }
-    judge_header(alloc, xid, &mut reader)
+    judge_header(alloc, xid, message, &mut reader)
 }
 
 fn refused(xid: u32, refusal: Refusal) -> Judged
@@ -41,28 +43,55 @@ fn refused(xid: u32, refusal: Refusal) -> Judged
 }
 
 // What a call is taken for by the rest of its header and its arguments.
-fn judge_header(alloc: Global, xid: u32, reader: &mut Reader) -> Judged
+fn judge_header(alloc: Global, xid: u32, message: &Bytes, reader: &mut Reader) -> Judged
+    requires { AreLast message.now reader.old }
     ensures { Judges result (on_header xid (header_at reader.old)) }
 {
+    each_fits(message);
     let Ok(header) = read_header(reader) else {
         return Judged::Closed;
     };
     match read_credential(header.flavor, header.body) {
         Err(refusal) => refused(xid, refusal),
-        Ok(caller) => judge_request(alloc, xid, &caller, header, reader.rest()),
+        Ok(caller) => {
+            let from = begin(message, reader);
+            judge_request(alloc, xid, &caller, header, message, from)
+        }
     }
 }
 
-// What a call with a lawful credential is taken for.
+// Each byte of a message is below 256.
+fn each_fits(message: &Bytes)
+    ensures { (index : ℕ) → get_or message.now index 0 < 256 }
+{
+    are_bytes(message.as_slice());
+}
+
+fn are_bytes(message: &[u8])
+    ensures { (index : ℕ) → get_or message.now index 0 < 256 }
+{}
+
+// Where the bytes that are left of a message begin.
+fn begin(message: &Bytes, reader: &Reader) -> usize
+    requires { AreLast message.now reader.now }
+    ensures within { result ≤ length message.now }
+    ensures is { drop result message.now ≡ reader.now }
+{
+    message.len() - reader.rest().len()
+}
+
+// What a call with a lawful credential is taken for, whose arguments begin there in the message.
 #[tactic(auto, using(nfs_codec::proofs::CallLaws::never_memory))]
 fn judge_request(
     alloc: Global,
     xid: u32,
     caller: &NamedCaller,
     header: Header,
-    arguments: &[u8],
+    message: &Bytes,
+    from: usize,
 ) -> Judged
-    ensures { Judges result (requested xid (named caller.now) (heading header.entry) arguments.now) }
+    requires { from ≤ length message.now }
+    ensures { Judges result (requested xid (named caller.now) (heading header.entry) (drop from message.now)) }
 {
     let Some(program) = program_of(header.program) else {
         return refused(xid, Refusal::ProgramUnavailable);
@@ -73,7 +102,7 @@ fn judge_request(
     let Some(procedure) = procedure_of(program, header.procedure) else {
         return refused(xid, Refusal::ProcedureUnavailable);
     };
-    match decode_call(alloc, procedure, arguments) {
+    match decode_call(alloc, procedure, message, from) {
         Ok(call) => called(alloc, xid, caller, call),
         Err(XdrFault::NoMemory) => refused(xid, Refusal::SystemError),
         Err(_) => refused(xid, Refusal::GarbageArguments),

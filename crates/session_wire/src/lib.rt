@@ -20,7 +20,7 @@ pub use message::{
     CallMessage, Judged, MessageCredential, MessageVerifier, ReplyBody, ReplyMessage, RpcReply,
 };
 pub use mounting::mount_reply;
-pub use reply::reply_bytes;
+pub use reply::{append_reply, reply_bytes};
 pub use streams::{
     a_closed_connection_gets_no_reply, a_refused_call_gets_its_refusal, a_stream_goes_on,
     each_stream_can_be_served, no_messages_get_no_replies, streams_join, what_is_done_is_served,

@@ -8,6 +8,7 @@ use crate::fault::LineFault;
 use crate::message::message_of;
 use crate::numbers::{bytes_of, number_of};
 use crate::words::{Words, is};
+use bytes::Bytes;
 use limits::NANOSECONDS;
 use nfs_types::{Moment, NumberList, Octets};
 use std::alloc::Global;
@@ -126,7 +127,7 @@ fn call(alloc: Global, words: &mut Words) -> Result<Action, LineFault>
 {
     let worker = words.worker()?;
     let digits = words.word()?;
-    let bytes = bytes_of(alloc, digits)?;
+    let bytes = Bytes::from_vec(bytes_of(alloc, digits)?)?;
     let message = message_of(alloc, &bytes)?;
     Ok(Action::Call {
         worker,

@@ -4,6 +4,7 @@ ghost use Rattle.sim_words.specs.Messages.{message_of, message_with};
 ghost use Rattle.sim_words.specs.Reading.{Gives};
 
 use crate::fault::LineFault;
+use bytes::Bytes;
 use limits::RECORD_BYTES;
 use nfs_types::{Call, Credential, ProgramCall};
 use rpc::Refusal;
@@ -20,7 +21,7 @@ pub struct Message {
 
 /// The call that these bytes spell.
 #[tactic(auto, using(crate::proofs::Messages::refused, crate::proofs::Messages::closed, crate::proofs::Messages::called))]
-pub fn message_of(alloc: Global, bytes: &[u8]) -> Result<Message, LineFault>
+pub fn message_of(alloc: Global, bytes: &Bytes) -> Result<Message, LineFault>
     ensures { Gives (λ message. message) result (message_of bytes.now) }
 {
     if bytes.len() > RECORD_BYTES {

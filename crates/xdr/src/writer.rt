@@ -1,6 +1,6 @@
 //! Items one after another at the end of bytes.
 ghost use Rattle.std.specs.Prelude.{◌≡◌, ◌≤◌, ◌++◌, [], true, false, length as len, drop, OnOk, OnErr, IfOk};
-ghost use Rattle.std.specs.Prelude.{IfErr};
+ghost use Rattle.std.specs.Prelude.{IfErr, nat_lt};
 ghost use Rattle.xdr.specs.declared.fault.XdrFault.TheVariants.{Length, NoMemory};
 ghost use Rattle.xdr.specs.Items.{word, double, flag, opaque, is_uncounted};
 ghost use Rattle.xdr.specs.Writing.{WritesBytes};
@@ -107,13 +107,23 @@ impl Writer {
         Ok(())
     }
 
+    /// The length of a string whose bytes are to follow (RFC 4506, section 4.10). One of 2^32 bytes or more has no
+    /// spelling.
+    pub fn length(&mut self, length: usize) -> Result<(), XdrFault>
+        ensures written { WritesBytes result self.old self.new (word length) (nat_lt 4294967295 length) }
+        ensures refused { OnErr result (self.new ≡ self.old) }
+    {
+        let length = counted(length)?;
+        self.unsigned(length)
+    }
+
     /// A string with its length and its padding (RFC 4506, section 4.10). One of 2^32 bytes or more has no
     /// spelling.
     pub fn opaque(&mut self, string: &[u8]) -> Result<(), XdrFault>
         ensures written { WritesBytes result self.old self.new (opaque string.now) (is_uncounted string.now) }
         ensures refused { OnErr result (self.new ≡ self.old) }
     {
-        let length = length_of(string)?;
+        let length = counted(string.len())?;
         self.padded(length, string)
     }
 
@@ -141,12 +151,12 @@ impl Writer {
 }
 
 // The length of a string, where four bytes can tell it.
-fn length_of(string: &[u8]) -> Result<u32, XdrFault>
-    ensures ok { IfOk result (λ n. (n ≡ len string.now) × (is_uncounted string.now ≡ false)) }
-    ensures err { IfErr result (λ e. (e ≡ Length) × (is_uncounted string.now ≡ true)) }
+fn counted(length: usize) -> Result<u32, XdrFault>
+    ensures ok { IfOk result (λ n. (n ≡ length) × (nat_lt 4294967295 length ≡ false)) }
+    ensures err { IfErr result (λ e. (e ≡ Length) × (nat_lt 4294967295 length ≡ true)) }
 {
-    if string.len() > u32::MAX as usize {
+    if length > u32::MAX as usize {
         return Err(XdrFault::Length);
     }
-    Ok(string.len() as u32)
+    Ok(length as u32)
 }

@@ -10,7 +10,7 @@ use crate::tree_files::listing::next_name;
 use crate::tree_files::nodes::file_at;
 use crate::tree_files::space::{count_of, free_blocks};
 use files::{Entry, Files, Head, SlotName};
-use nfs_types::Octets;
+use nfs_types::{Octets, Pieces};
 use plain_server::{PlainBody, PlainTree};
 use std::alloc::{AllocError, Global};
 
@@ -92,10 +92,10 @@ impl Files for PlainFiles {
         file: &Head,
         offset: u64,
         count: u32,
-    ) -> Result<Octets, AllocError> {
+    ) -> Result<Pieces, AllocError> {
         match file_at(&self.tree, file.number) {
-            Some(file) => Octets::copied(alloc, piece(bytes_of(&file.node.body), offset, count)),
-            None => Ok(Octets::new(Vec::new(alloc))),
+            Some(file) => Pieces::copied(alloc, piece(bytes_of(&file.node.body), offset, count)),
+            None => Ok(Pieces::new(alloc)),
         }
     }
 

@@ -6,7 +6,7 @@ ghost use Rattle.nfs_types.specs.Fits.{NewAttributesFit, SpecialFileFits, String
 
 use limits::{MOST_HANDLE_BYTES, NANOSECONDS, RECORD_BYTES};
 use nfs_types::{
-    Call, CreateHow, DirectoryName, Handle, Moment, NewAttributes, Octets, SpecialFile, Verifier,
+    Call, CreateHow, DirectoryName, Handle, Moment, NewAttributes, SpecialFile, Verifier,
 };
 
 /// Whether a moment has less than a second of nanoseconds.
@@ -64,7 +64,7 @@ pub fn can_be_spelled(call: &Call) -> bool
             bytes,
         } => {
             let _numbers = (*offset, *count);
-            fits_handle(file) && fits_text(bytes)
+            fits_handle(file) && fits_text(bytes.as_slice())
         }
         Call::Create { name, how } => {
             fits_how(*how);
@@ -80,7 +80,7 @@ pub fn can_be_spelled(call: &Call) -> bool
             target,
         } => {
             fit_attributes(*attributes);
-            fits_name(name) && fits_text(target)
+            fits_name(name) && fits_text(target.as_slice())
         }
         Call::MkNod { name, special } => {
             fits_special(*special);
@@ -113,7 +113,7 @@ pub fn can_be_spelled(call: &Call) -> bool
 fn fits_name(place: &DirectoryName) -> bool
     ensures { IsTrue result ↔ DirectoryNameFits place.now }
 {
-    fits_handle(&place.directory) && fits_text(&place.name)
+    fits_handle(&place.directory) && fits_text(place.name.as_slice())
 }
 
 fn fits_handle(handle: &Handle) -> bool
@@ -122,10 +122,10 @@ fn fits_handle(handle: &Handle) -> bool
     fits(handle.bytes.as_slice(), MOST_HANDLE_BYTES)
 }
 
-fn fits_text(text: &Octets) -> bool
+fn fits_text(text: &[u8]) -> bool
     ensures { IsTrue result ↔ TextFits text.now }
 {
-    fits(text.as_slice(), RECORD_BYTES)
+    fits(text, RECORD_BYTES)
 }
 
 fn fits(bytes: &[u8], most: usize) -> bool

@@ -2,8 +2,8 @@
 
 use crate::procedures::values::UNSET;
 use nfs_types::{
-    Call, CreateHow, DirectoryName, Handle, Moment, NewAttributes, Octets, SpecialFile, Stability,
-    Stamp, Verifier,
+    Call, CreateHow, DirectoryName, Handle, Moment, NewAttributes, Octets, SharedOctets,
+    SpecialFile, Stability, Stamp, Verifier,
 };
 use std::alloc::{AllocError, Global};
 
@@ -83,7 +83,7 @@ fn write(
         offset,
         count,
         stability: Stability::Unstable,
-        bytes: Octets::copied(alloc, bytes)?,
+        bytes: SharedOctets::copied(alloc, bytes)?,
     })
 }
 

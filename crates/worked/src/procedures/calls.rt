@@ -1,7 +1,7 @@
 //! The worked call of each procedure that has arguments, as a value.
 
 use crate::procedures::values::{DEVICE, SET, UNSET, VERIFIER, handle, name, new_name};
-use nfs_types::{Call, CreateHow, Moment, MountCall, Octets, SpecialFile, Stability};
+use nfs_types::{Call, CreateHow, Moment, MountCall, Octets, SharedOctets, SpecialFile, Stability};
 use std::alloc::{AllocError, Global};
 
 /// GETATTR.
@@ -59,7 +59,7 @@ pub fn write_call(alloc: Global) -> Result<Call, AllocError> {
         offset: 4096,
         count: 5,
         stability: Stability::FileSync,
-        bytes: Octets::copied(alloc, b"hello")?,
+        bytes: SharedOctets::copied(alloc, b"hello")?,
     })
 }
 

@@ -1,4 +1,4 @@
-use Rattle.std.proofs.Common.{refl}
+use Rattle.std.proofs.Common.{ℕ, ◌<◌, List, get_or, refl, subst}
 use Rattle.session_wire.specs.Judging.{judged}
 use Rattle.plain_session.specs.Answering.{Files}
 use Rattle.plain_session.proofs.Closing.{called, closed, refusal}
@@ -9,7 +9,8 @@ use Rattle.plain_session.proofs.answers.answer_record.Goals as goal
 pub answer_call-requires-clause-fits : goal.answer_call-requires-clause-fits
 answer_call-requires-clause-fits c =
     taken c.args.message.now c.in-Call.xid c.in-Call.credential c.in-Call.call (judged c.args.message.now) refl
-    c.are_bytes.ensures c.in-Call.ensures
+    (subst (λ (bytes : List ℕ). (index : ℕ) → get_or bytes index 0 < 256) c.as_slice.ensures c.are_bytes.ensures)
+    c.in-Call.ensures
 
 pub returns-in-Closed-clause-closed : goal.returns-in-Closed-clause-closed
 returns-in-Closed-clause-closed c = λ same.

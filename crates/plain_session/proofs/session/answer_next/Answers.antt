@@ -14,7 +14,7 @@ returns-in_err-reply-clause-err c =
       inr (
         lost.0,
         drop c.in-Record.taken c.args.unread.now.items,
-        begins_answered _ _ _ _ _ _ _ first c.as_slice-3.ensures.value lost.1,
+        begins_answered _ _ _ _ _ _ _ first c.in_ok-message.ensures.ok lost.1,
       ),
     )
 
@@ -23,7 +23,7 @@ returns-in_default-clause-stops c =
     let first = first_of c.args.unread.now.items _ _ c.in-Record.record c.in-Record.taken
     c.as_slice.ensures.value c.in_ok-first_record.ensures c.in-Record.is in
     let closed = c.in_ok-reply.ensures.closed (ap Ok c.in_default.is) in (
-      inr (begins_closing _ _ _ _ first c.as_slice-3.ensures.value closed.0),
+      inr (begins_closing _ _ _ _ first c.in_ok-message.ensures.ok closed.0),
       refl {A = List ℕ},
       refl {A = List ℕ},
       closed.1,
@@ -39,6 +39,6 @@ returns-in_err-extend_from_slice-clause-err c =
       inr (
         c.in-Some.reply.items,
         drop c.in-Record.taken c.args.unread.now.items,
-        begins_answered _ _ _ _ _ _ _ first c.as_slice-3.ensures.value answered,
+        begins_answered _ _ _ _ _ _ _ first c.in_ok-message.ensures.ok answered,
       ),
     )

@@ -1,4 +1,4 @@
-use Rattle.std.proofs.Common.{inl, inr, List, ℕ, refl}
+use Rattle.std.proofs.Common.{◌<◌, get_or, inl, inr, List, ℕ, refl, subst}
 use Rattle.session_wire.specs.declared.message.ReplyBody.TheVariants as bodies
 use Rattle.session_wire.specs.Judging.{judged}
 use Rattle.store_images.specs.Opening.{store_of}
@@ -11,7 +11,8 @@ pub serve_call-requires-clause-fits : goal.serve_call-requires-clause-fits
 serve_call-requires-clause-fits g c =
     let told = c.in-Call in
     taken c.args.message.now told.xid told.credential told.call (judged c.args.message.now) refl
-    c.are_bytes.ensures told.ensures
+    (subst (λ (bytes : List ℕ). (index : ℕ) → get_or bytes index 0 < 256) c.as_slice.ensures c.are_bytes.ensures)
+    told.ensures
 
 pub returns-in-Refused-clause-serves : goal.returns-in-Refused-clause-serves
 returns-in-Refused-clause-serves g c =

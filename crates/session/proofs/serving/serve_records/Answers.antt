@@ -45,7 +45,7 @@ returns-in-Err-serve_record-clause-going g c = λ first unwritten read course.
     let found = subst (λ o. IfSome o (λ content. (text : List ℕ) × IsRecord text content
     × (c.records.records ≡ text ++ c.next_record.new.records))) c.in-Ok-Some.field-0-is
     c.in-Ok-Some.ensures.found in
-    let is = subst (IsRecord found.0) (sym c.deref.ensures) found.1 in (
+    let is = found.1 in (
       c.records.records,
       c.records.replies,
       old,
@@ -72,7 +72,7 @@ records-preserved-in-Ok g c = (
       let found = subst (λ o. IfSome o (λ content. (text : List ℕ) × IsRecord text content
       × (c.records.records ≡ text ++ c.next_record.new.records))) c.in-Ok-Some.field-0-is
       c.in-Ok-Some.ensures.found in
-      let is = subst (IsRecord found.0) (sym c.deref.ensures) found.1 in
+      let is = found.1 in
       serves (keeps now.disk) c.args.moment first unwritten read c.records.records c.records.replies old
       told found.0 _
       c.next_record.new.records _ new (told_of g.W.Write.contents c.serve_record.new.writer)
@@ -97,7 +97,7 @@ records-preserved g c = (
       let found = subst (λ o. IfSome o (λ content. (text : List ℕ) × IsRecord text content
       × (c.records.records ≡ text ++ c.next_record.new.records))) c.in-Ok-Some.field-0-is
       c.in-Ok-Some.ensures.found in
-      let is = subst (IsRecord found.0) (sym c.deref.ensures) found.1 in
+      let is = found.1 in
       serves (keeps now.disk) c.args.moment first unwritten read c.records.records c.records.replies old
       told found.0 _
       c.next_record.new.records _ new (told_of g.W.Write.contents c.serve_record.new.writer)
