@@ -1,6 +1,8 @@
 -- What is known of a name stays true however much more is read, and as more blocks are looked through.
-use Rattle.std.proofs.Common.{◌≡◌, ℕ, ◌+◌, ◌*◌, ◌<◌, ◌≤◌, ap, sym, ◌∙◌, subst, List, Option, None, Some, Result, Ok, Err, arith}
-use Rattle.limits.specs.declared.TheConstants.{SLOTS_PER_BLOCK}
+use Rattle.std.proofs.Common.{◌≡◌, ℕ, ◌+◌, ◌*◌, ◌<◌, ◌≤◌, ap, sym, ◌∙◌, subst, inl, inr, List, length, Option, None}
+use Rattle.std.proofs.Common.{Some, Result, Ok, Err, arith}
+use Rattle.std.proofs.lemmas.Bool.{cases_lt}
+use Rattle.limits.specs.declared.TheConstants.{BLOCK_BYTES, SLOTS_PER_BLOCK}
 use Rattle.disk.specs.Crash.{Image}
 use Rattle.layout.specs.declared.fault.LayoutFault.{LayoutFault}
 use Rattle.layout.specs.declared.geometry.Geometry.{Geometry}
@@ -14,8 +16,9 @@ use Rattle.inode.specs.Over.{HasInode}
 use Rattle.inode.specs.Read.{Saw}
 use Rattle.files.specs.declared.entry.Entry.{Entry}
 use Rattle.dir.specs.declared.sought.Sought.{Sought}
-use Rattle.dir.specs.Slots.{IsDirectoryOf, IsFound, Lying, NoneHas, slot_at}
-use Rattle.dir.specs.Sought.{IsSought}
+use Rattle.dir.specs.Slots.{HasBlockAt, IsDirectoryOf, IsFound, Lying, NoneHas, NoneRefused, block_slot, slot_at}
+use Rattle.dir.specs.Sought.{IsClearAt, IsClearBehind, IsSought}
+use Rattle.dir.specs.Sought.IsClearBehind.{more, same as kept_same}
 use Rattle.dir.proofs.FoundIn.{found_within, none_more}
 
 module _ (snap later : Snap) (same : later.geometry ≡ snap.geometry)
@@ -48,6 +51,12 @@ module _ (snap later : Snap) (same : later.geometry ≡ snap.geometry)
         subst (λ (g : Geometry). IsFound (slot_at g.inodes (content_in g blocks) inode) sought.name 0
         (SLOTS_PER_BLOCK * sought.blocks) (Some place)) (sym same)
         (is.some blocks tree inode place (before blocks tree sought.directory inode directory) some);
+    few = is.few;
+    clear = λ blocks inode index seen there less number at long.
+        subst (λ (g : Geometry). NoneRefused (block_slot g.inodes (SLOTS_PER_BLOCK * index) (blocks number))
+        (SLOTS_PER_BLOCK * index) (SLOTS_PER_BLOCK * index + SLOTS_PER_BLOCK)) (sym same)
+        (is.clear blocks inode index (saw blocks seen)
+        (subst (λ (g : Geometry). inode_at g blocks sought.directory ≡ Ok (Some inode)) same there) less number at long);
   }
 
 -- ---- one block more
@@ -85,7 +94,11 @@ module _ (snap : Snap) (old new : Sought) (inode : Inode) (directory : new.direc
     (ok : (blocks : Image) (tree : Tree) (file : ℕ) → IsDirectoryOf snap blocks tree file inode
     → old.blocks < span_of inode
     → IsFound (slot_at snap.geometry.inodes (content_in snap.geometry blocks) inode) old.name
-    (SLOTS_PER_BLOCK * old.blocks) (SLOTS_PER_BLOCK * old.blocks + SLOTS_PER_BLOCK) new.found) where
+    (SLOTS_PER_BLOCK * old.blocks) (SLOTS_PER_BLOCK * old.blocks + SLOTS_PER_BLOCK) new.found)
+    (first : ℕ) (bytes : List ℕ) (at_first : first ≡ SLOTS_PER_BLOCK * old.blocks)
+    (read : (blocks : Image) (number : ℕ) → Saw blocks snap → HasBlockAt blocks inode old.blocks number
+    → length (blocks number) ≡ BLOCK_BYTES → bytes ≡ blocks number)
+    (behind : IsClearBehind snap.geometry.inodes first bytes old new.clear) where
   is_it : (blocks : Image) (one : Inode) → Saw blocks snap
       → inode_at snap.geometry blocks new.directory ≡ Ok (Some one) → inode ≡ one
   is_it blocks one seen at =
@@ -98,6 +111,31 @@ module _ (snap : Snap) (old new : Sought) (inode : Inode) (directory : new.direc
       subst (λ (number : ℕ). IsDirectoryOf snap blocks tree number inode) directory
       (subst (λ (i : Inode). IsDirectoryOf snap blocks tree new.directory i)
       (sym (is_it blocks one is.has.over.saw is.has.there)) is)
+
+  few_clear : old.clear ≤ old.blocks → IsClearBehind snap.geometry.inodes first bytes old new.clear
+      → new.clear ≤ new.blocks
+  few_clear few (kept_same kept) = omega (arith, kept, few, next)
+  few_clear few (more all one none) = omega (arith, one, next)
+
+  -- the block that was looked through is clear, where it is counted so
+  clear_here : NoneRefused (block_slot snap.geometry.inodes first bytes) first (first + SLOTS_PER_BLOCK)
+      → (blocks : Image) → Saw blocks snap → IsClearAt snap blocks inode old.blocks
+  clear_here none blocks seen number at long =
+      subst (λ (from : ℕ). NoneRefused (block_slot snap.geometry.inodes from (blocks number)) from
+      (from + SLOTS_PER_BLOCK)) at_first
+      (subst (λ (b : List ℕ). NoneRefused (block_slot snap.geometry.inodes first b) first (first + SLOTS_PER_BLOCK))
+      (read blocks number seen at long) none)
+
+  clear_so_far : IsClearBehind snap.geometry.inodes first bytes old new.clear → (blocks : Image) → Saw blocks snap
+      → ((index : ℕ) → index < old.clear → IsClearAt snap blocks inode index)
+      → (index : ℕ) → index < new.clear → IsClearAt snap blocks inode index
+  clear_so_far (kept_same kept) blocks seen before index less = before index (omega (arith, less, kept))
+  clear_so_far (more all one none) blocks seen before index less = elim (cases_lt index old.blocks) [
+    | inl early ↦ before index (omega (arith, early, all))
+    | inr late ↦
+        let last : old.blocks ≡ index = omega (arith, late, less, one) in
+        subst (IsClearAt snap blocks inode) last (clear_here none blocks seen)
+  ]
 
   pub looked : IsSought snap old → IsSought snap new
   looked was = record {
@@ -122,6 +160,11 @@ module _ (snap : Snap) (old new : Sought) (inode : Inode) (directory : new.direc
         (subst (λ (i : Inode). IsFound (lies i) old.name 0 (SLOTS_PER_BLOCK * (old.blocks + 1)) (Some place))
         (is_it blocks one is.has.over.saw is.has.there)
         (more_some (lies inode) old.name old.blocks new.found place found (ok blocks tree old.directory it less))));
+    few = few_clear was.few behind;
+    clear = λ blocks one index seen at below.
+        subst (λ (i : Inode). IsClearAt snap blocks i index) (is_it blocks one seen at)
+        (clear_so_far behind blocks seen (λ k early. was.clear blocks inode k seen (there blocks seen) early) index
+        below);
   }
 
 -- ---- what is known in the end

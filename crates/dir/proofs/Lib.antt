@@ -10,3 +10,5 @@ pub mod VacantIn
 pub mod UsedByDirectory
 pub mod Grown
 pub mod Needed
+pub mod ClearBlocks
+pub mod Looks

@@ -1,11 +1,14 @@
 -- What lies in the slots of a directory.
-use Rattle.std.specs.Prelude.{◌≡◌, ℕ, ◌-◌, ◌*◌, ◌<◌, ◌≤◌, List, take, drop, Option, Some, None, Result, Ok, Err}
+use Rattle.std.specs.Prelude.{◌≡◌, ℕ, ◌-◌, ◌*◌, ◌<◌, ◌≤◌, List, take, drop, get_or, length, Option, Some, None}
+use Rattle.std.specs.Prelude.{Result, Ok, Err, IsOk}
+use Rattle.limits.specs.declared.TheConstants.{BLOCK_BYTES, DIRECT_INDEXES, INDIRECT_INDEXES}
 use Rattle.disk.specs.Crash.{Image}
 use Rattle.layout.specs.declared.fault.LayoutFault.{LayoutFault}
 use Rattle.layout.specs.declared.inode.Inode.{Inode}
 use Rattle.layout.specs.declared.slot.Slot.{Slot}
 use Rattle.layout.specs.declared.slot.TheConstants.{SLOT_BYTES}
 use Rattle.layout.specs.Decode.{slot_bytes}
+use Rattle.layout.specs.Fields.{numbers_at}
 use Rattle.layout.specs.SlotForm.{number_under, read_slot}
 use Rattle.layout.specs.declared.inode.InodeKind.TheVariants as kinds
 use Rattle.model.specs.Tree.{Tree}
@@ -18,6 +21,13 @@ use Rattle.files.specs.declared.entry.Entry.{Entry}
 pub record IsDirectoryOf (snap : Snap) (blocks : Image) (tree : Tree) (file : ℕ) (inode : Inode) : Type 0 where
   pub has : HasInode snap blocks tree file inode
   pub kind : inode.kind ≡ kinds.Directory
+
+-- a directory has the block of this number at an index: by its inode, or by its indirect block, which is a whole one
+pub data HasBlockAt (blocks : Image) (inode : Inode) (index number : ℕ) : Type 0 where
+  near : index < DIRECT_INDEXES → number ≡ get_or inode.direct index 0 → HasBlockAt blocks inode index number
+  far : DIRECT_INDEXES ≤ index → length (blocks inode.indirect) ≡ BLOCK_BYTES
+      → number ≡ get_or (numbers_at INDIRECT_INDEXES 0 (blocks inode.indirect)) (index - DIRECT_INDEXES) 0
+      → HasBlockAt blocks inode index number
 
 -- what each slot is
 abbrev pub Lying : Type 0
@@ -54,6 +64,10 @@ IsNext lies from end (Some named) =
     (from ≤ named.slot) × (named.slot < end)
     × (lies named.slot ≡ Ok (Some (record { number = named.number; name = named.name })))
     × AreFree lies from named.slot
+
+-- the layout refuses none of these slots
+abbrev pub NoneRefused : Lying → ℕ → ℕ → Type 0
+NoneRefused lies from end = (slot : ℕ) → from ≤ slot → slot < end → IsOk (lies slot)
 
 -- one of these slots is refused
 pub record HasFault (lies : Lying) (from end : ℕ) : Type 0 where

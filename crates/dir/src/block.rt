@@ -1,58 +1,97 @@
 //! The slots of one block of a directory.
-ghost use Rattle.std.specs.Prelude.{◌≡◌, ◌+◌, ◌*◌, ◌^◌, ◌<◌, ◌≤◌, ℕ, false, length, IfOk, IfErr, Ok, Some};
+ghost use Rattle.std.specs.Prelude.{◌≡◌, ◌+◌, ◌*◌, ◌^◌, ◌<◌, ◌≤◌, ℕ, true, length, IfOk, IfErr};
 ghost use Rattle.limits.specs.declared.TheConstants.{BLOCK_BYTES, MOST_SPAN, SLOTS_PER_BLOCK};
 ghost use Rattle.layout.specs.declared.slot.TheConstants.{SLOT_BYTES};
-ghost use Rattle.layout.specs.SlotForm.{number_under, read_slot};
-ghost use Rattle.dir.specs.Slots.{HasFault, IsFound, IsNext, block_slot};
+ghost use Rattle.layout.specs.SlotForm.{IsLook, read_slot};
+ghost use Rattle.dir.specs.Slots.{HasFault, IsFound, IsNext, NoneRefused, block_slot};
 
 use files::{Entry, SlotName};
-use layout::{LayoutFault, NamePattern, Slot};
+use layout::{LayoutFault, Look, NamePattern, Slot};
 use limits::SLOTS_PER_BLOCK;
 use std::alloc::{AllocError, Global};
 
-/// Compares a name with what may be one in a slot, and counts that it did. Where they differ the slot has no number
-/// under the name. Nothing else compares names.
-pub fn compare(slot: &[u8], name: &NamePattern, compared: &mut u64) -> bool
+/// What a look through a block for a name has found: the slot that has it, if one does; and, of the slots before
+/// `past`, behind which none was looked at, whether none is refused.
+#[derive(Drop)]
+pub(crate) struct Looked {
+    pub found: Option<Entry>,
+    pub past: u32,
+    pub clear: bool,
+}
+
+/// Looks at a slot for a name, with which its own is compared, and counts that it is. Nothing else compares names.
+pub fn compare(inodes: u32, slot: &[u8], name: &NamePattern, compared: &mut u64) -> Look
     requires len { length slot.now ≡ SLOT_BYTES }
     requires room { compared.old + 1 < 2 ^ 64 }
-    ensures differ { result ≡ false → (inodes number : ℕ)
-        → number_under name.now (read_slot inodes slot.now) ≡ Ok (Some number) → ⊥ }
+    ensures look { IsLook name.now (read_slot inodes slot.now) result }
     ensures one { compared.new ≡ compared.old + 1 }
 {
     *compared += 1;
-    Slot::may_have(slot, name)
+    Slot::look(inodes, slot, name)
 }
 
 /// A slot of a block that has a name, where the block's slots are numbered from one on. One that the layout refuses
-/// has none.
+/// has none. Each slot is looked at once, up to the one that has it.
 pub(crate) fn find_in_block(
     inodes: u32,
     block: &[u8],
     first: u32,
     name: &[u8],
     compared: &mut u64,
-) -> Option<Entry>
+) -> Looked
     requires len { length block.now ≡ BLOCK_BYTES }
     requires small { first + SLOTS_PER_BLOCK ≤ SLOTS_PER_BLOCK * MOST_SPAN }
     requires room { compared.old + SLOTS_PER_BLOCK < 2 ^ 64 }
-    ensures found { IsFound (block_slot inodes first block.now) name.now first (first + SLOTS_PER_BLOCK) result }
+    ensures found { IsFound (block_slot inodes first block.now) name.now first (first + SLOTS_PER_BLOCK) result.found }
+    ensures clear { result.clear ≡ true → NoneRefused (block_slot inodes first block.now) first result.past }
+    ensures past { first ≤ result.past }
     ensures count { compared.new ≤ compared.old + SLOTS_PER_BLOCK }
 {
     let pattern = match NamePattern::of(name) {
         Some(pattern) => pattern,
-        None => return None,
+        None => {
+            return Looked {
+                found: None,
+                past: first,
+                clear: true,
+            };
+        }
     };
+    let mut clear = true;
     'slots: for slot in first..first + SLOTS_PER_BLOCK {
         let bytes = Slot::bytes_in(block, slot - first);
-        if compare(bytes, &pattern, compared) {
-            match Slot::number_under(inodes, bytes, name) {
-                Ok(Some(number)) => return Some(Entry { number, slot }),
-                Ok(None) => {}
-                Err(_) => {}
+        match compare(inodes, bytes, &pattern, compared) {
+            Look::Named(number) => {
+                return Looked {
+                    found: Some(Entry { number, slot }),
+                    past: slot + 1,
+                    clear,
+                };
             }
+            Look::Refused => clear = false,
+            Look::Other => {}
         }
     }
-    None
+    Looked {
+        found: None,
+        past: first + SLOTS_PER_BLOCK,
+        clear,
+    }
+}
+
+/// Whether the layout refuses no slot of a block from one on.
+pub(crate) fn is_clear_from(inodes: u32, block: &[u8], first: u32, from: u32) -> bool
+    requires len { length block.now ≡ BLOCK_BYTES }
+    requires small { first + SLOTS_PER_BLOCK ≤ SLOTS_PER_BLOCK * MOST_SPAN }
+    requires from { first ≤ from }
+    ensures { result ≡ true → NoneRefused (block_slot inodes first block.now) from (first + SLOTS_PER_BLOCK) }
+{
+    'slots: for slot in from..first + SLOTS_PER_BLOCK {
+        if Slot::is_refused(inodes, Slot::bytes_in(block, slot - first)) {
+            return false;
+        }
+    }
+    true
 }
 
 /// The first slot of a block, from one on, in which a name lies.

@@ -35,7 +35,8 @@ fn find_at(snap: &Snap, inode: &Inode, index: usize, name: &[u8]) -> Result<Opti
     let block = directory_block(snap, inode, index)?;
     let mut compared = 0;
     let first = SLOTS_PER_BLOCK * index as u32;
-    Ok(find_in_block(snap.geometry.inodes, block, first, name, &mut compared))
+    let looked = find_in_block(snap.geometry.inodes, block, first, name, &mut compared);
+    Ok(looked.found)
 }
 
 // How many of a directory's first blocks were read, as it seems: the last of them was, and the one behind them

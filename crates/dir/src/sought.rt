@@ -1,8 +1,9 @@
 //! Names that are looked for in a directory, block by block, as these are read.
-ghost use Rattle.std.specs.Prelude.{◌≡◌, ◌+◌, ◌*◌, ◌^◌, ◌<◌, ◌≤◌, ℕ, true, None, Some, Ok, IfErr, IfOk, OnErr, OnOk};
+ghost use Rattle.std.specs.Prelude.{◌≡◌, ◌+◌, ◌*◌, ◌^◌, ◌<◌, ◌≤◌, ℕ, true, length, None, Some, Ok};
+ghost use Rattle.std.specs.Prelude.{IfErr, IfOk, OnErr, OnOk};
 ghost use Rattle.std.specs.FinMap.{get};
 ghost use Rattle.std.specs.Option.{option_map};
-ghost use Rattle.limits.specs.declared.TheConstants.{MOST_SPAN, SLOTS_PER_BLOCK};
+ghost use Rattle.limits.specs.declared.TheConstants.{BLOCK_BYTES, MOST_SPAN, SLOTS_PER_BLOCK};
 ghost use Rattle.disk.specs.Crash.{Image};
 ghost use Rattle.model.specs.Tree.{Tree};
 ghost use Rattle.layout.specs.Decode.{entries_in, inode_at, span_of};
@@ -11,12 +12,13 @@ ghost use Rattle.inode.specs.Over.{IsPause, MayStop};
 ghost use Rattle.inode.specs.declared.snap.Snap.{Snap};
 ghost use Rattle.inode.specs.Read.{Saw};
 ghost use Rattle.files.specs.Heads.{entry_of};
-ghost use Rattle.dir.specs.Slots.{IsDirectoryOf};
-ghost use Rattle.dir.specs.Sought.{IsSought};
+ghost use Rattle.dir.specs.Slots.{IsDirectoryOf, NoneRefused, block_slot};
+ghost use Rattle.dir.specs.Sought.{IsClearAt, IsClearBehind, IsSought};
+ghost use Rattle.layout.specs.declared.inode.Inode.{Inode};
 ghost use Rattle.inode.specs.Asked.{IsNeededAt, IsStopFor};
 ghost use Rattle.dir.specs.Asked.{IsNextSought, IsSoughtOrAnew};
 
-use crate::block::find_in_block;
+use crate::block::{Looked, find_in_block, is_clear_from};
 use crate::finding::find;
 use crate::span::{directory_block, span_of};
 use files::Entry;
@@ -25,26 +27,28 @@ use layout::Inode;
 use limits::SLOTS_PER_BLOCK;
 use nfs_types::Octets;
 
-/// A name that is looked for in the directory of a number: how many of its first blocks were looked through, and where
-/// it was found, if it was.
+/// A name that is looked for in the directory of a number: how many of its first blocks were looked through, of how
+/// many of these it is known that the layout refuses none of their slots, and where the name was found, if it was.
 #[derive(Drop)]
 pub struct Sought {
     pub directory: u32,
     pub name: Octets,
     pub blocks: u32,
+    pub clear: u32,
     pub found: Option<Entry>,
 }
 
 impl Sought {
     /// Nothing was looked through yet.
     pub fn begin(directory: u32, name: Octets) -> Sought
-        ensures is { result ≡ record { directory = directory; name = name; blocks = 0; found = None } }
+        ensures is { result ≡ record { directory = directory; name = name; blocks = 0; clear = 0; found = None } }
         ensures knows { (snap : Snap) → IsSought snap result }
     {
         Sought {
             directory,
             name,
             blocks: 0,
+            clear: 0,
             found: None,
         }
     }
@@ -55,6 +59,38 @@ impl Sought {
         ensures name { result ≡ true → self.now.name ≡ name.now }
     {
         self.directory == number && self.name.as_slice() == name
+    }
+
+    /// Of how many first blocks of the directory of a number it is known that the layout refuses none of their slots.
+    pub fn clear_of(&self, number: u32) -> u32
+        ensures { (snap : Snap) (blocks : Image) (inode : Inode) (index : ℕ) → IsSought snap self.now
+            → Saw blocks snap → inode_at snap.geometry blocks number ≡ Ok (Some inode) → index < result
+            → IsClearAt snap blocks inode index }
+    {
+        if self.directory == number {
+            self.clear
+        } else {
+            0
+        }
+    }
+}
+
+// How many first blocks are clear, once the next one was looked through: from one on that isn't it doesn't grow.
+fn clear_behind(inodes: u32, block: &[u8], first: u32, sought: &Sought, looked: &Looked) -> u32
+    requires len { length block.now ≡ BLOCK_BYTES }
+    requires few { sought.now.blocks < MOST_SPAN }
+    requires first { first ≡ SLOTS_PER_BLOCK * sought.now.blocks }
+    requires past { first ≤ looked.now.past }
+    requires clear { looked.now.clear ≡ true → NoneRefused (block_slot inodes first block.now) first looked.now.past }
+    ensures { IsClearBehind inodes first block.now sought.now result }
+{
+    if sought.clear != sought.blocks || !looked.clear {
+        return sought.clear;
+    }
+    if is_clear_from(inodes, block, first, looked.past) {
+        sought.clear + 1
+    } else {
+        sought.clear
     }
 }
 
@@ -83,14 +119,11 @@ fn look_through(
 {
     let block = directory_block(snap, inode, sought.blocks as usize)?;
     let first = SLOTS_PER_BLOCK * sought.blocks;
-    let found = find_in_block(
-        snap.geometry.inodes,
-        block,
-        first,
-        sought.name.as_slice(),
-        compared,
-    );
-    sought.found = found;
+    let inodes = snap.geometry.inodes;
+    let looked = find_in_block(inodes, block, first, sought.name.as_slice(), compared);
+    let clear = clear_behind(inodes, block, first, sought, &looked);
+    sought.clear = clear;
+    sought.found = looked.found;
     sought.blocks += 1;
     Ok(())
 }

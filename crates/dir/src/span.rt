@@ -8,7 +8,8 @@ ghost use Rattle.layout.specs.Parts.{content_in};
 ghost use Rattle.inode.specs.declared.snap.Snap.{Snap};
 ghost use Rattle.inode.specs.Over.{IsPause, MayStop};
 ghost use Rattle.inode.specs.Shown.{IsShown, body_in};
-ghost use Rattle.dir.specs.Slots.{IsDirectoryOf, block_slot, slot_at};
+ghost use Rattle.inode.specs.Read.{Saw};
+ghost use Rattle.dir.specs.Slots.{HasBlockAt, IsDirectoryOf, block_slot, slot_at};
 ghost use Rattle.inode.specs.Asked.{IsNeededAt, IsReadAt, IsStopFor};
 
 use inode::{Snap, Stop, block_number, data_block};
@@ -69,6 +70,9 @@ pub(crate) fn directory_block<'a>(
         → (slot : ℕ) → SLOTS_PER_BLOCK * index ≤ slot → slot < SLOTS_PER_BLOCK * index + SLOTS_PER_BLOCK
         → slot_at snap.now.geometry.inodes (content_in snap.now.geometry blocks) inode.now slot
         ≡ block_slot snap.now.geometry.inodes (SLOTS_PER_BLOCK * index) block.now slot) }
+    ensures is { IfOk result (λ block. (blocks : Image) (number : ℕ) → Saw blocks snap.now
+        → HasBlockAt blocks inode.now index number → length (blocks number) ≡ BLOCK_BYTES
+        → block.now ≡ blocks number) }
     ensures err { IfErr result (λ stop. MayStop snap.now stop) }
     ensures asks { IfErr result (λ stop. IsStopFor (IsNeededAt snap.now inode.now index) stop) }
     ensures read { IfOk result (λ block. IsReadAt snap.now inode.now index) }

@@ -1,5 +1,5 @@
 //! The blocks of a file, as far as they were read.
-ghost use Rattle.std.specs.Prelude.{ℕ, ◌≡◌, ◌<◌, ◌⊎◌, length, get_or, true, false, IfNone, IfSome};
+ghost use Rattle.std.specs.Prelude.{ℕ, ◌≡◌, ◌<◌, ◌≤◌, ◌⊎◌, length, get_or, true, false, IfNone, IfSome};
 ghost use Rattle.std.specs.List.{list_all};
 ghost use Rattle.limits.specs.declared.TheConstants.{BLOCK_BYTES, INDIRECT_INDEXES, MOST_SPAN};
 ghost use Rattle.disk.specs.Crash.{Image};
@@ -109,15 +109,15 @@ fn is_refused_at(snap: &Snap, inode: &Inode, index: usize) -> bool
     }
 }
 
-// The same of all blocks that it spans.
-fn is_refused_directory(snap: &Snap, inode: &Inode) -> bool
+// The same of all blocks that it spans, from one on.
+fn is_refused_directory(snap: &Snap, inode: &Inode, from: usize) -> bool
     ensures some { result ≡ true → (blocks : Image) → AreRead snap.now blocks
         → (index : ℕ) × (index < span_of inode.now) × IsRefusedAt snap.now blocks inode.now index }
-    ensures none { result ≡ false → (blocks : Image) (index : ℕ) → Saw blocks snap.now
+    ensures none { result ≡ false → (blocks : Image) (index : ℕ) → Saw blocks snap.now → from ≤ index
         → index < span_of inode.now → IsRefusedAt snap.now blocks inode.now index → ⊥ }
 {
     let span = inode.size / BLOCK_BYTES as u64;
-    'indexes: for index in 0..MOST_SPAN {
+    'indexes: for index in from..MOST_SPAN {
         if index as u64 >= span {
             return false;
         }
@@ -193,18 +193,20 @@ fn is_refused_far(snap: &Snap, inode: &Inode) -> bool
     is_refused_double(snap, inode.double)
 }
 
-/// Whether the layout refuses a block of a file, as far as its blocks were read.
-pub(crate) fn has_refused_block(snap: &Snap, inode: &Inode) -> bool
+/// Whether the layout refuses a block of a file, as far as its blocks were read. Of so many first ones of a directory
+/// it is known that it doesn't.
+pub(crate) fn has_refused_block(snap: &Snap, inode: &Inode, clear: usize) -> bool
     ensures some { result ≡ true → (blocks : Image) → AreRead snap.now blocks
         → HasRefusedBlock snap.now blocks inode.now }
     ensures none { result ≡ false → (blocks : Image) → Saw blocks snap.now
+        → ((index : ℕ) → index < clear → IsRefusedAt snap.now blocks inode.now index → ⊥)
         → HasRefusedBlock snap.now blocks inode.now → ⊥ }
 {
     if is_refused_far(snap, inode) {
         return true;
     }
     match inode.kind {
-        InodeKind::Directory => is_refused_directory(snap, inode),
+        InodeKind::Directory => is_refused_directory(snap, inode, clear),
         InodeKind::Regular | InodeKind::Link => false,
     }
 }

@@ -7,33 +7,37 @@ ghost use Rattle.layout.specs.InodeForm.{read_inode};
 ghost use Rattle.layout_records.specs.OnGrid.{IsInodeAt};
 ghost use Rattle.txn.specs.Window.{IsAsRead};
 ghost use Rattle.inode.specs.Read.{Saw};
+ghost use Rattle.name_search.specs.Known.{IsKnown};
 ghost use Rattle.inspection.specs.Refused.{AreRead, IsRefused, IsRefusedFile};
 
 use crate::blocks::has_refused_block;
 use inode::Snap;
 use layout::Inode;
 use layout_records::inode_number;
+use name_search::Names;
 use txn::Object;
 
-// Whether the layout refuses the bytes of an inode, or a block that was read of its file.
-fn is_refused_inode(snap: &Snap, bytes: &[u8]) -> bool
-    requires { length bytes.now ≡ INODE_BYTES }
-    ensures some { result ≡ true → (blocks : Image) (number : ℕ) → AreRead snap.now blocks
+// Whether the layout refuses the bytes of the inode of a number, or a block that was read of its file.
+fn is_refused_inode(snap: &Snap, names: &Names, number: u32, bytes: &[u8]) -> bool
+    requires len { length bytes.now ≡ INODE_BYTES }
+    requires known { IsKnown snap.now names.now }
+    ensures some { result ≡ true → (blocks : Image) → AreRead snap.now blocks
         → inode_at snap.now.geometry blocks number ≡ read_inode snap.now.geometry bytes.now
         → IsRefusedFile snap.now blocks number }
-    ensures none { result ≡ false → (blocks : Image) (number : ℕ) → Saw blocks snap.now
+    ensures none { result ≡ false → (blocks : Image) → Saw blocks snap.now
         → inode_at snap.now.geometry blocks number ≡ read_inode snap.now.geometry bytes.now
         → IsRefusedFile snap.now blocks number → ⊥ }
 {
     match Inode::read(&snap.geometry, bytes) {
-        Ok(Some(inode)) => has_refused_block(snap, &inode),
+        Ok(Some(inode)) => has_refused_block(snap, &inode, names.clear_of(number) as usize),
         Ok(None) => false,
         Err(_) => true,
     }
 }
 
 // The same of an object, if it is an inode.
-fn is_refused_object(snap: &Snap, object: &Object) -> bool
+fn is_refused_object(snap: &Snap, names: &Names, object: &Object) -> bool
+    requires known { IsKnown snap.now names.now }
     ensures some { result ≡ true → (blocks : Image) → AreRead snap.now blocks → IsAsRead blocks object.now
         → (number : ℕ) × IsInodeAt snap.now.geometry number object.now.addr × IsRefusedFile snap.now blocks number }
     ensures none { result ≡ false → (blocks : Image) (number : ℕ) → Saw blocks snap.now
@@ -41,19 +45,20 @@ fn is_refused_object(snap: &Snap, object: &Object) -> bool
         → IsRefusedFile snap.now blocks number → ⊥ }
 {
     match inode_number(&snap.geometry, object.addr()) {
-        Some(_) => is_refused_inode(snap, object.bytes()),
+        Some(number) => is_refused_inode(snap, names, number, object.bytes()),
         None => false,
     }
 }
 
 /// Whether the layout refuses something that was read: an inode, or a pointer block or a slot of a file whose
-/// inode was read.
-pub fn is_refused(snap: &Snap) -> bool
+/// inode was read. The blocks that were looked through for a name, and are known to be clear, aren't looked at again.
+pub fn is_refused(snap: &Snap, names: &Names) -> bool
+    requires known { IsKnown snap.now names.now }
     ensures some { result ≡ true → (blocks : Image) → AreRead snap.now blocks → IsRefused snap.now blocks }
     ensures none { result ≡ false → (blocks : Image) → Saw blocks snap.now → IsRefused snap.now blocks → ⊥ }
 {
     for object in &snap.objects {
-        if is_refused_object(snap, object) {
+        if is_refused_object(snap, names, object) {
             return true;
         }
     }

@@ -1,7 +1,7 @@
 -- What stands in a slot that has a name.
 use Rattle.std.proofs.Common.{◌≡◌, ℕ, ◌+◌, ◌≤◌, sym, ap, ◌∙◌, refl, Bool, true, false, cond, List, ◌++◌, length}
 use Rattle.std.proofs.Common.{take, drop, replicate}
-use Rattle.std.proofs.Common.{nat_eq, nat_le, nat_lt, Option, Some, None, Result, Ok, Err, arith}
+use Rattle.std.proofs.Common.{nat_eq, nat_le, nat_lt, Option, Some, None, Result, Ok, Err, IsOk, arith}
 use Rattle.std.specs.Cmp.Lexicographic.{slice_cmp}
 use Rattle.std.specs.FinMap as map
 use Rattle.std.specs.Ordering.{is_eq, nat_cmp}
@@ -13,6 +13,7 @@ use Rattle.limits.specs.declared.TheConstants.{NAME_BYTES}
 use Rattle.nfs_types.specs.Fits.{AreBytes}
 use Rattle.layout.specs.declared.fault.LayoutFault.{LayoutFault}
 use Rattle.layout.specs.declared.fault.LayoutFault.TheVariants.{Range}
+use Rattle.layout.specs.declared.slot.Slot.{Slot}
 use Rattle.layout.specs.declared.slot.TheConstants.{COUNT_AT, NAME_AT, NUMBER_AT, SLOT_BYTES}
 use Rattle.layout.specs.Fields.{eight_at, four_at, four_bytes, is_zeros}
 use Rattle.layout.specs.SlotForm.{is_sound_slot, number_under, read_slot, slot_of, used_bytes}
@@ -25,6 +26,19 @@ is_under : (test : Bool) (one number : ℕ) → ◌≡◌ {A = Under} (Ok (cond 
     → test ≡ true
 is_under true one number e = refl
 is_under false one number e = cc
+
+not_under : (test : Bool) (one : ℕ)
+    → ((number : ℕ) → ◌≡◌ {A = Under} (Ok (cond test (Some one) None)) (Ok (Some number)) → ⊥)
+    → ◌≡◌ {A = Under} (Ok (cond test (Some one) None)) (Ok None)
+not_under true one none = absurd (none one refl)
+not_under false one none = refl
+
+-- a slot that isn't refused, and has no number under a name
+pub none_under : (name : List ℕ) (read : Result (Option Slot) LayoutFault) → IsOk read
+    → ((number : ℕ) → number_under name read ≡ Ok (Some number) → ⊥) → number_under name read ≡ Ok None
+none_under name (Ok None) ok none = refl
+none_under name (Ok (Some one)) ok none = not_under (is_eq (slice_cmp nat_cmp name one.name)) one.number none
+none_under name (Err fault) ok none = let clash : false ≡ true = ok in cc
 
 same_bytes : (a b : List ℕ) (r : Ordering) → slice_cmp nat_cmp a b ≡ r → is_eq r ≡ true → a ≡ b
 same_bytes a b Less is e = cc

@@ -8,6 +8,8 @@ use Rattle.limits.specs.declared.TheConstants.{BLOCK_BYTES, NAME_BYTES}
 use Rattle.objects.specs.Spliced.{spliced}
 use Rattle.layout.specs.declared.fault.LayoutFault.{LayoutFault}
 use Rattle.layout.specs.declared.fault.LayoutFault.TheVariants.{Range}
+use Rattle.layout.specs.declared.slot.Look.{Look}
+use Rattle.layout.specs.declared.slot.Look.TheVariants as look
 use Rattle.layout.specs.declared.slot.Slot.{Slot}
 use Rattle.layout.specs.declared.slot.TheConstants.{NUMBER_AT, COUNT_AT, NAME_AT, SLOT_BYTES}
 use Rattle.layout.specs.Fields.{four_at, four_bytes, is_zeros}
@@ -40,6 +42,12 @@ abbrev pub number_under : List ℕ → Result (Option Slot) LayoutFault → Resu
 number_under name (Ok (Some slot)) = Ok (cond (is_eq (slice_cmp nat_cmp name slot.name)) (Some slot.number) None)
 number_under name (Ok None) = Ok None
 number_under name (Err fault) = Err fault
+
+-- What a look at a slot shows, of which this is read: each of these holds of no slot of which another does.
+abbrev pub IsLook : List ℕ → Result (Option Slot) LayoutFault → Look → Type 0
+IsLook name read look.Refused = read ≡ Err Range
+IsLook name read (look.Named number) = number_under name read ≡ Ok (Some number)
+IsLook name read look.Other = number_under name read ≡ Ok None
 
 -- the bytes that a slot in use gets: the number, the length of the name, the name, and zeros
 abbrev pub used_bytes : Slot → List ℕ

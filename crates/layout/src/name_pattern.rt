@@ -43,6 +43,13 @@ impl<'a> NamePattern<'a> {
         Some(NamePattern { name, bytes })
     }
 
+    // The name.
+    pub(crate) fn name(&self) -> &[u8]
+        ensures { result.now ≡ self.now }
+    {
+        self.name
+    }
+
     // The bytes.
     pub(crate) fn bytes(&self) -> &[u8]
         ensures bytes { result.now ≡ used_bytes (record { number = 0; name = self.now }) }

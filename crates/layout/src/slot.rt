@@ -3,7 +3,7 @@ ghost use Rattle.std.specs.Prelude.{◌≡◌, ◌+◌, ◌*◌, ◌<◌, ◌≤
 ghost use Rattle.std.specs.Prelude.{IfOk, IfErr, IsOk, Ok, Err, Option, Some};
 ghost use Rattle.limits.specs.declared.TheConstants.{BLOCK_BYTES, NAME_BYTES, SLOTS_PER_BLOCK};
 ghost use Rattle.layout.specs.Fields.{four_at, is_zeros};
-ghost use Rattle.layout.specs.SlotForm.{is_sound_slot, number_under, read_slot, used_bytes, IsInDirectory};
+ghost use Rattle.layout.specs.SlotForm.{is_sound_slot, number_under, read_slot, used_bytes, IsInDirectory, IsLook};
 
 use crate::fields::{are_zeros_at, eight_at, four_at, is_zeros, put_four};
 use crate::{LayoutFault, NamePattern};
@@ -25,6 +25,15 @@ pub(crate) const NAME_AT: usize = 8;
 // How many times eight bytes there are behind the number, which are more than the longest name has.
 
 const NAMED_WORDS: usize = (SLOT_BYTES - COUNT_AT) / 8;
+
+/// What one look at a slot shows of a name: that the slot is refused, or the number that it has under the name, or
+/// neither.
+#[derive(Clone, Copy)]
+pub enum Look {
+    Refused,
+    Named(u32),
+    Other,
+}
 
 /// A name in a directory, and the number of the file that it names.
 #[derive(Drop)]
@@ -85,25 +94,6 @@ impl Slot {
         is_zeros(bytes)
     }
 
-    /// Whether a slot may have a name, by the length and the bytes alone that stand where it has one: they are looked
-    /// at eight at a time. Where it may not, it has no number under the name: it is free, has another name, or is
-    /// refused.
-    pub fn may_have(bytes: &[u8], name: &NamePattern) -> bool
-        requires { length bytes.now ≡ SLOT_BYTES }
-        ensures { result ≡ false → (inodes number : ℕ)
-            → number_under name.now (read_slot inodes bytes.now) ≡ Ok (Some number) → ⊥ }
-    {
-        if !has_word(bytes, name, 0) {
-            return false;
-        }
-        'words: for word in 1..NAMED_WORDS {
-            if !has_word(bytes, name, word) {
-                return false;
-            }
-        }
-        true
-    }
-
     /// Whether a slot is refused, as reading it is: nothing is made of it.
     pub fn is_refused(inodes: u32, bytes: &[u8]) -> bool
         requires { length bytes.now ≡ SLOT_BYTES }
@@ -116,29 +106,51 @@ impl Slot {
         !is_sound_slot(inodes, bytes)
     }
 
-    /// The number that a slot has under a name: None where it is free or has another name. It is refused
-    /// where reading it is.
-    pub fn number_under(inodes: u32, bytes: &[u8], name: &[u8]) -> Result<Option<u32>, LayoutFault>
+    /// Looks at a slot once for a name: whether it is refused, as reading it is, and the number that it has under the
+    /// name. Most slots have another name, which a few bytes of it tell.
+    pub fn look(inodes: u32, bytes: &[u8], name: &NamePattern) -> Look
         requires { length bytes.now ≡ SLOT_BYTES }
-        ensures { result ≡ number_under name.now (read_slot inodes bytes.now) }
+        ensures { IsLook name.now (read_slot inodes bytes.now) result }
     {
         let number = four_at(bytes, NUMBER_AT);
         if number == 0 {
             return if is_zeros(bytes) {
-                Ok(None)
+                Look::Other
             } else {
-                Err(LayoutFault::Range)
+                Look::Refused
             };
         }
         if !is_sound_slot(inodes, bytes) {
-            return Err(LayoutFault::Range);
+            return Look::Refused;
         }
-        Ok(if name.cmp(name_in(bytes)).is_eq() {
-            Some(number)
+        if !may_have(bytes, name) {
+            return Look::Other;
+        }
+        if name.name().cmp(name_in(bytes)).is_eq() {
+            Look::Named(number)
         } else {
-            None
-        })
+            Look::Other
+        }
     }
+}
+
+// Whether a slot may have a name, by the length and the bytes alone that stand where it has one: they are looked
+// at eight at a time. Where it may not, it has no number under the name: it is free, has another name, or is
+// refused.
+fn may_have(bytes: &[u8], name: &NamePattern) -> bool
+    requires { length bytes.now ≡ SLOT_BYTES }
+    ensures { result ≡ false → (inodes number : ℕ)
+        → number_under name.now (read_slot inodes bytes.now) ≡ Ok (Some number) → ⊥ }
+{
+    if !has_word(bytes, name, 0) {
+        return false;
+    }
+    'words: for word in 1..NAMED_WORDS {
+        if !has_word(bytes, name, word) {
+            return false;
+        }
+    }
+    true
 }
 
 // Whether a slot has the eight bytes of a name's pattern that stand at an index behind the number.

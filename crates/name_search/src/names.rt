@@ -25,7 +25,7 @@ pub struct Names {
 }
 
 impl Names {
-    ghost use Rattle.std.specs.Prelude.{ℕ, None, Ok, Some, length, IfErr, IfOk};
+    ghost use Rattle.std.specs.Prelude.{◌<◌, ℕ, None, Ok, Some, length, IfErr, IfOk};
     ghost use Rattle.std.specs.FinMap.{get};
     ghost use Rattle.std.specs.Option.{option_map};
     ghost use Rattle.limits.specs.declared.TheConstants.{HANDLE_BYTES};
@@ -42,7 +42,7 @@ impl Names {
     ghost use Rattle.inode.specs.Over.{IsPause, MayStop};
     ghost use Rattle.inode.specs.Read.{Saw};
     ghost use Rattle.dir.specs.Slots.{IsDirectoryOf};
-    ghost use Rattle.dir.specs.Sought.{IsSought};
+    ghost use Rattle.dir.specs.Sought.{IsClearAt, IsSought};
     ghost use Rattle.name_search.specs.Known.{IsKnown, IsOfCall, IsOfPlace};
     ghost use Rattle.name_search.specs.Places.{first_place, second_place};
 
@@ -116,6 +116,17 @@ impl Names {
             → result ≤ SLOTS_PER_BLOCK * span_of inode }
     {
         self.compared
+    }
+
+    /// Of how many first blocks of the directory of a number it is known that the layout refuses none of their slots.
+    pub fn clear_of(&self, number: u32) -> u32
+        ensures { (snap : Snap) (blocks : Image) (inode : Inode) (index : ℕ) → IsKnown snap self.now
+            → Saw blocks snap → inode_at snap.geometry blocks number ≡ Ok (Some inode) → index < result
+            → IsClearAt snap blocks inode index }
+    {
+        let first = self.first.clear_of(number);
+        let second = self.second.clear_of(number);
+        if first < second { second } else { first }
     }
 
     /// What a name in the directory of a number leads to, whose inode is this one: by what is known, where it is one of

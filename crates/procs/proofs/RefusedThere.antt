@@ -1,6 +1,6 @@
 -- What was read shows that the layout doesn't refuse the file of a handle.
 use Rattle.std.proofs.Common.{rules, ◌≡◌, ℕ, ◌^◌, ◌<◌, inl, inr, sym, ap, ◌∙◌, subst, true, false}
-use Rattle.std.proofs.Common.{◌&&◌, nat_eq, not, refl, List, [], Option, Some, None, Result, Ok, Err, IfOk, arith}
+use Rattle.std.proofs.Common.{◌&&◌, nat_eq, not, refl, List, [], Option, Some, None, Result, Ok, Err, arith}
 use Rattle.std.proofs.lemmas.Bool.{eq-eqb}
 use Rattle.limits.specs.declared.TheConstants.{BLOCK_BYTES}
 use Rattle.disk.specs.Crash.{Image}
@@ -129,12 +129,6 @@ pub no_data_none : (snap : Snap) (blocks : Image) (number : ℕ) (inode : Inode)
     → NamesNoData snap.geometry blocks inode → ⊥
 no_data_none snap blocks number inode read not names =
     never (sym (far_data snap number inode read names.some) ∙ not)
-
--- ---- what comes of all results
-
-pub for_all : {A B : Type 0} {P : Type 0} (r : Result A B) → P → IfOk r (λ done. P)
-for_all (Ok a) p = p
-for_all (Err b) p = tt
 
 pub none_in : (asked : Call) (snap : Snap) (handle : Handle) → first_handle asked ≡ Some handle
     → NoneRefused snap handle.bytes → NoneRefusedIn snap asked

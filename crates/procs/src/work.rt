@@ -1,6 +1,7 @@
 //! Plans: what a call needs next, or what comes of it.
 ghost use Rattle.std.specs.Prelude.{◌≡◌, true, IfErr, IfOk};
 ghost use Rattle.model.specs.Calls.{begins_transaction};
+ghost use Rattle.inode.specs.Read.{NoneStand};
 ghost use Rattle.inode.specs.Snap.{IsNew};
 ghost use Rattle.name_search.specs.Known.{IsKnown};
 ghost use Rattle.procs.specs.Asks.{IsAsked};
@@ -61,8 +62,8 @@ fn answer(alloc: Global, ctx: &Ctx, call: &Call, snap: &Snap, names: &Names) -> 
     }
 }
 
-// The same, where the file of the call's first handle is read before. Where the layout refuses nothing that was
-// read, it doesn't refuse this file.
+// The same, and the file of the call's first handle is read, once it is known what comes of the call. Where the layout
+// refuses nothing that was read, it doesn't refuse this file.
 fn answer_behind(
     alloc: Global,
     ctx: &Ctx,
@@ -80,12 +81,54 @@ fn answer_behind(
     ensures io { IfErr result (λ stop. NoneStandFor ctx.now call.now snap.now stop) }
     ensures sound { IfOk result (λ done. NoneRead snap.now → NoneRefusedIn snap.now call.now) }
 {
-    match first_handle(call) {
-        Some(handle) => match read_file(snap, handle) {
-            Ok(()) => answer(alloc, ctx, call, snap, names),
-            Err(stop) => Err(stop),
+    match answer(alloc, ctx, call, snap, names) {
+        Ok(done) => match first_handle(call) {
+            Some(handle) => match read_file(snap, handle) {
+                Ok(()) => Ok(done),
+                Err(stop) => Err(stop),
+            },
+            None => Ok(done),
         },
-        None => answer(alloc, ctx, call, snap, names),
+        Err(stop) => Err(stop),
+    }
+}
+
+// Asks for the file of the call's first handle, where nothing was read yet.
+fn ask_first(call: &Call, snap: &Snap) -> Result<(), Stop>
+    ensures err { IfErr result (λ stop. IsNew snap.now stop) }
+    ensures asks { IfErr result (λ stop. IsAsked snap.now stop) }
+    ensures io { IfErr result (λ stop. NoneStand snap.now stop) }
+{
+    if !snap.objects.is_empty() {
+        return Ok(());
+    }
+    match first_handle(call) {
+        Some(handle) => read_file(snap, handle),
+        None => Ok(()),
+    }
+}
+
+// The same, but that the file of the call's first handle is asked for at first, before the body is run.
+fn answer_from_first(
+    alloc: Global,
+    ctx: &Ctx,
+    call: &Call,
+    snap: &Snap,
+    names: &Names,
+) -> Result<Draft, Stop>
+    requires served { begins_transaction call.now ≡ true }
+    requires known { IsKnown snap.now names.now }
+    ensures made { IfOk result (λ done. IsMadeFor ctx.now call.now done) }
+    ensures ok { IfOk result (λ done. EndsFrom snap.now done) }
+    ensures step { IfOk result (λ done. IsStepOf snap.now.geometry ctx.now call.now done) }
+    ensures err { IfErr result (λ stop. IsNew snap.now stop) }
+    ensures asks { IfErr result (λ stop. IsAsked snap.now stop) }
+    ensures io { IfErr result (λ stop. NoneStandFor ctx.now call.now snap.now stop) }
+    ensures sound { IfOk result (λ done. NoneRead snap.now → NoneRefusedIn snap.now call.now) }
+{
+    match ask_first(call, snap) {
+        Ok(()) => answer_behind(alloc, ctx, call, snap, names),
+        Err(stop) => Err(stop),
     }
 }
 
@@ -102,9 +145,9 @@ fn work(alloc: Global, ctx: &Ctx, call: &Call, snap: &Snap, names: &Names) -> Re
     ensures io { IfErr result (λ stop. NoneStandFor ctx.now call.now snap.now stop) }
     ensures sound { IfOk result (λ done. NoneRefusedIn snap.now call.now × NoneRead snap.now) }
 {
-    match answer_behind(alloc, ctx, call, snap, names) {
+    match answer_from_first(alloc, ctx, call, snap, names) {
         Ok(done) => {
-            if is_refused(snap) {
+            if is_refused(snap, names) {
                 what_is_refused_is_in_no_tree();
                 return Err(Stop::Io);
             }

@@ -1,28 +1,35 @@
-use Rattle.std.proofs.Common.{rules, ◌≡◌, ℕ, ◌-◌, ◌*◌, sym, ap, ◌∙◌, List, take, drop, None, Ok, arith}
+use Rattle.std.proofs.Common.{◌≡◌, ℕ, ◌-◌, ◌*◌, sym, ap, ◌∙◌, List, take, drop, None, Ok, true, false, arith}
+use Rattle.layout.specs.declared.fault.LayoutFault.TheVariants.{Range}
 use Rattle.layout.specs.declared.slot.TheConstants.{SLOT_BYTES}
 use Rattle.layout.proofs.Fits.{part-length}
 use Rattle.layout.specs.SlotForm.{number_under, read_slot}
 use Rattle.dir.specs.Slots.{block_slot}
+use Rattle.dir.proofs.ClearBlocks.{one_clear}
 use Rattle.dir.proofs.FoundIn.{no_number, one_more}
+use Rattle.dir.proofs.Looks.{refused_none, under_ok}
 use Rattle.dir.proofs.block.find_in_block.Goals as goal
-use Rattle.dir.proofs.block.find_in_block.Goals.{then-compare+in-Ok-None, then-compare+in-Err, else-compare}
+use Rattle.dir.proofs.block.find_in_block.Goals.{in-Refused, in-Other}
 
 pub slots-preserved : goal.slots-preserved
-slots-preserved c = (
-  one_more (block_slot c.args.inodes c.args.first c.args.block.now) c.args.name.now c.args.first c.slots.slot
-      c.slots.invariant.0 (λ number is.
-      let here =
-      ap (λ b. number_under c.args.name.now (read_slot c.args.inodes b)) c.bytes_in-bytes.ensures.bytes ∙ is in
-      elim c.if-compare.branch [
-        | then-compare+in-Ok-None w ↦ (let none : w.number_under.result ≡ Ok None = search rules in
-            no_number number (sym none ∙ w.number_under.ensures ∙ here))
-        | then-compare+in-Err w ↦ (let same = w.number_under.ensures ∙ here in search rules)
-        | else-compare w ↦ c.compare.ensures.differ w.if-compare.false c.args.inodes number
-            (ap (λ (n : List ℕ). number_under n (read_slot c.args.inodes c.bytes_in-bytes.result.now))
-            c.in-Some.ensures.some ∙ here)
+slots-preserved c =
+    let name = c.args.name.now in
+    let lies = block_slot c.args.inodes c.args.first c.args.block.now in
+    let read = ap (read_slot c.args.inodes) (sym c.bytes_in-bytes.ensures.bytes) in
+    let here = c.in-Some.ensures.some in
+    let Nothing : Type 0 = number_under c.in-Some.pattern (lies c.slots.slot) ≡ Ok None in (
+      one_more lies name c.args.first c.slots.slot c.slots.invariant.0 (λ number is. elim c.match-compare.branch [
+        | in-Refused w ↦ refused_none name (lies c.slots.slot) Range (read ∙ w.in-Refused.ensures.look) number is
+        | in-Other w ↦ (let none : Nothing = ap (number_under c.in-Some.pattern) read ∙ w.in-Other.ensures.look in
+            no_number number (sym none ∙ ap (λ (n : List ℕ). number_under n (lies c.slots.slot)) here ∙ is))
       ]),
-  (let was = c.slots.invariant.1 in let one = c.compare.ensures.one in omega (arith, was, one)),
-)
+      (λ clear. elim c.match-compare.branch [
+        | in-Refused w ↦ (let clash : false ≡ true = sym w.clear-is ∙ clear in cc)
+        | in-Other w ↦
+            one_clear lies c.args.first c.slots.slot (c.slots.invariant.1 (sym w.clear-is ∙ clear))
+            (let none : Nothing = ap (number_under c.in-Some.pattern) read ∙ w.in-Other.ensures.look in under_ok c.in-Some.pattern (lies c.slots.slot) None none)
+      ]),
+      (let was = c.slots.invariant.2 in let one = c.compare.ensures.one in omega (arith, was, one)),
+    )
 
 pub returns-in-None-clause-found : goal.returns-in-None-clause-found
 returns-in-None-clause-found c = λ slot number low less is.

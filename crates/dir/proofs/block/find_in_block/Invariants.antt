@@ -1,9 +1,10 @@
--- no slot so far has the name, and each was compared once
-use Rattle.std.proofs.Common.{◌+◌, ◌-◌, ◌≤◌}
-use Rattle.dir.specs.Slots.{NoneHas, block_slot}
+-- no slot so far has the name, none is refused where that is told, and each was compared once
+use Rattle.std.proofs.Common.{◌≡◌, ◌+◌, ◌-◌, ◌≤◌, true}
+use Rattle.dir.specs.Slots.{NoneHas, NoneRefused, block_slot}
 use Rattle.dir.proofs.block.find_in_block.Given as goal
 
 abbrev pub invariant-slots : goal.invariant-slots
 invariant-slots l =
     NoneHas (block_slot l.inodes l.first l.block) l.name l.first l.slot
+    × (l.clear ≡ true → NoneRefused (block_slot l.inodes l.first l.block) l.first l.slot)
     × (l.compared ≤ l.fn.compared + (l.slot - l.first))

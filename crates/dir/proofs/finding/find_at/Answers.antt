@@ -11,4 +11,5 @@ returns-clause-ok c = λ blocks tree file is less.
     (slot_at c.args.snap.now.geometry.inodes (content_in c.args.snap.now.geometry blocks) c.args.inode.now)
     (block_slot c.args.snap.now.geometry.inodes (SLOTS_PER_BLOCK * c.args.index) c.in_ok-block.block.now)
     (SLOTS_PER_BLOCK * c.args.index) (SLOTS_PER_BLOCK * c.args.index + SLOTS_PER_BLOCK)
-    (c.in_ok-block.ensures.ok blocks tree file is less) c.args.name.now c.find_in_block.result c.find_in_block.ensures.found
+    (c.in_ok-block.ensures.ok blocks tree file is less) c.args.name.now c.find_in_block-looked.result.found
+    c.find_in_block-looked.ensures.found

@@ -11,11 +11,14 @@ returns-clause-knows c =
     let inode = c.args.inode.now in
     let snap = c.args.snap.now in
     let old = c.args.sought.now in
+    let bytes = c.in_ok-block.block.now in
     let first = SLOTS_PER_BLOCK * old.blocks in
     looked snap old _ inode refl refl refl c.requires.none c.requires.less c.requires.there
     (λ blocks tree file is less.
     moved_found (slot_at snap.geometry.inodes (content_in snap.geometry blocks) inode)
-    (block_slot snap.geometry.inodes first c.in_ok-block.block.now) first (first + SLOTS_PER_BLOCK)
-    (c.in_ok-block.ensures.ok blocks tree file is less) old.name c.find_in_block-found.result
-    (subst (λ (name : List ℕ). IsFound (block_slot snap.geometry.inodes first c.in_ok-block.block.now) name first
-    (first + SLOTS_PER_BLOCK) c.find_in_block-found.result) c.as_slice.ensures c.find_in_block-found.ensures.found))
+    (block_slot snap.geometry.inodes first bytes) first (first + SLOTS_PER_BLOCK)
+    (c.in_ok-block.ensures.ok blocks tree file is less) old.name c.find_in_block-looked.result.found
+    (subst (λ (name : List ℕ). IsFound (block_slot snap.geometry.inodes first bytes) name first
+    (first + SLOTS_PER_BLOCK) c.find_in_block-looked.result.found) c.as_slice.ensures
+    c.find_in_block-looked.ensures.found))
+    first bytes refl c.in_ok-block.ensures.is c.clear_behind-clear.ensures

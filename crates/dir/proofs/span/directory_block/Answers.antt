@@ -1,8 +1,10 @@
-use Rattle.std.proofs.Common.{rules, ◌≡◌, true, false, sym, ◌∙◌, nat_eq}
+use Rattle.std.proofs.Common.{rules, ◌≡◌, true, false, sym, subst, ◌∙◌, nat_eq}
 use Rattle.std.proofs.lemmas.Result.{IfErr-weaker, IfOk-weaker}
 use Rattle.layout.specs.Places.{is_data}
+use Rattle.inode.specs.Asked.{WasReadBlock}
 use Rattle.inode.proofs.InodeThere.{data_of}
 use Rattle.inode.proofs.Needed.{indirect_at, mapped_at}
+use Rattle.dir.proofs.ClearBlocks.{number_is, was_there}
 use Rattle.dir.proofs.Passed.{at_err}
 use Rattle.dir.proofs.SlotBlocks.{slot_there, some_there}
 use Rattle.dir.proofs.span.directory_block.Goals as goal
@@ -50,3 +52,13 @@ returns-clause-read c =
       bytes = block.now;
       read = read;
     }) c.data_block.ensures.read
+
+pub returns-clause-is : goal.returns-clause-is
+returns-clause-is c =
+    let snap = c.args.snap.now in
+    let some : nat_eq c.in_ok-number.number 0 ≡ false = (let h = c.if-number-eq0.false in search rules) in
+    IfOk-weaker c.data_block.result _ _ (λ block read blocks number saw at long.
+    was_there snap blocks saw number block.now
+    (subst (λ n. WasReadBlock snap.objects.items n block.now)
+    (sym (number_is snap blocks saw c.args.inode.now c.args.index c.in_ok-number.number number c.requires some
+    c.in_ok-number.ensures.read at)) read) long) c.data_block.ensures.read

@@ -1,3 +1,5 @@
+use Rattle.std.proofs.Common.{inl, inr}
+use Rattle.std.proofs.lemmas.Bool.{cases_lt}
 use Rattle.inspection.specs.Refused.{refused_numbers, refused_slots}
 use Rattle.inspection.proofs.blocks.has_refused_block.Goals as goal
 
@@ -7,7 +9,10 @@ returns-in-Directory-clause-some c = λ is blocks are.
     refused_slots c.in-Directory.is at.0 at.1 at.2
 
 pub returns-in-Directory-clause-none : goal.returns-in-Directory-clause-none
-returns-in-Directory-clause-none c = λ is blocks are refused. elim refused [
-  | refused_numbers pointer ↦ c.is_refused_far.ensures.none c.if-is_refused_far.false blocks are pointer
-  | refused_slots kind index less at ↦ c.is_refused_directory.ensures.none is blocks index are less at
+returns-in-Directory-clause-none c = λ is blocks saw clear refused. elim refused [
+  | refused_numbers pointer ↦ c.is_refused_far.ensures.none c.if-is_refused_far.false blocks saw pointer
+  | refused_slots kind index less at ↦ elim (cases_lt index c.args.clear) [
+    | inl early ↦ clear index early at
+    | inr late ↦ c.is_refused_directory.ensures.none is blocks index saw late less at
+  ]
 ]
