@@ -1,6 +1,7 @@
 //! A call or a reply both ways: it is written as these words, and what is read of them is written as them
 //! again. No two of a procedure are written alike, so what was read is what was written.
 
+use bytes::Bytes;
 use nfs_client_codec::{decode_reply, encode_call};
 use nfs_codec::decode_call;
 use nfs_results::{encode_mount_reply, encode_reply};
@@ -18,7 +19,8 @@ pub fn is_call(
     let bytes = stream(alloc, words)?;
     let is_written = are_arguments(alloc, &call, bytes.as_slice());
     drop(call);
-    let is_read = match decode_call(alloc, procedure, bytes.as_slice()) {
+    let bytes = Bytes::from_vec(bytes)?;
+    let is_read = match decode_call(alloc, procedure, &bytes, 0) {
         Ok(read) => {
             let is_same = are_arguments(alloc, &read, bytes.as_slice());
             drop(read);
@@ -57,12 +59,14 @@ pub fn is_reply(
 }
 
 fn is_result(alloc: Global, reply: &ProgramReply, bytes: &[u8]) -> bool {
-    let written = match reply {
-        ProgramReply::Nfs(reply) => encode_reply(Writer::new(alloc), reply),
-        ProgramReply::Mount(reply) => encode_mount_reply(Writer::new(alloc), reply),
-    };
-    match written {
-        Ok(out) => out.as_slice() == bytes,
-        Err(_) => false,
+    match reply {
+        ProgramReply::Nfs(reply) => match encode_reply(alloc, reply) {
+            Ok(out) => out.as_slice() == bytes,
+            Err(_) => false,
+        },
+        ProgramReply::Mount(reply) => match encode_mount_reply(Writer::new(alloc), reply) {
+            Ok(out) => out.as_slice() == bytes,
+            Err(_) => false,
+        },
     }
 }

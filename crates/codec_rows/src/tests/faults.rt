@@ -1,5 +1,6 @@
 //! The numbers of faults, and the fault of bytes in which several items have no spelling.
 
+use bytes::Bytes;
 use nfs_codec::decode_call;
 use nfs_types::{MountProcedure, Procedure, ProgramProcedure};
 use std::alloc::Global;
@@ -18,8 +19,8 @@ fn numbers_of_faults(rt: HostRuntime) {
 }
 
 // The number of the fault of arguments, or 0 where they are read.
-fn fault(alloc: Global, procedure: ProgramProcedure, bytes: &[u8]) -> u32 {
-    match decode_call(alloc, procedure, bytes) {
+fn fault(alloc: Global, procedure: ProgramProcedure, bytes: &Bytes) -> u32 {
+    match decode_call(alloc, procedure, bytes, 0) {
         Ok(call) => {
             drop(call);
             0
@@ -65,7 +66,8 @@ fn which_fault_comes_first(rt: HostRuntime) -> Result<(), Fail> {
     for (says, procedure, words, count, wanted) in &ROWS {
         let bytes = spelled(alloc, words)?;
         let come = bytes.as_slice().get(..*count).unwrap_or(&[]);
-        assert_eq!(rt; fault(alloc, *procedure, come), *wanted, "{says}");
+        let come = Bytes::from_vec(Vec::from_slice(alloc, come)?)?;
+        assert_eq!(rt; fault(alloc, *procedure, &come), *wanted, "{says}");
     }
     Ok(())
 }

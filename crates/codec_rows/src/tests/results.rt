@@ -5,8 +5,8 @@ use crate::tests::values::{ATTRIBUTES, BECAME, CHANGED, UNTOLD, WAS};
 use nfs_types::{
     Created, FileSystemInfo, FileSystemSpace, Listed, ListedEntries, ListedEntriesPlus,
     ListedEntry, ListedEntryPlus, ListedPlus, Looked, Moment, MountProcedure, MountReply, Mounted,
-    NumberList, Octets, PathLimits, Procedure, ProgramProcedure, ProgramReply, ReadBytes, Reply,
-    Stability, Status, Written,
+    NumberList, Octets, PathLimits, Pieces, Procedure, ProgramProcedure, ProgramReply, ReadBytes,
+    Reply, Stability, Status, Written,
 };
 use std::alloc::{AllocError, Global};
 use std::test::Fail;
@@ -126,7 +126,7 @@ fn read(alloc: Global) -> Result<Reply, AllocError> {
     let read = ReadBytes {
         count: 5,
         eof: true,
-        bytes: Octets::copied(alloc, b"hello")?,
+        bytes: Pieces::copied(alloc, b"hello")?,
     };
     Ok(Reply::Read {
         outcome: Ok(read),

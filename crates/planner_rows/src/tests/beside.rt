@@ -13,7 +13,6 @@ use procs::{Done, Plan, Planner, plan, reading_mode};
 use std::alloc::Global;
 use std::test::Fail;
 use txn::Change;
-use xdr::Writer;
 
 // More than any call of the rows asks for.
 const MOST_ASKED: usize = 4000;
@@ -33,8 +32,8 @@ fn are_same(some: &[Object], others: &[Object]) -> bool {
 
 // Whether two finished plans reply, have read and write the same.
 fn is_same(alloc: Global, one: &Done, other: &Done) -> Result<bool, Fail> {
-    let reply = encode_reply(Writer::new(alloc), one.reply())?;
-    let other_reply = encode_reply(Writer::new(alloc), other.reply())?;
+    let reply = encode_reply(alloc, one.reply())?;
+    let other_reply = encode_reply(alloc, other.reply())?;
     Ok(
         reply.as_slice() == other_reply.as_slice()
             && are_same(one.read(), other.read())

@@ -5,6 +5,7 @@ use crate::tests::replies::{
     tells_the_directory,
 };
 use nfs_types::{Reply, Status, Verifier};
+use worked::is_read;
 
 /// What a call is to be answered.
 #[derive(Clone, Copy)]
@@ -50,7 +51,7 @@ fn reads(reply: &Reply, wanted: &[u8]) -> bool {
         Reply::Read {
             outcome: Ok(given),
             ..
-        } => given.eof && given.bytes.as_slice() == wanted,
+        } => given.eof && is_read(&given.bytes, wanted),
         _ => false,
     }
 }
@@ -60,7 +61,7 @@ fn moves(reply: &Reply, count: usize, eof: bool) -> bool {
         Reply::Read {
             outcome: Ok(given),
             ..
-        } => given.eof == eof && given.bytes.as_slice().len() == count,
+        } => given.eof == eof && given.bytes.len() == count,
         _ => false,
     }
 }

@@ -5,12 +5,13 @@ use crate::tests::arguments::{arguments, mount_arguments};
 use crate::tests::damage::{DAMAGES, Damage, spoil};
 use crate::tests::results::{mount_result, result};
 use crate::tests::tape::Tape;
+use bytes::Bytes;
 use nfs_client_codec::{decode_reply, encode_call};
 use nfs_codec::decode_call;
 use nfs_results::{encode_mount_reply, encode_reply};
 use nfs_types::{MountProcedure, Procedure, ProgramCall, ProgramProcedure, ProgramReply};
-use std::alloc::Global;
-use xdr::Writer;
+use std::alloc::{AllocError, Global};
+use xdr::{Writer, XdrFault};
 
 // What is told where the same bytes aren't written again.
 const OTHER_BYTES: u32 = 7;
@@ -95,7 +96,10 @@ fn number(alloc: Global, part: Part, procedure: ProgramProcedure, bytes: &[u8]) 
 }
 
 fn arguments_number(alloc: Global, procedure: ProgramProcedure, bytes: &[u8]) -> u32 {
-    match decode_call(alloc, procedure, bytes) {
+    let Ok(message) = copied(alloc, bytes) else {
+        return XdrFault::NoMemory.number();
+    };
+    match decode_call(alloc, procedure, &message, 0) {
         Ok(call) => {
             let number = rewritten_number(alloc, &call, bytes);
             drop(call);
@@ -103,6 +107,10 @@ fn arguments_number(alloc: Global, procedure: ProgramProcedure, bytes: &[u8]) ->
         }
         Err(fault) => fault.number(),
     }
+}
+
+fn copied(alloc: Global, bytes: &[u8]) -> Result<Bytes, AllocError> {
+    Ok(Bytes::from_vec(Vec::from_slice(alloc, bytes)?)?)
 }
 
 fn rewritten_number(alloc: Global, call: &ProgramCall, bytes: &[u8]) -> u32 {
@@ -124,13 +132,15 @@ fn result_number(alloc: Global, procedure: ProgramProcedure, bytes: &[u8]) -> u3
 }
 
 fn rewritten_result_number(alloc: Global, reply: &ProgramReply, bytes: &[u8]) -> u32 {
-    let written = match reply {
-        ProgramReply::Nfs(reply) => encode_reply(Writer::new(alloc), reply),
-        ProgramReply::Mount(reply) => encode_mount_reply(Writer::new(alloc), reply),
-    };
-    match written {
-        Ok(out) if out.as_slice() == bytes => 0,
-        _ => OTHER_BYTES,
+    match reply {
+        ProgramReply::Nfs(reply) => match encode_reply(alloc, reply) {
+            Ok(out) if out.as_slice() == bytes => 0,
+            _ => OTHER_BYTES,
+        },
+        ProgramReply::Mount(reply) => match encode_mount_reply(Writer::new(alloc), reply) {
+            Ok(out) if out.as_slice() == bytes => 0,
+            _ => OTHER_BYTES,
+        },
     }
 }
 

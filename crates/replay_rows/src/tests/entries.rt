@@ -5,7 +5,7 @@ ghost use Rattle.replays.specs.Replayed.{CanBeReplayed};
 
 use nfs_types::{
     Call, CreateHow, Credential, Ctx, DirectoryName, Handle, Moment, NewAttributes, NumberList,
-    Octets, SetTime, Stability, Stamp,
+    Octets, SetTime, SharedOctets, Stability, Stamp,
 };
 use std::alloc::{AllocError, Global};
 use std::test::Fail;
@@ -114,7 +114,7 @@ pub fn write(alloc: Global, file: Handle, offset: u64) -> Result<Call, AllocErro
         offset,
         count: 5,
         stability: Stability::FileSync,
-        bytes: Octets::copied(alloc, b"bytes")?,
+        bytes: SharedOctets::copied(alloc, b"bytes")?,
     })
 }
 

@@ -1,6 +1,7 @@
 //! The same by the plain programs: a call's bytes are read as a value, which is served over a tree.
 
 use crate::tests::served::INODES;
+use bytes::Bytes;
 use nfs_types::{Call, Credential, Ctx, ProgramCall, Reply};
 use plain_server::PlainTree;
 use plain_steps::answer;
@@ -19,8 +20,8 @@ pub fn fresh(alloc: Global) -> Result<PlainTree, AllocError> {
 
 /// Who asks for what by this message.
 pub fn asked(alloc: Global, message: &[u32]) -> Result<(Credential, Call), Fail> {
-    let bytes = content(alloc, message)?;
-    match judge(alloc, bytes.as_slice()) {
+    let bytes = Bytes::from_vec(content(alloc, message)?)?;
+    match judge(alloc, &bytes) {
         Judged::Call {
             credential,
             call,

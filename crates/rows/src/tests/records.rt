@@ -92,7 +92,7 @@ fn add(alloc: Global, snap: &mut Snap, number: u32) -> Result<(), Fail> {
     let mut bytes = Vec::new(alloc);
     bytes.resize(addr.len, 0)?;
     snap.make_room()?;
-    snap.add(addr, Mode::Shared, SharedBytes::new(alloc, bytes)?);
+    snap.add(addr, Mode::Shared, SharedBytes::new(bytes)?);
     snap.make_room()?;
     snap.claimed(BlockNo(number));
     Ok(())

@@ -6,7 +6,8 @@ use crate::tests::settling::{MADE_BY_FORMAT, call, opened};
 use disk::MemDisk;
 use limits::{BLOCK_BYTES, ROOT};
 use nfs_types::{
-    Call, CreateHow, DirectoryName, Handle, NewAttributes, Octets, Reply, SetTime, Stability, Stamp,
+    Call, CreateHow, DirectoryName, Handle, NewAttributes, Octets, Reply, SetTime, SharedOctets,
+    Stability, Stamp,
 };
 use std::alloc::{AllocError, Global};
 use std::test::Fail;
@@ -64,7 +65,7 @@ fn write(alloc: Global, store: &mut Store<MemDisk>, count: u32) -> Result<bool, 
             offset: 0,
             count,
             stability: Stability::FileSync,
-            bytes: Octets::new(bytes),
+            bytes: SharedOctets::new(bytes)?,
         },
     );
     let is_written = matches!(

@@ -2,7 +2,7 @@
 
 use nfs_types::{
     Call, CreateHow, Credential, DirectoryName, Handle, Moment, NewAttributes, NumberList, Octets,
-    SetTime, Stability, Stamp,
+    SetTime, SharedOctets, Stability, Stamp,
 };
 use std::alloc::{AllocError, Global};
 use std::test::Fail;
@@ -82,7 +82,7 @@ pub fn write_five(alloc: Global, file: Handle) -> Result<Call, AllocError> {
         offset: 0,
         count: 5,
         stability: Stability::Unstable,
-        bytes: Octets::copied(alloc, &[1, 2, 3, 4, 5])?,
+        bytes: SharedOctets::copied(alloc, &[1, 2, 3, 4, 5])?,
     })
 }
 

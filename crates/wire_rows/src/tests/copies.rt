@@ -2,7 +2,7 @@
 
 use nfs_types::{
     Handle, Listed, ListedEntries, ListedEntriesPlus, ListedEntry, ListedEntryPlus, ListedPlus,
-    Looked, Octets, ReadBytes, Reply, Stamp, Verifier,
+    Looked, Octets, Pieces, ReadBytes, Reply, Stamp, Verifier,
 };
 use std::alloc::{AllocError, Global};
 use std::test::Fail;
@@ -218,12 +218,12 @@ fn a_handle_is_copied(rt: HostRuntime) -> Result<(), Fail> {
 }
 
 // So many bytes, each the lowest of its offset.
-fn rising(alloc: Global, count: u32) -> Result<Octets, AllocError> {
+fn rising(alloc: Global, count: u32) -> Result<Pieces, AllocError> {
     let mut bytes = Vec::new(alloc);
     for offset in 0..count {
         bytes.push((offset % 256) as u8)?;
     }
-    Ok(Octets::new(bytes))
+    Pieces::one(alloc, bytes)
 }
 
 // READ of so many such bytes.
@@ -239,13 +239,15 @@ fn read(alloc: Global, count: u32) -> Result<Reply, AllocError> {
     })
 }
 
-fn are_rising(bytes: &[u8]) -> bool {
+fn are_rising(bytes: &Pieces) -> bool {
     let mut wanted: u8 = 0;
-    for byte in bytes {
-        if *byte != wanted {
-            return false;
+    for part in bytes.parts() {
+        for byte in part.as_slice() {
+            if *byte != wanted {
+                return false;
+            }
+            wanted = wanted.wrapping_add(1);
         }
-        wanted = wanted.wrapping_add(1);
     }
     true
 }
@@ -258,8 +260,8 @@ fn is_read(reply: &Reply, count: u32) -> bool {
         } => {
             read.count == count
                 && read.eof
-                && read.bytes.as_slice().len() == count as usize
-                && are_rising(read.bytes.as_slice())
+                && read.bytes.len() == count as usize
+                && are_rising(&read.bytes)
         }
         _ => false,
     }

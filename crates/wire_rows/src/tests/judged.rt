@@ -1,6 +1,7 @@
 //! What the server takes worked calls for.
 
 use crate::tests::setattr::is_worked_setattr;
+use bytes::Bytes;
 use nfs_types::{Call, ProgramCall};
 use rpc::Refusal;
 use session_wire::{Judged, judge};
@@ -9,8 +10,8 @@ use std::test::Fail;
 use worked::messages::*;
 
 fn judged(alloc: Global, message: &[u32]) -> Result<Judged, AllocError> {
-    let bytes = content(alloc, message)?;
-    Ok(judge(alloc, bytes.as_slice()))
+    let bytes = Bytes::from_vec(content(alloc, message)?)?;
+    Ok(judge(alloc, &bytes))
 }
 
 fn is_null(call: &ProgramCall) -> bool {

@@ -1,5 +1,6 @@
 //! What takes memory to read: it is found where there is some, up to the largest.
 
+use bytes::Bytes;
 use nfs_types::{Call, Credential, ProgramCall};
 use session_wire::{Judged, judge};
 use std::test::Fail;
@@ -65,8 +66,8 @@ fn is_null_by_caller(judged: &Judged) -> bool {
 
 #[test]
 fn sixteen_groups_are_judged(rt: HostRuntime) -> Result<(), Fail> {
-    let bytes = content(rt.alloc(), &SIXTEEN_GIDS)?;
-    let found = judge(rt.alloc(), bytes.as_slice());
+    let bytes = Bytes::from_vec(content(rt.alloc(), &SIXTEEN_GIDS)?)?;
+    let found = judge(rt.alloc(), &bytes);
     assert!(rt; is_null_by_caller(&found));
     drop(found);
     Ok(())
