@@ -23,6 +23,9 @@ pub(crate) fn search(snap: &Snap, sought: &mut Sought, compared: &mut u64) -> Re
     if sought.directory == 0 || sought.directory >= snap.geometry.inodes {
         return Ok(());
     }
+    if sought.found.is_some() {
+        return Ok(());
+    }
     match inode_of(snap, sought.directory) {
         Ok(Some(inode)) => match inode.kind {
             InodeKind::Directory => go_on(snap, &inode, sought, compared),

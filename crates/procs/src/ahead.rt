@@ -15,7 +15,8 @@ use crate::reading::first_handle;
 use crate::shrinking::{cut_at, cut_for, named, unnamed};
 use crate::writing::Writing;
 use block_files::BlockFiles;
-use files::{Files, Head};
+use dir::next_name;
+use files::Files;
 use inode::{Snap, Stop, ask_block, held};
 use layout::{Inode, InodeKind};
 use limits::{
@@ -51,12 +52,12 @@ pub(crate) struct Blocks {
     ghost within: { end ≤ FILE_INDEXES },
 }
 
-/// A listing: the slot from which it goes on, the room that is left for names and for the whole, and the numbers that
-/// it has listed, of which the first were told; these only where their files are told, with the pointer blocks of the
-/// next.
+/// A listing of a directory: the slot from which it goes on, the room that is left for names and for the whole, and the
+/// numbers that it has listed, of which the first were told; these only where their files are told, with the pointer
+/// blocks of the next, if it has some.
 #[derive(Drop)]
 pub(crate) struct Listing {
-    directory: Head,
+    directory: Inode,
     besides: u32,
     tells: bool,
     from: u64,
@@ -68,19 +69,17 @@ pub(crate) struct Listing {
     pointers: Option<Pointers>,
 }
 
-// Asks for the pointer blocks of a file, from those on that were asked for.
-fn ask_pointers(pointers: &mut Option<Pointers>, snap: &Snap, number: u32) -> Result<(), Stop>
+// The pointer blocks of a file, if it has some of which something is told: those of a directory aren't looked at.
+fn told_pointers(snap: &Snap, number: u32) -> Result<Option<Pointers>, Stop>
     ensures { IfErr result (λ why. MayStop snap.now why) }
 {
-    if pointers.is_none() {
-        if let Some(inode) = held(snap, number)? {
-            *pointers = Some(Pointers::begin(inode));
-        }
+    let Some(inode) = held(snap, number)? else {
+        return Ok(None);
+    };
+    if inode.kind == InodeKind::Directory || inode.indirect == 0 && inode.double == 0 {
+        return Ok(None);
     }
-    match pointers {
-        Some(pointers) => pointers.go_on(snap),
-        None => Ok(()),
-    }
+    Ok(Some(Pointers::begin(inode)))
 }
 
 // How far a listing is with what a directory lists, as long as there is room.
@@ -105,11 +104,11 @@ impl Listing {
     }
 
     // Lists names until one has no room, or none is left.
-    fn list(&mut self, alloc: Global, files: &BlockFiles) -> Result<(), Stop>
-        ensures { IfErr result (λ why. MayStop files.now.snap.now why) }
+    fn list(&mut self, alloc: Global, snap: &Snap) -> Result<(), Stop>
+        ensures { IfErr result (λ why. MayStop snap.now why) }
     {
         'names: while !self.is_full {
-            match files.next_name(alloc, &self.directory, self.from)? {
+            match next_name(alloc, snap, &self.directory, self.from)? {
                 Some(found) => {
                     self.from = found.slot as u64 + 1;
                     self.add(found.number, found.name.as_slice())?;
@@ -123,15 +122,29 @@ impl Listing {
         Ok(())
     }
 
+    // Tells the next file of what was listed.
+    fn tell_next(&mut self, alloc: Global, snap: &Snap, number: u32) -> Result<(), Stop>
+        ensures told { self.new.told ≡ self.old.told }
+        ensures numbers { self.new.numbers ≡ self.old.numbers }
+        ensures err { IfErr result (λ why. MayStop snap.now why) }
+    {
+        if self.pointers.is_none() {
+            self.pointers = told_pointers(snap, number)?;
+        }
+        if let Some(pointers) = &mut self.pointers {
+            pointers.go_on(snap)?;
+            BlockFiles::new(alloc, snap).file(number)?;
+        }
+        Ok(())
+    }
+
     // Tells the files of what was listed.
-    fn tell(&mut self, files: &BlockFiles, snap: &Snap) -> Result<(), Stop>
-        requires { files.now.snap.now ≡ snap.now }
+    fn tell(&mut self, alloc: Global, snap: &Snap) -> Result<(), Stop>
         ensures { IfErr result (λ why. MayStop snap.now why) }
     {
         'numbers: while self.told < self.numbers.len() {
             let number = self.numbers[self.told];
-            ask_pointers(&mut self.pointers, snap, number)?;
-            files.file(number)?;
+            self.tell_next(alloc, snap, number)?;
             self.told += 1;
             self.pointers = None;
         }
@@ -141,9 +154,8 @@ impl Listing {
     fn go_on(&mut self, alloc: Global, snap: &Snap) -> Result<(), Stop>
         ensures { IfErr result (λ why. MayStop snap.now why) }
     {
-        let files = BlockFiles::new(alloc, snap);
-        match self.list(alloc, &files) {
-            Ok(()) => self.tell(&files, snap),
+        match self.list(alloc, snap) {
+            Ok(()) => self.tell(alloc, snap),
             Err(stop) => Err(stop),
         }
     }
@@ -246,9 +258,12 @@ fn listing_of(
     let Some((number, _)) = directory.parts() else {
         return Ok(Ahead::Nothing);
     };
-    let Some(directory) = BlockFiles::new(alloc, snap).file(number)? else {
+    let Some(directory) = held(snap, number)? else {
         return Ok(Ahead::Nothing);
     };
+    if directory.kind != InodeKind::Directory {
+        return Ok(Ahead::Nothing);
+    }
     let mut listing = Listing {
         directory,
         besides,
@@ -262,7 +277,7 @@ fn listing_of(
         pointers: None,
     };
     if cookie < ITSELF_COOKIE {
-        listing.add(directory.number, b".")?;
+        listing.add(number, b".")?;
     }
     if cookie < PARENT_COOKIE {
         listing.add(directory.parent, b"..")?;
