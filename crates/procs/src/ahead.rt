@@ -10,7 +10,7 @@ use crate::entering::Entering;
 use crate::freeing::Freeing;
 use crate::next::Plan;
 use crate::pieces::Pieces;
-use crate::pointers::{Pointers, pointers_of};
+use crate::pointers::{Pointers, ask_data, pointers_of};
 use crate::reading::first_handle;
 use crate::shrinking::{cut_at, cut_for, named, unnamed};
 use crate::writing::Writing;
@@ -151,13 +151,13 @@ impl Listing {
         Ok(())
     }
 
+    // Asks on. The pointer block of the directory itself is looked at when all else is known.
     fn go_on(&mut self, alloc: Global, snap: &Snap) -> Result<(), Stop>
         ensures { IfErr result (λ why. MayStop snap.now why) }
     {
-        match self.list(alloc, snap) {
-            Ok(()) => self.tell(alloc, snap),
-            Err(stop) => Err(stop),
-        }
+        self.list(alloc, snap)?;
+        self.tell(alloc, snap)?;
+        ask_data(snap, self.directory.indirect)
     }
 }
 

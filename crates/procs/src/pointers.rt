@@ -15,8 +15,8 @@ pub(crate) struct Pointers {
     inners: usize,
 }
 
-// Asks for a data block, if the number is that of one.
-fn ask_data(snap: &Snap, number: u32) -> Result<(), Stop>
+/// Asks for a data block, if the number is that of one.
+pub(crate) fn ask_data(snap: &Snap, number: u32) -> Result<(), Stop>
     ensures { IfErr result (λ why. MayStop snap.now why) }
 {
     if snap.geometry.is_data(number) {
