@@ -12,7 +12,7 @@ use Rattle.layout.specs.declared.grid.TheConstants.{PIECE_BITS, PIECE_BYTES, PIE
 use Rattle.layout.specs.Parts.{with_bytes}
 use Rattle.layout.proofs.Fits.{part-length}
 use Rattle.layout.proofs.Written.{here}
-use Rattle.txn.specs.Window.{object_at}
+use Rattle.txn_law.specs.Window.{object_at}
 use Rattle.layout_records.specs.Bits.{HasBit}
 use Rattle.bitmap.specs.Bits.{MarksBlock}
 use Rattle.bitmap.specs.Frees.{AreCleared, Frees, IsInPiece, without}

@@ -12,7 +12,7 @@ use Rattle.layout.specs.Parts.{bit_at, with_bytes}
 use Rattle.layout.proofs.Fits.{part-length}
 use Rattle.layout.proofs.Written.{elsewhere, here}
 use Rattle.layout.proofs.WrittenBytes.{dropped, spliced-bytes, taken}
-use Rattle.txn.specs.Window.{object_at}
+use Rattle.txn_law.specs.Window.{object_at}
 use Rattle.bitmap.specs.Bits.{PutsBit}
 use Rattle.layout_records.specs.Bits.{HasBit, bit_in}
 use Rattle.bitmap.proofs.InBlock.{in_block}

@@ -9,7 +9,7 @@ use Rattle.objects.specs.declared.addr.Addr.{Addr}
 use Rattle.layout.specs.declared.geometry.Geometry.{Geometry}
 use Rattle.layout.specs.Holds.{Holds}
 use Rattle.layout.specs.Objects.{IsObject}
-use Rattle.txn.specs.Object.{ObjectBytes}
+use Rattle.objects.specs.Object.{ObjectBytes}
 use Rattle.inode.specs.declared.snap.Snap.{Snap}
 use Rattle.inode.specs.Read.{Saw}
 use Rattle.inode.specs.Snap.{MayWrite, is_seen, same_addr}

@@ -15,8 +15,8 @@ use Rattle.layout.specs.declared.geometry.Geometry.{Geometry}
 use Rattle.layout.specs.declared.grid.TheConstants.{PIECE_BYTES}
 use Rattle.layout.specs.Geometry.{table_at}
 use Rattle.layout.specs.Objects.{IsObject, inode, bits, whole}
-use Rattle.txn.specs.Group.{blocks_after, blocks_of, is_among}
-use Rattle.txn.specs.Object.{ObjectBytes}
+use Rattle.txn_law.specs.Group.{blocks_after, blocks_of, is_among}
+use Rattle.objects.specs.Object.{ObjectBytes}
 use Rattle.drafts.specs.Drafted.{MOST_SPENT, is_place, is_spent, is_written, spent_in}
 use Rattle.drafts.proofs.Spent.{same_block, same_len, same_written}
 

@@ -2,7 +2,7 @@
 use Rattle.std.proofs.Common.{◌≡◌, sym, subst, All, List}
 use Rattle.layout.specs.Objects.{IsObject}
 use Rattle.layout.specs.declared.geometry.Geometry.{Geometry}
-use Rattle.txn.specs.Object.{ObjectBytes}
+use Rattle.objects.specs.Object.{ObjectBytes}
 use Rattle.inode.specs.declared.snap.Snap.{Snap}
 use Rattle.inode.specs.Snap.{MayWrite, is_seen}
 use Rattle.std.proofs.Common.{false, ◌∙◌}

@@ -6,7 +6,7 @@ use Rattle.std.proofs.lemmas.List.Elements.{All-contains, All-contains_itself, A
 use Rattle.std.proofs.lemmas.List.Elements.{Contains-push_cases}
 use Rattle.std.proofs.lemmas.List.Elements.{filter_passes}
 use Rattle.objects.specs.declared.addr.Addr.{Addr}
-use Rattle.txn.specs.Object.{ObjectBytes}
+use Rattle.objects.specs.Object.{ObjectBytes}
 use Rattle.inode.specs.Snap.{is_seen, same_addr}
 use Rattle.inode.proofs.AllTests.{all_three}
 use Rattle.drafts.specs.Laid.{laid}

@@ -8,7 +8,7 @@ use Rattle.objects.specs.declared.addr.Addr.{Addr}
 use Rattle.layout.specs.declared.geometry.Geometry.{Geometry}
 use Rattle.layout.specs.declared.grid.TheConstants.{PIECE_BYTES}
 use Rattle.layout.specs.Places.{inode_block, inode_offset}
-use Rattle.txn.specs.Object.{ObjectBytes}
+use Rattle.objects.specs.Object.{ObjectBytes}
 use Rattle.inode.proofs.AllTests.{all_three}
 use Rattle.drafts.specs.Drafted.{Drafted, fresh, fresh_inode, is_place, is_spent, is_written, spent, spent_in}
 

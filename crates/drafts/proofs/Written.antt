@@ -12,8 +12,8 @@ use Rattle.layout.specs.Objects.{IsObject}
 use Rattle.layout.specs.Parts.{with_bytes}
 use Rattle.layout.proofs.OnGrid.{apart, at_home}
 use Rattle.layout.proofs.Written.{elsewhere, here}
-use Rattle.txn.specs.Object.{ObjectBytes}
-use Rattle.txn.specs.Window.{object_at, with_object, with_objects}
+use Rattle.objects.specs.Object.{ObjectBytes}
+use Rattle.txn_law.specs.Window.{object_at, with_object, with_objects}
 use Rattle.inode.specs.Snap.{same_addr}
 use Rattle.drafts.specs.Drafted.{Drafted, Shows}
 use Rattle.drafts.specs.Laid.{laid}

@@ -9,8 +9,8 @@ use Rattle.layout.specs.declared.grid.TheConstants.{PIECE_BYTES}
 use Rattle.layout.specs.Holds.{Holds}
 use Rattle.layout.specs.Objects.{IsObject}
 use Rattle.layout.specs.Places.{inode_block, inode_offset}
-use Rattle.txn.specs.Object.{ObjectBytes}
-use Rattle.txn.specs.Window.{with_objects}
+use Rattle.objects.specs.Object.{ObjectBytes}
+use Rattle.txn_law.specs.Window.{with_objects}
 use Rattle.inode.specs.declared.snap.Snap.{Snap}
 use Rattle.inode.specs.Read.{Saw}
 use Rattle.inode.specs.Snap.{MayWrite, is_seen}

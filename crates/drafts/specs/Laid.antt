@@ -1,6 +1,6 @@
 -- An object in the place of what lay at its address.
 use Rattle.std.specs.Prelude.{not, List, [], ◌∷◌, ◌++◌, filter}
-use Rattle.txn.specs.Object.{ObjectBytes}
+use Rattle.objects.specs.Object.{ObjectBytes}
 use Rattle.inode.specs.Snap.{same_addr}
 
 -- the objects with another of its address in the place of one, or behind all others

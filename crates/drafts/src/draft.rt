@@ -12,8 +12,8 @@ ghost use Rattle.inode.specs.declared.stop.Stop.{Stop};
 ghost use Rattle.inode.specs.Over.{IsPause, MayStop};
 ghost use Rattle.inode.specs.Read.{Saw};
 ghost use Rattle.inode.specs.Snap.{MayWrite, is_had};
-ghost use Rattle.txn.specs.Group.{blocks_of};
-ghost use Rattle.txn.specs.Object.{ObjectBytes};
+ghost use Rattle.txn_law.specs.Group.{blocks_of};
+ghost use Rattle.objects.specs.Object.{ObjectBytes};
 ghost use Rattle.drafts.specs.Drafted.{IsDraft, MOST_SPENT, Shows, fresh, image_of, spent};
 ghost use Rattle.layout_records.specs.OnGrid.{is_on_grid};
 ghost use Rattle.drafts.specs.Laid.{laid};
@@ -23,10 +23,9 @@ use inode::{Snap, Stop};
 use layout::Geometry;
 use layout_records::is_on_grid;
 use limits::BLOCK_BYTES;
-use objects::{Addr, Mode, SharedBytes};
+use objects::{Addr, Mode, Object, SharedBytes};
 use std::alloc::{AllocError, Global};
 use std::marker::Model;
-use txn::Object;
 
 /// What was read for a call, what lies there now, and what was written, later objects over earlier ones.
 #[derive(Drop)]

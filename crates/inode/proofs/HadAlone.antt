@@ -7,7 +7,7 @@ use Rattle.std.proofs.lemmas.Bool.Decides.{nat_tests}
 use Rattle.objects.specs.declared.addr.Addr.{Addr}
 use Rattle.objects.specs.declared.mode.Mode.{Mode}
 use Rattle.objects.specs.declared.mode.Mode.TheVariants as modes
-use Rattle.txn.specs.Object.{ObjectBytes}
+use Rattle.objects.specs.Object.{ObjectBytes}
 use Rattle.layout.proofs.OnGrid as grid
 use Rattle.inode.proofs.AllTests.{all_three, same_number}
 use Rattle.inode.specs.Snap.{AreSeen, is_among, is_had, is_seen, same_addr, with_mode, with_read}

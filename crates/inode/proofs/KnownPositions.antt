@@ -7,7 +7,7 @@ use Rattle.std.proofs.lemmas.List.{get_or-map, map-set, get_or_push, get_or-set_
 use Rattle.std.proofs.lemmas.List.Folds.{Any-from_list_any, list_any-append, list_any_at, list_any_more}
 use Rattle.limits.specs.declared.TheConstants.{INODE_BYTES}
 use Rattle.objects.specs.declared.addr.Addr.{Addr}
-use Rattle.txn.specs.Object.{ObjectBytes}
+use Rattle.objects.specs.Object.{ObjectBytes}
 use Rattle.inode.specs.declared.index.TheConstants.{BUCKETS}
 use Rattle.inode.specs.Indexed.{AreKnown, IsIndexed, under, is_under, key_of}
 use Rattle.inode.specs.Snap.{is_seen, same_addr}

@@ -17,7 +17,7 @@ use Rattle.layout.specs.Parts.{content_in}
 use Rattle.layout.specs.Places.{is_data}
 use Rattle.layout.proofs.FileNumbers as numbers
 use Rattle.layout.proofs.NumbersIn.{doubled_pass, none_at, none_pass, some_in}
-use Rattle.txn.specs.Window.{object_at}
+use Rattle.txn_law.specs.Window.{object_at}
 use Rattle.inode.specs.declared.snap.Snap.{Snap}
 use Rattle.inode.specs.Over.{AreInnerPlaced, HasInode, IsOver, are_far_placed, far_at, number_at}
 use Rattle.inode.proofs.AllTests.{all_two, is_less}

@@ -18,8 +18,8 @@ use Rattle.layout.specs.Parts.{content_in}
 use Rattle.layout.specs.Places.{inode_block, inode_offset}
 use Rattle.layout.specs.Holds.{Holds}
 use Rattle.layout.specs.declared.inode.Inode.{Inode}
-use Rattle.txn.specs.Object.{ObjectBytes}
-use Rattle.txn.specs.Window.{object_at}
+use Rattle.objects.specs.Object.{ObjectBytes}
+use Rattle.txn_law.specs.Window.{object_at}
 use Rattle.inode.specs.Read.{IsInodeAddr, WasRead, WasReadInode}
 
 pub read_there : (g : Geometry) (blocks : Image) (number : ℕ) (addr : Addr) (bytes : List ℕ)

@@ -5,7 +5,7 @@ use Rattle.std.specs.List.{list_any}
 use Rattle.inode.specs.declared.index.TheConstants.{BUCKETS}
 use Rattle.limits.specs.declared.TheConstants.{INODE_BYTES}
 use Rattle.objects.specs.declared.addr.Addr.{Addr}
-use Rattle.txn.specs.Object.{ObjectBytes}
+use Rattle.objects.specs.Object.{ObjectBytes}
 
 -- the positions under a key, among them those under others
 abbrev pub under : ℕ → List (List ℕ) → List ℕ

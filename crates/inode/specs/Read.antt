@@ -9,8 +9,8 @@ use Rattle.layout.specs.declared.inode.Inode.{Inode}
 use Rattle.layout.specs.InodeForm.{read_inode}
 use Rattle.layout.specs.Places.{inode_block, inode_offset}
 use Rattle.layout.specs.Holds.{Holds}
-use Rattle.txn.specs.Object.{ObjectBytes}
-use Rattle.txn.specs.Window.{IsAsRead}
+use Rattle.objects.specs.Object.{ObjectBytes}
+use Rattle.txn_law.specs.Window.{IsAsRead}
 use Rattle.inode.specs.declared.snap.Snap.{Snap}
 use Rattle.inode.specs.declared.stop.Stop.{Stop}
 use Rattle.inode.specs.declared.stop.Stop.TheVariants as stop

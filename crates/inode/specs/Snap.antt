@@ -6,8 +6,8 @@ use Rattle.objects.specs.declared.addr.Addr.{Addr}
 use Rattle.objects.specs.declared.mode.Mode.{Mode}
 use Rattle.objects.specs.declared.mode.Mode.TheVariants as modes
 use Rattle.disk.specs.declared.block.BlockNo.{BlockNo}
-use Rattle.txn.specs.Object.{ObjectBytes}
-use Rattle.txn.specs.Wishes.{IsWhole}
+use Rattle.objects.specs.Object.{ObjectBytes}
+use Rattle.txn_law.specs.Wishes.{IsWhole}
 use Rattle.inode.specs.declared.snap.Snap.{Snap}
 use Rattle.inode.specs.declared.stop.Stop.{Stop}
 use Rattle.inode.specs.declared.stop.Stop.TheVariants as stop

@@ -2,15 +2,14 @@
 ghost use Rattle.std.specs.Prelude.{◌≡◌, ◌+◌, ◌-◌, ◌<◌, ℕ, true, false, length, nat_eq, slice_index_or, take};
 ghost use Rattle.std.specs.Prelude.{Contains, IfNone, IfOk, IfSome, OnOk};
 ghost use Rattle.std.specs.List.{list_any};
-ghost use Rattle.txn.specs.Object.{ObjectBytes};
+ghost use Rattle.objects.specs.Object.{ObjectBytes};
 ghost use Rattle.inode.specs.Indexed.{AreKnown, IsIndexed, key_of};
 ghost use Rattle.inode.specs.Snap.{is_seen, same_addr};
 
 use crate::index::AddressIndex;
 use limits::INODE_BYTES;
-use objects::Addr;
+use objects::{Addr, Object};
 use std::alloc::{AllocError, Global};
-use txn::Object;
 
 // With so many objects an index is made: a walk past fewer costs less.
 const MANY: usize = 48;

@@ -2,7 +2,7 @@
 ghost use Rattle.std.specs.Prelude.{◌≡◌, ◌<◌, length, Ok, IfErr, IfOk, IfSome};
 ghost use Rattle.disk.specs.Crash.{Image};
 ghost use Rattle.layout.specs.Decode.{inode_at};
-ghost use Rattle.txn.specs.Window.{object_at};
+ghost use Rattle.txn_law.specs.Window.{object_at};
 ghost use Rattle.inode.specs.Snap.{IsNew};
 ghost use Rattle.inode.specs.Read.{WasRead, WasReadInode, IsAskedInode, Saw, NoneStand};
 ghost use Rattle.inode.specs.declared.stop.Stop.TheVariants as stop;

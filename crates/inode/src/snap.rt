@@ -8,9 +8,8 @@ use crate::finding::{find, walk, with_last};
 use crate::index::AddressIndex;
 use disk::BlockNo;
 use layout::Geometry;
-use objects::{Addr, Mode, SharedBytes};
+use objects::{Addr, Mode, Object, SharedBytes};
 use std::alloc::{AllocError, Global};
-use txn::Object;
 
 // As many objects as most calls read.
 const MOSTLY_READ: usize = 8;

@@ -9,7 +9,7 @@ use Rattle.disk.specs.Crash.{Image}
 use Rattle.objects.specs.declared.addr.Addr.{Addr}
 use Rattle.layout.specs.declared.geometry.Geometry.{Geometry}
 use Rattle.layout_records.specs.OnGrid.{IsInodeAt}
-use Rattle.txn.specs.Object.{ObjectBytes}
+use Rattle.objects.specs.Object.{ObjectBytes}
 use Rattle.inode.specs.declared.snap.Snap.{Snap}
 use Rattle.inode.specs.Snap.{is_seen, same_addr}
 use Rattle.inode.proofs.AllTests.{all_three, same_number}

@@ -5,7 +5,7 @@ ghost use Rattle.disk.specs.Crash.{Image};
 ghost use Rattle.layout.specs.Decode.{inode_at};
 ghost use Rattle.layout.specs.InodeForm.{read_inode};
 ghost use Rattle.layout_records.specs.OnGrid.{IsInodeAt};
-ghost use Rattle.txn.specs.Window.{IsAsRead};
+ghost use Rattle.txn_law.specs.Window.{IsAsRead};
 ghost use Rattle.inode.specs.Read.{Saw};
 ghost use Rattle.name_search.specs.Known.{IsKnown};
 ghost use Rattle.inspection.specs.Refused.{AreRead, IsRefused, IsRefusedFile};
@@ -15,7 +15,7 @@ use inode::Snap;
 use layout::Inode;
 use layout_records::inode_number;
 use name_search::Names;
-use txn::Object;
+use objects::Object;
 
 // Whether the layout refuses the bytes of the inode of a number, or a block that was read of its file.
 fn is_refused_inode(snap: &Snap, names: &Names, number: u32, bytes: &[u8]) -> bool

@@ -12,7 +12,7 @@ use crate::outcomes::{
 use crate::told::{
     read_attributes, read_optional_attributes, read_text, read_verifier, read_weak_cache,
 };
-use nfs_results::status_numbered;
+use nfs_codec::status_numbered;
 use nfs_types::{
     Attributes, Created, FileSystemInfo, FileSystemSpace, Listed, ListedPlus, Looked,
     MountProcedure, MountReply, Mounted, Octets, PathLimits, Procedure, ProgramProcedure,

@@ -1,3 +1,4 @@
 pub mod Procedures
 pub mod Items
 pub mod Arguments
+pub mod Statuses

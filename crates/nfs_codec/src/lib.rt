@@ -8,6 +8,7 @@ mod laws;
 mod numbers;
 mod procedure;
 mod put;
+mod status;
 
 pub use arguments::decode_call;
 pub use laws::{
@@ -17,3 +18,4 @@ pub use laws::{
 pub use numbers::{number_of_kind, number_of_stability};
 pub use procedure::procedure_of;
 pub use put::{put_device, put_handle, put_moment, put_stability, put_text, put_verifier};
+pub use status::{number_of_status, status_numbered};

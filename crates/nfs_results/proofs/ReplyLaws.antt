@@ -22,7 +22,7 @@ use Rattle.xdr.proofs.Never as never
 use Rattle.xdr.proofs.Refusing.{made_err}
 use Rattle.xdr.proofs.Lawful.{IsCode, map_ok, words, doubles, flags, nothings, thens, vieweds, chains, counteds}
 use Rattle.xdr.proofs.Lawful.{or_is, HasNumbers, arms_are, unions, whole_takes, whole_again}
-use Rattle.nfs_results.specs.Results.{status_number, refusals, by_status, alone_made, alone_parts, alone}
+use Rattle.nfs_results.specs.Results.{by_status, alone_made, alone_parts, alone}
 use Rattle.nfs_results.specs.Results.{behind_made, behind_parts, behind, before_made, before_parts, before}
 use Rattle.nfs_results.specs.Results.{looked, read_bytes, written, created, entry, entries, listed, entry_plus}
 use Rattle.nfs_results.specs.Results.{entries_plus, listed_plus, space, info, limits, flavors, mounted}
@@ -33,6 +33,7 @@ use Rattle.nfs_results.specs.Results.{commit}
 use Rattle.nfs_results.specs.Results.{reply_refuses, mount_root, result_bytes, ReplyFits, reply_at}
 use Rattle.nfs_results.specs.Results.{replies_to, reply_of}
 use Rattle.nfs_codec.specs.Procedures.{replied_to}
+use Rattle.nfs_codec.specs.Statuses.{status_number, refusals}
 use Rattle.nfs_codec.proofs.ItemLaws.{handles, texts, moments, verifiers, stabilities, attributes_is}
 use Rattle.nfs_codec.proofs.ItemLaws.{optional_attributes_is, weak_caches, optional_handles}
 

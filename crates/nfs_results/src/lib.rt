@@ -7,7 +7,6 @@ mod entries;
 mod laws;
 mod outcomes;
 mod results;
-mod status;
 mod told;
 
 pub use data::{append_data, data_len};
@@ -16,4 +15,3 @@ pub use laws::{
     spelling_gives_the_reply,
 };
 pub use results::{encode_front, encode_mount_reply, encode_reply};
-pub use status::{number_of_status, status_numbered};

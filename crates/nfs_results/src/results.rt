@@ -5,7 +5,8 @@ ghost use Rattle.xdr.specs.Items.{word};
 ghost use Rattle.nfs_results.specs.Results as codes;
 ghost use Rattle.nfs_results.specs.Results.{result_bytes, nfs_result_bytes, mount_result_bytes, front_bytes, nfs_front};
 ghost use Rattle.nfs_results.specs.Results.{read_front};
-ghost use Rattle.nfs_results.specs.Results.{status_number, too_long, nfs_too_long, mount_too_long};
+ghost use Rattle.nfs_results.specs.Results.{too_long, nfs_too_long, mount_too_long};
+ghost use Rattle.nfs_codec.specs.Statuses.{status_number};
 ghost use Rattle.nfs_types.specs.declared.program.ProgramReply.TheVariants as program_replies;
 
 use crate::data::append_data;
@@ -13,9 +14,8 @@ use crate::entries::{put_listed, put_listed_plus};
 use crate::outcomes::{
     put_created, put_info, put_limits, put_looked, put_mounted, put_space, put_written,
 };
-use crate::status::number_of_status;
 use crate::told::{put_attributes, put_optional_attributes, put_weak_cache};
-use nfs_codec::{put_text, put_verifier};
+use nfs_codec::{number_of_status, put_text, put_verifier};
 use nfs_types::{
     Attributes, Created, FileSystemInfo, FileSystemSpace, Listed, ListedPlus, Looked, MountReply,
     Mounted, Octets, PathLimits, ReadBytes, Reply, Status, Verifier, WeakCacheData, Written,

@@ -14,7 +14,8 @@ use Rattle.xdr.specs.Codes.{Code, word, double, flag, nothing, ◌then◌, optio
 use Rattle.xdr.specs.Items as items
 use Rattle.nfs_codec.specs.Items.{moment, device, kind, attributes, optional_attributes, weak_cache_attributes}
 use Rattle.nfs_codec.specs.Items.{before_attributes, handle, text, verifier, weak_cache}
-use Rattle.nfs_results.specs.Results.{status_number, alone, behind, before}
+use Rattle.nfs_results.specs.Results.{alone, behind, before}
+use Rattle.nfs_codec.specs.Statuses.{status_number}
 use Rattle.rpc.proofs.Lengths.{word-length}
 
 pub record IsShort {A : Type 0} (most : ℕ) (F : Code A) (x : A) : Type 0 where

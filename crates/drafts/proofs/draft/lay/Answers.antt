@@ -1,7 +1,7 @@
 use Rattle.std.proofs.Common.{rules, ap, ◌∙◌, not, List, [], ◌∷◌, ◌++◌, filter}
 use Rattle.std.proofs.lemmas.Fn.{filter_same}
 use Rattle.objects.specs.declared.addr.Addr.{Addr}
-use Rattle.txn.specs.Object.{ObjectBytes}
+use Rattle.objects.specs.Object.{ObjectBytes}
 use Rattle.inode.specs.Snap.{same_addr}
 use Rattle.drafts.proofs.draft.lay.Goals as goal
 

@@ -1,7 +1,7 @@
 use Rattle.std.proofs.Common.{rules, ◌≡◌, ap, ◌∙◌, filter}
 use Rattle.std.specs.List.{each_same}
 use Rattle.std.proofs.lemmas.Fn.{filter_same}
-use Rattle.txn.specs.Object.{ObjectBytes}
+use Rattle.objects.specs.Object.{ObjectBytes}
 use Rattle.layout_records.specs.OnGrid.{is_on_grid}
 use Rattle.drafts.proofs.draft.on_grid.Goals as goal
 

@@ -1,5 +1,5 @@
 use Rattle.std.proofs.Common.{◌≡◌, ◌<◌, ℕ, false, length, get_or}
-use Rattle.txn.specs.Object.{ObjectBytes}
+use Rattle.objects.specs.Object.{ObjectBytes}
 use Rattle.inode.specs.Snap.{same_addr}
 use Rattle.inode.proofs.KnownPositions.{grown}
 use Rattle.inode.proofs.finding.look_up.Goals as goal

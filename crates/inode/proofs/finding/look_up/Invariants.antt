@@ -1,6 +1,6 @@
 use Rattle.std.proofs.Common.{◌≡◌, ◌<◌, ℕ, true, false, take, length, get_or, nat_eq}
 use Rattle.std.specs.List.{list_any}
-use Rattle.txn.specs.Object.{ObjectBytes}
+use Rattle.objects.specs.Object.{ObjectBytes}
 use Rattle.inode.specs.Snap.{same_addr}
 use Rattle.inode.proofs.finding.look_up.Given as goal
 

@@ -1,5 +1,5 @@
 use Rattle.std.proofs.Common.{◌≡◌, ◌∙◌, true, ap, subst, ℕ, get_or}
-use Rattle.txn.specs.Object.{ObjectBytes}
+use Rattle.objects.specs.Object.{ObjectBytes}
 use Rattle.inode.specs.Indexed.{is_under, key_of}
 use Rattle.inode.proofs.KnownPositions.{ok_both, one_more}
 use Rattle.inode.proofs.finding.note.Goals as goal

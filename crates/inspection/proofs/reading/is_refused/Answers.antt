@@ -1,8 +1,8 @@
 use Rattle.std.proofs.Common.{◌≡◌, ℕ, ◌∙◌, [], inl, inr, sym, ap, subst, slice_index_or, Contains, length, arith}
 use Rattle.std.proofs.lemmas.Bool.{cases_lt}
 use Rattle.layout_records.specs.OnGrid.{IsInodeAt}
-use Rattle.txn.specs.Object.{ObjectBytes}
-use Rattle.txn.specs.Window.{IsAsRead}
+use Rattle.objects.specs.Object.{ObjectBytes}
+use Rattle.txn_law.specs.Window.{IsAsRead}
 use Rattle.inspection.proofs.Seen.{inode_same, one_item, same, same_self, seen_of, seen_there}
 use Rattle.inspection.proofs.reading.is_refused.Goals as goal
 

@@ -2,8 +2,8 @@
 use Rattle.std.proofs.Common.{ℕ, ◌<◌, slice_index_or}
 use Rattle.disk.specs.Crash.{Image}
 use Rattle.layout_records.specs.OnGrid.{IsInodeAt}
-use Rattle.txn.specs.Object.{ObjectBytes}
-use Rattle.txn.specs.Window.{IsAsRead}
+use Rattle.objects.specs.Object.{ObjectBytes}
+use Rattle.txn_law.specs.Window.{IsAsRead}
 use Rattle.inode.specs.Read.{Saw}
 use Rattle.inspection.specs.Refused.{IsRefusedFile}
 use Rattle.inspection.proofs.reading.is_refused.Given as goal

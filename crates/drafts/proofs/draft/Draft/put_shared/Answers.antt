@@ -5,8 +5,8 @@ use Rattle.inode.specs.Snap.{MayWrite, is_had}
 use Rattle.objects.specs.declared.mode.Mode.TheVariants as modes
 use Rattle.objects.specs.declared.addr.Addr.{Addr}
 use Rattle.layout.specs.Parts.{with_bytes}
-use Rattle.txn.specs.Object.{ObjectBytes}
-use Rattle.txn.specs.Window.{with_objects}
+use Rattle.objects.specs.Object.{ObjectBytes}
+use Rattle.txn_law.specs.Window.{with_objects}
 use Rattle.inode.specs.Snap.{is_seen}
 use Rattle.drafts.specs.Drafted.{Drafted, image_of}
 use Rattle.drafts.specs.Laid.{laid}

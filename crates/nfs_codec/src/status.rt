@@ -1,7 +1,7 @@
 //! The numbers of statuses (RFC 1813, section 2.6).
 ghost use Rattle.std.specs.Prelude.{◌≡◌};
 ghost use Rattle.xdr.specs.Codes.{numbered};
-ghost use Rattle.nfs_results.specs.Results.{status_number, refusals};
+ghost use Rattle.nfs_codec.specs.Statuses.{status_number, refusals};
 
 use nfs_types::Status;
 
