@@ -1,3 +1,0 @@
-pub mod PlainFile
-pub mod PlainName
-pub mod Refusal
