@@ -1,6 +1,6 @@
 -- A piece of a bitmap is an object of the image.
 use Rattle.std.proofs.Common.{◌≡◌, ℕ, ◌+◌, ◌*◌, ◌/◌, ◌%◌, ◌<◌, ◌≤◌, arith}
-use Rattle.limits.specs.declared.TheConstants.{FIRST_HOME_BLOCK}
+use Rattle.base.specs.declared.TheConstants.{FIRST_HOME_BLOCK}
 use Rattle.objects.specs.declared.addr.Addr.{Addr}
 use Rattle.layout.specs.declared.geometry.Geometry.{Geometry}
 use Rattle.layout.specs.declared.grid.TheConstants.{PIECE_BITS, PIECE_BYTES, PIECES_PER_BLOCK}

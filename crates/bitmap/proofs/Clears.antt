@@ -5,11 +5,11 @@ use Rattle.std.proofs.Common.{get_or, Option, Some, None, Result, Ok, Err}
 use Rattle.std.proofs.lemmas.Bool.{cases_lt, eq-eqb, leb-false, lt-ltb, ne_eqb}
 use Rattle.std.proofs.lemmas.Bool.Decides.{nat_tests}
 use Rattle.std.proofs.lemmas.List.{get_or-drop, get_or-take}
-use Rattle.limits.specs.declared.TheConstants.{BITS_PER_BLOCK}
+use Rattle.base.specs.declared.TheConstants.{BITS_PER_BLOCK}
 use Rattle.disk.specs.Crash.{Image}
-use Rattle.model.specs.Tree.{Tree, node_at}
-use Rattle.model.specs.Tree as model
-use Rattle.procedures.specs.Fresh.{IsNewNumber, IsUnused}
+use Rattle.nfs_spec.specs.Model.Tree.{Tree, node_at}
+use Rattle.nfs_spec.specs.Model.Tree as model
+use Rattle.nfs_spec.specs.Procedures.Fresh.{IsNewNumber, IsUnused}
 use Rattle.layout.specs.declared.fault.LayoutFault.{LayoutFault}
 use Rattle.layout.specs.declared.geometry.Geometry.{Geometry}
 use Rattle.layout.specs.declared.grid.TheConstants.{PIECE_BITS, PIECE_BYTES, PIECES_PER_BLOCK}

@@ -8,14 +8,14 @@ use Rattle.std.specs.List.{AllByRecursion, flat_map, list_any, range_with_len}
 use Rattle.std.proofs.lemmas.Bool.{eqb-true, le-ltb, leb-false, leb-true, lt-ltb, ltb-true, ne_eqb}
 use Rattle.std.proofs.lemmas.List.Concat.{length-flat_map}
 use Rattle.std.proofs.lemmas.List.Sums.{sum_by-cons}
-use Rattle.limits.specs.declared.TheConstants.{BITS_PER_BLOCK, FIRST_HOME_BLOCK}
+use Rattle.base.specs.declared.TheConstants.{BITS_PER_BLOCK, FIRST_HOME_BLOCK}
 use Rattle.disk.specs.Crash.{Image}
-use Rattle.model.specs.Cost.{cost}
-use Rattle.model.specs.Node.{Node}
-use Rattle.model.specs.Tree.{Tree, cost_at, free, node_at, used}
-use Rattle.model.specs.Tree as model
-use Rattle.procedures.specs.FsStat.{unused_numbers}
-use Rattle.procedures.proofs.Parts.{part}
+use Rattle.nfs_spec.specs.Model.Cost.{cost}
+use Rattle.nfs_spec.specs.Model.Node.{Node}
+use Rattle.nfs_spec.specs.Model.Tree.{Tree, cost_at, free, node_at, used}
+use Rattle.nfs_spec.specs.Model.Tree as model
+use Rattle.nfs_spec.specs.Procedures.FsStat.{unused_numbers}
+use Rattle.nfs_spec.proofs.ProceduresLemmas.Parts.{part}
 use Rattle.layout.specs.declared.fault.LayoutFault.{LayoutFault}
 use Rattle.layout.specs.declared.fault.LayoutFault.TheVariants.{Range}
 use Rattle.layout.specs.declared.geometry.Geometry.{Geometry}

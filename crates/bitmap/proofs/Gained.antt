@@ -6,10 +6,10 @@ use Rattle.std.proofs.Common.{Some, None, Ok, Err, arith}
 use Rattle.std.specs.List.{AllByRecursion, range_with_len}
 use Rattle.std.proofs.lemmas.Bool.{cases_eq, cases_lt, eq-eqb, le-ltb, lt-ltb}
 use Rattle.std.proofs.lemmas.List.Sums.{sum_by-cons}
-use Rattle.limits.specs.declared.TheConstants.{BITS_PER_BLOCK}
+use Rattle.base.specs.declared.TheConstants.{BITS_PER_BLOCK}
 use Rattle.disk.specs.Crash.{Image}
-use Rattle.model.specs.Node.{Node}
-use Rattle.model.specs.Tree.{Tree, node_at, with_node}
+use Rattle.nfs_spec.specs.Model.Node.{Node}
+use Rattle.nfs_spec.specs.Model.Tree.{Tree, node_at, with_node}
 use Rattle.layout.specs.declared.fault.LayoutFault.TheVariants.{Range}
 use Rattle.layout.specs.declared.geometry.Geometry.{Geometry}
 use Rattle.layout.specs.declared.inode.Inode.{Inode}
@@ -21,8 +21,8 @@ use Rattle.layout.specs.Parts.{Parts, content_in, parts_of, put}
 use Rattle.layout.specs.Stands.{file_at}
 use Rattle.layout.proofs.Frame.{ChangesOne, counts}
 use Rattle.layout.proofs.Written.{not_same}
-use Rattle.drafts.proofs.Marks.{TakesAndDrops, clear_is_free, moved_marks, times}
-use Rattle.drafts.proofs.OneFile.{one_file}
+use Rattle.inode.proofs.DraftsLemmas.Marks.{TakesAndDrops, clear_is_free, moved_marks, times}
+use Rattle.inode.proofs.DraftsLemmas.OneFile.{one_file}
 use Rattle.bitmap.specs.NewBlock.{IsFreeBlock, marking}
 use Rattle.bitmap.proofs.NewBlocks.{marking_others, marking_them, of_each}
 

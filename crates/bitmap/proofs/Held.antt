@@ -5,11 +5,11 @@ use Rattle.std.proofs.Common.{min, is_none, Option, Some, None, Result, Ok, Err,
 use Rattle.std.specs.List.{AllByRecursion, list_all}
 use Rattle.std.proofs.lemmas.Bool.{lt-ltb}
 use Rattle.std.proofs.lemmas.List.Folds.{list_all-append}
-use Rattle.limits.specs.declared.TheConstants.{BLOCK_BYTES, DIRECT_INDEXES, LARGEST_DIRECTORY}
-use Rattle.limits.specs.declared.TheConstants.{TARGET_BYTES}
+use Rattle.base.specs.declared.TheConstants.{BLOCK_BYTES, DIRECT_INDEXES, LARGEST_DIRECTORY}
+use Rattle.base.specs.declared.TheConstants.{TARGET_BYTES}
 use Rattle.disk.specs.Crash.{Image}
-use Rattle.model.specs.Cost.{cost}
-use Rattle.model.specs.Tree.{Tree, cost_at}
+use Rattle.nfs_spec.specs.Model.Cost.{cost}
+use Rattle.nfs_spec.specs.Model.Tree.{Tree, cost_at}
 use Rattle.layout.specs.declared.fault.LayoutFault.{LayoutFault}
 use Rattle.layout.specs.declared.fault.LayoutFault.TheVariants.{Range}
 use Rattle.layout.specs.declared.geometry.Geometry.{Geometry}

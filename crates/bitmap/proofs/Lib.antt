@@ -15,3 +15,4 @@ pub mod Enough
 pub mod LowestClear
 pub mod PutAgain
 pub mod ClearedBits
+pub mod InodesLemmas

@@ -6,9 +6,9 @@ use Rattle.std.specs.FinMap.{FinMap, entries, get, get-remove, nat_cmp-IsAntisym
 use Rattle.std.specs.List.{range_with_len}
 use Rattle.std.specs.Ordering.{eq_by_cmp, nat_cmp}
 use Rattle.std.proofs.lemmas.Bool.{cases_eq}
-use Rattle.model.proofs.Sets.{itself}
-use Rattle.procedures.proofs.Parts.{part, sum_remove}
-use Rattle.procedures.proofs.Sums.{got_at}
+use Rattle.nfs_spec.proofs.ModelLemmas.Sets.{itself}
+use Rattle.nfs_spec.proofs.ProceduresLemmas.Parts.{part, sum_remove}
+use Rattle.nfs_spec.proofs.ProceduresLemmas.Sums.{got_at}
 use Rattle.layout.proofs.FreshFiles.{not_equal}
 use Rattle.bitmap.proofs.Ranges.{one_more, same_sums}
 

@@ -5,7 +5,7 @@ use Rattle.std.proofs.Common.{replicate}
 use Rattle.std.proofs.Common.{Err, get_or, ◌^◌}
 use Rattle.std.proofs.lemmas.Bool.{cases_eq, eqb-true, lt-ltb, ltb-true}
 use Rattle.std.proofs.lemmas.Bool.Decides.{leb_tells}
-use Rattle.limits.specs.declared.TheConstants.{BITS_PER_BLOCK, BLOCK_BYTES, FIRST_HOME_BLOCK, INODE_BYTES}
+use Rattle.base.specs.declared.TheConstants.{BITS_PER_BLOCK, BLOCK_BYTES, FIRST_HOME_BLOCK, INODE_BYTES}
 use Rattle.disk.specs.Crash.{Image}
 use Rattle.layout.specs.declared.fault.LayoutFault.TheVariants.{Range}
 use Rattle.layout.specs.declared.geometry.Geometry.{Geometry}

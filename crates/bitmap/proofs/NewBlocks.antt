@@ -7,9 +7,9 @@ use Rattle.std.specs.List.{AllByRecursion, list_any, range_with_len}
 use Rattle.std.proofs.lemmas.Bool.{cases_eq, eq-eqb, lt-ltb, leb-false}
 use Rattle.std.proofs.lemmas.Bool.Decides.{nat_tests}
 use Rattle.std.proofs.lemmas.List.Sums.{sum_by-cons}
-use Rattle.limits.specs.declared.TheConstants.{BITS_PER_BLOCK, FIRST_HOME_BLOCK}
+use Rattle.base.specs.declared.TheConstants.{BITS_PER_BLOCK, FIRST_HOME_BLOCK}
 use Rattle.disk.specs.Crash.{Image}
-use Rattle.model.specs.Tree.{Tree, free}
+use Rattle.nfs_spec.specs.Model.Tree.{Tree, free}
 use Rattle.layout.specs.declared.geometry.Geometry.{Geometry}
 use Rattle.layout.specs.Geometry.{bitmap_blocks, data_at}
 use Rattle.layout.specs.Holds.{Holds}
@@ -18,7 +18,7 @@ use Rattle.layout.specs.Parts.{Parts, bit_at, parts_of, put}
 use Rattle.layout.specs.Places.{is_data}
 use Rattle.layout.proofs.OnGrid.{data_within}
 use Rattle.layout.proofs.Written.{not_same}
-use Rattle.drafts.proofs.Marks.{clear_is_free, times}
+use Rattle.inode.proofs.DraftsLemmas.Marks.{clear_is_free, times}
 use Rattle.bitmap.specs.Bits.{IsClearOf, MarksBlock}
 use Rattle.bitmap.specs.NewBlock.{HasTaken, IsFreeBlock, IsNewBlock, marking}
 use Rattle.bitmap.proofs.FreeBits.{free_blocks}

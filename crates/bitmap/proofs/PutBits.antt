@@ -2,7 +2,7 @@
 use Rattle.std.proofs.Common.{◌≡◌, ℕ, ◌+◌, ◌*◌, ◌/◌, ◌%◌, ◌^◌, inl, inr, sym, ap, ◌∙◌, subst}
 use Rattle.std.proofs.Common.{arith, Bool, cond, nat_eq, List, take, drop, length, get_or}
 use Rattle.std.proofs.lemmas.Bool.{cases_eq}
-use Rattle.limits.specs.declared.TheConstants.{BITS_PER_BLOCK, BLOCK_BYTES}
+use Rattle.base.specs.declared.TheConstants.{BITS_PER_BLOCK, BLOCK_BYTES}
 use Rattle.disk.specs.Crash.{Image}
 use Rattle.nfs_types.specs.Fits.{AreBytes}
 use Rattle.objects.specs.declared.addr.Addr.{Addr}

@@ -1,7 +1,7 @@
 -- The bits of bytes, of bitmaps, and what has them.
 use Rattle.std.specs.Prelude.{◌≡◌, ℕ, ◌+◌, ◌*◌, ◌/◌, ◌<◌, ◌≤◌, Bool, true, false, cond, Option, Some, None}
 use Rattle.std.specs.Prelude.{List, nat_eq}
-use Rattle.limits.specs.declared.TheConstants.{BITS_PER_BLOCK}
+use Rattle.base.specs.declared.TheConstants.{BITS_PER_BLOCK}
 use Rattle.disk.specs.Crash.{Image}
 use Rattle.nfs_types.specs.Fits.{AreBytes}
 use Rattle.layout.specs.declared.geometry.Geometry.{Geometry}

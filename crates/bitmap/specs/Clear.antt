@@ -1,7 +1,7 @@
 -- How many bits are clear of the blocks of a bitmap.
 use Rattle.std.specs.Prelude.{ℕ, ◌*◌, not, count_by}
 use Rattle.std.specs.List.{range_with_len}
-use Rattle.limits.specs.declared.TheConstants.{BITS_PER_BLOCK}
+use Rattle.base.specs.declared.TheConstants.{BITS_PER_BLOCK}
 use Rattle.disk.specs.Crash.{Image}
 use Rattle.layout.specs.Parts.{bit_at}
 

@@ -4,3 +4,4 @@ pub mod Bits
 pub mod NewBlock
 pub mod Enough
 pub mod Frees
+pub mod Inodes

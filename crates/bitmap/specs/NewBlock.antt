@@ -3,7 +3,7 @@ use Rattle.std.specs.Prelude.{◌≡◌, ℕ, ◌≤◌, Bool, true, false, List
 use Rattle.std.specs.Prelude.{Option, Some, None}
 use Rattle.std.specs.List.{AllByRecursion}
 use Rattle.disk.specs.Crash.{Image}
-use Rattle.model.specs.Tree.{Tree, free}
+use Rattle.nfs_spec.specs.Model.Tree.{Tree, free}
 use Rattle.layout.specs.declared.geometry.Geometry.{Geometry}
 use Rattle.layout.specs.Holds.{Holds}
 use Rattle.layout.specs.Owners.{owned}

@@ -3,14 +3,13 @@ ghost use Rattle.std.specs.Prelude.{ℕ, ◌≡◌, ◌/◌, ◌<◌, ◌≤◌,
 ghost use Rattle.disk.specs.Crash.{Image};
 ghost use Rattle.layout.specs.declared.grid.TheConstants.{PIECE_BITS, PIECE_BYTES};
 ghost use Rattle.inode.specs.Over.{IsPause, MayStop};
-ghost use Rattle.drafts.specs.Drafted.{Shows, fresh, image_of, spent};
+ghost use Rattle.inode.specs.Drafts.Drafted.{Shows, fresh, image_of, spent};
 ghost use Rattle.bitmap.specs.Frees.{AreCleared, Frees, IsInPiece};
 
-use drafts::Draft;
-use inode::{Stop, bytes_at};
+use base::FIRST_HOME_BLOCK;
+use inode::{Draft, Stop, bytes_at};
 use layout::PIECE_BITS;
 use layout_records::{piece_addr, put_bit};
-use limits::FIRST_HOME_BLOCK;
 use std::alloc::Global;
 
 // How many of the first numbers are of blocks that have their bits in this piece, before one that hasn't.

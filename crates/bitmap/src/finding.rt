@@ -1,11 +1,11 @@
 //! A number that no file has, and a block that is free.
 ghost use Rattle.std.specs.Prelude.{ℕ, ◌≡◌, ◌+◌, ◌*◌, ◌/◌, ◌<◌, ◌≤◌, length, List, true, IfErr, IfOk, IfSome};
-ghost use Rattle.limits.specs.declared.TheConstants.{FIRST_HOME_BLOCK};
+ghost use Rattle.base.specs.declared.TheConstants.{FIRST_HOME_BLOCK};
 ghost use Rattle.disk.specs.Crash.{Image};
 ghost use Rattle.layout.specs.Geometry.{table_at};
 ghost use Rattle.layout.specs.Holds.{Holds};
-ghost use Rattle.model.specs.Tree.{Tree};
-ghost use Rattle.procedures.specs.Fresh.{IsNewNumber};
+ghost use Rattle.nfs_spec.specs.Model.Tree.{Tree};
+ghost use Rattle.nfs_spec.specs.Procedures.Fresh.{IsNewNumber};
 ghost use Rattle.inode.specs.Over.{IsPause, MayStop};
 ghost use Rattle.inode.specs.Read.{NoneStand, Saw};
 ghost use Rattle.inode.specs.Snap.{IsNew};
@@ -17,10 +17,10 @@ ghost use Rattle.bitmap.specs.NewBlock.{HasTaken, IsNewBlock};
 ghost use Rattle.bitmap.specs.Pieces.{IsAskedObject};
 
 use crate::pieces::start_in;
+use base::FIRST_HOME_BLOCK;
 use inode::{Snap, Stop, bytes_at};
 use layout::{PIECE_BITS, PIECE_BYTES, PIECES_PER_BLOCK};
 use layout_records::piece_addr;
-use limits::FIRST_HOME_BLOCK;
 
 // A clear bit of a piece, if it has one.
 fn clear_bit(bytes: &[u8]) -> Option<u32>

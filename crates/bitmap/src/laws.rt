@@ -1,12 +1,12 @@
 //! What the clear bits of the bitmaps are.
 ghost use Rattle.std.specs.Prelude.{◌≡◌};
-ghost use Rattle.limits.specs.declared.TheConstants.{FIRST_HOME_BLOCK};
+ghost use Rattle.base.specs.declared.TheConstants.{FIRST_HOME_BLOCK};
 ghost use Rattle.disk.specs.Crash.{Image};
 ghost use Rattle.layout.specs.declared.geometry.Geometry.{Geometry};
 ghost use Rattle.layout.specs.Geometry.{bitmap_blocks, inode_bitmap_at};
 ghost use Rattle.layout.specs.Holds.{Holds};
-ghost use Rattle.model.specs.Tree.{Tree, free};
-ghost use Rattle.procedures.specs.FsStat.{unused_numbers};
+ghost use Rattle.nfs_spec.specs.Model.Tree.{Tree, free};
+ghost use Rattle.nfs_spec.specs.Procedures.FsStat.{unused_numbers};
 ghost use Rattle.bitmap.specs.Clear.{clear_of};
 
 /// Where blocks hold the files of a tree, as many bits are clear as it has free blocks and unused numbers.

@@ -4,6 +4,7 @@
 
 mod clearing;
 mod finding;
+mod inodes;
 mod laws;
 mod marking;
 mod pieces;
@@ -12,6 +13,7 @@ mod taking;
 
 pub use clearing::clear_blocks;
 pub use finding::{new_block, new_number};
+pub use inodes::{emptied, free_all, make_empty, make_link, remove};
 pub use laws::the_clear_bits_are_what_is_free;
 pub use marking::{mark_block, mark_number};
 pub use pieces::{free_blocks, free_numbers};

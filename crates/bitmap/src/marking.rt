@@ -1,17 +1,16 @@
 //! Bits of the bitmaps that are set and cleared.
 ghost use Rattle.std.specs.Prelude.{ℕ, ◌≡◌, ◌+◌, ◌*◌, ◌/◌, ◌<◌, ◌≤◌, length, IfErr, OnOk};
-ghost use Rattle.limits.specs.declared.TheConstants.{BITS_PER_BLOCK, FIRST_HOME_BLOCK};
+ghost use Rattle.base.specs.declared.TheConstants.{BITS_PER_BLOCK, FIRST_HOME_BLOCK};
 ghost use Rattle.disk.specs.Crash.{Image};
 ghost use Rattle.layout.specs.Geometry.{table_at};
 ghost use Rattle.inode.specs.Over.{IsPause, MayStop};
-ghost use Rattle.drafts.specs.Drafted.{Shows, fresh, image_of, spent};
+ghost use Rattle.inode.specs.Drafts.Drafted.{Shows, fresh, image_of, spent};
 ghost use Rattle.bitmap.specs.Bits.{MarksBlock, MarksNumber, PutsBit};
 
-use drafts::Draft;
-use inode::{Stop, bytes_at};
+use base::FIRST_HOME_BLOCK;
+use inode::{Draft, Stop, bytes_at};
 use layout::PIECE_BITS;
 use layout_records::{piece_addr, put_bit};
-use limits::FIRST_HOME_BLOCK;
 use std::alloc::Global;
 
 // Gives a bit of the bitmap that begins with this block a value.

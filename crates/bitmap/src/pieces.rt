@@ -1,11 +1,11 @@
 //! The bitmaps of what was read, piece by piece.
 ghost use Rattle.std.specs.Prelude.{ℕ, ◌≡◌, ◌+◌, ◌*◌, ◌/◌, ◌%◌, ◌<◌, ◌≤◌, length, IfErr, IfOk};
-ghost use Rattle.limits.specs.declared.TheConstants.{BLOCK_BYTES, FIRST_HOME_BLOCK};
+ghost use Rattle.base.specs.declared.TheConstants.{BLOCK_BYTES, FIRST_HOME_BLOCK};
 ghost use Rattle.disk.specs.Crash.{Image};
 ghost use Rattle.layout.specs.Geometry.{bitmap_blocks, inode_bitmap_at, table_at};
 ghost use Rattle.layout.specs.Holds.{Holds};
-ghost use Rattle.model.specs.Tree.{Tree, free};
-ghost use Rattle.procedures.specs.FsStat.{unused_numbers};
+ghost use Rattle.nfs_spec.specs.Model.Tree.{Tree, free};
+ghost use Rattle.nfs_spec.specs.Procedures.FsStat.{unused_numbers};
 ghost use Rattle.inode.specs.Read.{NoneStand, Saw};
 ghost use Rattle.inode.specs.Snap.{IsNew};
 ghost use Rattle.layout.specs.declared.grid.TheConstants.{PIECE_BITS, PIECES_PER_BLOCK};
@@ -13,10 +13,10 @@ ghost use Rattle.layout_records.specs.Bits.{clear_in, piece_in};
 ghost use Rattle.bitmap.specs.Clear.{clear_of};
 ghost use Rattle.bitmap.specs.Pieces.{IsAskedObject};
 
+use base::FIRST_HOME_BLOCK;
 use inode::{Snap, Stop, bytes_at};
 use layout::PIECES_PER_BLOCK;
 use layout_records::{clear_in, piece_addr};
-use limits::FIRST_HOME_BLOCK;
 
 /// The piece from which a bitmap of so many is gone through: this one, if there is one, or else the first.
 pub(crate) fn start_in(from: u32, pieces: u32) -> u32

@@ -1,13 +1,13 @@
 //! Whether so much is free, counted only until there is enough.
 ghost use Rattle.std.specs.Prelude.{ℕ, ◌≡◌, ◌+◌, ◌-◌, ◌*◌, ◌<◌, ◌≤◌, length, nat_le, sum_by, IfErr, IfOk};
 ghost use Rattle.std.specs.List.{range_with_len};
-ghost use Rattle.limits.specs.declared.TheConstants.{BLOCK_BYTES, FIRST_HOME_BLOCK};
+ghost use Rattle.base.specs.declared.TheConstants.{BLOCK_BYTES, FIRST_HOME_BLOCK};
 ghost use Rattle.disk.specs.Crash.{Image};
 ghost use Rattle.layout.specs.Geometry.{table_at};
 ghost use Rattle.layout.specs.Holds.{Holds};
 ghost use Rattle.layout.specs.declared.grid.TheConstants.{PIECE_BITS, PIECES_PER_BLOCK};
 ghost use Rattle.layout_records.specs.Bits.{clear_in, piece_in};
-ghost use Rattle.model.specs.Tree.{Tree, free};
+ghost use Rattle.nfs_spec.specs.Model.Tree.{Tree, free};
 ghost use Rattle.inode.specs.Read.{NoneStand, Saw};
 ghost use Rattle.inode.specs.Snap.{IsNew};
 ghost use Rattle.bitmap.specs.Clear.{clear_of};
@@ -15,9 +15,9 @@ ghost use Rattle.bitmap.specs.Enough.{IsEnough};
 ghost use Rattle.bitmap.specs.Pieces.{IsAskedObject};
 
 use crate::pieces::{clear_at, start_in};
+use base::FIRST_HOME_BLOCK;
 use inode::{Snap, Stop};
 use layout::PIECES_PER_BLOCK;
-use limits::FIRST_HOME_BLOCK;
 
 // How many bits are clear in the pieces from one up to another; where there are more than are wanted, at least as
 // many as are wanted.

@@ -2,17 +2,16 @@
 ghost use Rattle.std.specs.Prelude.{ℕ, ◌≡◌, ◌≤◌, List, Some, true, IfErr, IfNone, IfOk, IfSome, OnOk};
 ghost use Rattle.disk.specs.Crash.{Image};
 ghost use Rattle.layout.specs.Places.{is_data};
-ghost use Rattle.model.specs.Tree.{Tree};
+ghost use Rattle.nfs_spec.specs.Model.Tree.{Tree};
 ghost use Rattle.inode.specs.Over.{IsPause, MayStop};
-ghost use Rattle.drafts.specs.Drafted.{Shows, fresh, image_of, spent};
+ghost use Rattle.inode.specs.Drafts.Drafted.{Shows, fresh, image_of, spent};
 ghost use Rattle.bitmap.specs.Bits.{MarksBlock};
 ghost use Rattle.bitmap.specs.NewBlock.{HasTaken, TakesNext};
 
 use crate::finding::new_block;
 use crate::marking::mark_block;
 use disk::BlockNo;
-use drafts::Draft;
-use inode::Stop;
+use inode::{Draft, Stop};
 use std::alloc::Global;
 
 // Marks a free block as used, once it was claimed.

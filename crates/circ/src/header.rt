@@ -2,10 +2,10 @@
 //! first block of the log holds the end, and then the home address of each slot. The block behind the slots
 //! holds the start.
 ghost use Rattle.std.specs.Prelude.{◌≡◌, ◌+◌, ◌*◌, ◌^◌, ◌<◌, ◌≤◌, length, replicate};
-ghost use Rattle.wal_law.specs.EightBytes.{number_at, with_number};
+ghost use Rattle.circ.specs.Log.EightBytes.{number_at, with_number};
 
+use base::{BLOCK_BYTES, LOG_SLOTS};
 use disk::{Block, BlockNo};
-use limits::{BLOCK_BYTES, LOG_SLOTS};
 
 // The bytes of a number.
 const NUMBER_BYTES: usize = 8;
@@ -33,7 +33,7 @@ pub fn start_of(block: &Block) -> u64
 }
 
 /// Makes a block a header of this end, with an address of 0 at each slot.
-#[tactic(auto, unfolding(wal_law::specs::EightBytes::with_number))]
+#[tactic(auto, unfolding(crate::specs::Log::EightBytes::with_number))]
 pub fn put_end(header: &mut Block, end: u64)
     ensures { header.new ≡ with_number (replicate BLOCK_BYTES 0) 0 end }
 {
@@ -42,7 +42,7 @@ pub fn put_end(header: &mut Block, end: u64)
 }
 
 /// Sets the home address of a slot, and leaves the rest of the header.
-#[tactic(auto, unfolding(wal_law::specs::EightBytes::with_number))]
+#[tactic(auto, unfolding(crate::specs::Log::EightBytes::with_number))]
 pub fn put_address(header: &mut Block, slot: u64, home: BlockNo)
     requires { slot < LOG_SLOTS }
     ensures header { header.new ≡ with_number header.old (8 + 8 * slot) home.0 }
@@ -52,7 +52,7 @@ pub fn put_address(header: &mut Block, slot: u64, home: BlockNo)
 }
 
 /// Makes a block tell this start.
-#[tactic(auto, unfolding(wal_law::specs::EightBytes::with_number))]
+#[tactic(auto, unfolding(crate::specs::Log::EightBytes::with_number))]
 pub fn put_start(block: &mut Block, start: u64)
     ensures { block.new ≡ with_number (replicate BLOCK_BYTES 0) 0 start }
 {
@@ -61,7 +61,7 @@ pub fn put_start(block: &mut Block, start: u64)
 }
 
 // The number at an offset of a block.
-#[tactic(auto, unfolding(wal_law::specs::EightBytes::number_at))]
+#[tactic(auto, unfolding(crate::specs::Log::EightBytes::number_at))]
 fn number(block: &Block, offset: usize) -> u64
     requires { offset + 8 ≤ BLOCK_BYTES }
     ensures { result ≡ number_at block.now offset }

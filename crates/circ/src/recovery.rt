@@ -1,17 +1,17 @@
 //! What an opening finds in the log.
 ghost use Rattle.std.specs.Prelude.{◌≡◌, ◌≤◌, ◌<◌, ◌+◌, ◌*◌, ◌%◌, ◌^◌, ◌-◌, ◌⊎◌, ℕ, length, IfOk, OnOk, OnErr};
 ghost use Rattle.std.specs.Prelude.{IsErrOf, All, true, false};
-ghost use Rattle.limits.specs.declared.TheConstants.{FIRST_HOME_BLOCK, LOG_SLOTS, LOG_HEADER_BLOCK};
-ghost use Rattle.wal_law.specs.EightBytes.{number_at};
-ghost use Rattle.wal_law.specs.Log.{IsHomeOn, blocks_of};
-ghost use Rattle.wal_law.specs.Overlay.{start_in, home_at, positions};
-ghost use Rattle.wal_law.specs.Recovery.{HasOnlyRead, CountsFault, IsUnspoiled, image_of, IsRecovered, IsLog};
+ghost use Rattle.base.specs.declared.TheConstants.{FIRST_HOME_BLOCK, LOG_SLOTS, LOG_HEADER_BLOCK};
+ghost use Rattle.circ.specs.Log.EightBytes.{number_at};
+ghost use Rattle.circ.specs.Log.Log.{IsHomeOn, blocks_of};
+ghost use Rattle.circ.specs.Log.Overlay.{start_in, home_at, positions};
+ghost use Rattle.circ.specs.Log.Recovery.{HasOnlyRead, CountsFault, IsUnspoiled, image_of, IsRecovered, IsLog};
 
 use crate::header::{address_at, end_of, start_of};
+use crate::log::{LogFault, Recovered};
+use base::{FIRST_HOME_BLOCK, FIRST_SLOT_BLOCK, LOG_HEADER_BLOCK, LOG_SLOTS, START_BLOCK};
 use disk::{Block, BlockNo, CrashDisk};
-use limits::{FIRST_HOME_BLOCK, FIRST_SLOT_BLOCK, LOG_HEADER_BLOCK, LOG_SLOTS, START_BLOCK};
 use std::alloc::Global;
-use wal_law::{LogFault, Recovered};
 
 /// Reads the log of a disk: its blocks with their home addresses, in log order.
 pub fn read_log<D: CrashDisk>(
@@ -30,7 +30,7 @@ pub fn read_log<D: CrashDisk>(
 }
 
 /// Reads the log of a disk, with where it begins.
-#[tactic(auto, using(wal_law::proofs::OnlyRead::reads_then))]
+#[tactic(auto, using(crate::proofs::LogLemmas::OnlyRead::reads_then))]
 pub fn recover<D: CrashDisk>(alloc: Global, disk: &mut D) -> Result<Recovered, LogFault>
     requires { FIRST_HOME_BLOCK ≤ (D.device disk.old).size }
     ensures slots { IfOk result (λ found. length found.logged.items ≤ LOG_SLOTS) }
@@ -51,7 +51,7 @@ pub fn recover<D: CrashDisk>(alloc: Global, disk: &mut D) -> Result<Recovered, L
 }
 
 // Reads the header, and where the log begins.
-#[tactic(auto, using(wal_law::proofs::OnlyRead::reads_then))]
+#[tactic(auto, using(crate::proofs::LogLemmas::OnlyRead::reads_then))]
 fn read_ends<D: CrashDisk>(alloc: Global, disk: &mut D) -> Result<(Block, u64), LogFault>
     requires { FIRST_HOME_BLOCK ≤ (D.device disk.old).size }
     ensures reads { HasOnlyRead (D.device disk.old) (D.device disk.new) }
@@ -153,7 +153,7 @@ fn has_homes(header: &Block, start: u64, count: usize, blocks: u32) -> bool
 }
 
 // Reads the blocks of so many positions.
-#[tactic(auto, using(wal_law::proofs::OnlyRead::reads_then))]
+#[tactic(auto, using(crate::proofs::LogLemmas::OnlyRead::reads_then))]
 fn read_slots<D: CrashDisk>(
     alloc: Global,
     disk: &mut D,

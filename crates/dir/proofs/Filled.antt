@@ -4,13 +4,13 @@ use Rattle.std.proofs.Common.{not, List, [], ◌∷◌, length, Some, None, nat_
 use Rattle.std.proofs.lemmas.Bool.{lt-ltb}
 use Rattle.std.specs.FinMap as map
 use Rattle.std.specs.List.{cons_option}
-use Rattle.limits.specs.declared.TheConstants.{SLOTS_PER_BLOCK}
+use Rattle.base.specs.declared.TheConstants.{SLOTS_PER_BLOCK}
 use Rattle.disk.specs.Crash.{Image}
 use Rattle.layout.specs.declared.geometry.Geometry.{Geometry}
 use Rattle.layout.specs.declared.inode.Inode.{Inode}
 use Rattle.layout.specs.Decode.{IsDirectory, directory_in, entries_in, entry_in, named_in, span_of}
-use Rattle.procedures.specs.RmDir.{has_names}
-use Rattle.files.specs.declared.entry.SlotName.{SlotName}
+use Rattle.nfs_spec.specs.Procedures.RmDir.{has_names}
+use Rattle.procs_files.specs.declared.entry.SlotName.{SlotName}
 use Rattle.dir.specs.Slots.{AreFree, IsNext, Lying, slot_at}
 use Rattle.dir.proofs.FoundIn.{entries}
 use Rattle.dir.proofs.Members.{In, in_range}

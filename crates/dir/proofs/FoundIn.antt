@@ -8,7 +8,7 @@ use Rattle.std.specs.FinMap.{slice_cmp-IsAntisymmetric}
 use Rattle.std.specs.List.{cons_option, filter_map, range_with_len}
 use Rattle.std.specs.Option.{option_map}
 use Rattle.std.specs.Ordering.{is_eq, nat_cmp}
-use Rattle.limits.specs.declared.TheConstants.{SLOTS_PER_BLOCK}
+use Rattle.base.specs.declared.TheConstants.{SLOTS_PER_BLOCK}
 use Rattle.disk.specs.Crash.{Image}
 use Rattle.layout.specs.declared.fault.LayoutFault.{LayoutFault}
 use Rattle.layout.specs.declared.geometry.Geometry.{Geometry}
@@ -16,10 +16,10 @@ use Rattle.layout.specs.declared.inode.Inode.{Inode}
 use Rattle.layout.specs.declared.slot.Slot.{Slot}
 use Rattle.layout.specs.Decode.{IsDirectory, entries_in, entry_in, named_in, span_of}
 use Rattle.layout.specs.SlotForm.{number_under}
-use Rattle.model.specs.Node.{DirectoryEntry}
-use Rattle.files.specs.declared.entry.Entry.{Entry}
+use Rattle.nfs_spec.specs.Model.Node.{DirectoryEntry}
+use Rattle.procs_files.specs.declared.entry.Entry.{Entry}
 use Rattle.dir.specs.Slots.{IsFound, Lying, NoneHas, slot_at}
-use Rattle.files.specs.Heads.{entry_of}
+use Rattle.procs_files.specs.Heads.{entry_of}
 use Rattle.dir.proofs.Distinct.{Once, found_once, tied}
 use Rattle.dir.proofs.Members.{in_range, same}
 

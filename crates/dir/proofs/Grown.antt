@@ -2,7 +2,7 @@
 use Rattle.std.proofs.Common.{◌≡◌, ℕ, ◌+◌, ◌*◌, ◌<◌, ◌≤◌, ap, sym, ◌∙◌, subst, inl, inr, List, length, Option, None}
 use Rattle.std.proofs.Common.{Some, Result, Ok, Err, arith}
 use Rattle.std.proofs.lemmas.Bool.{cases_lt}
-use Rattle.limits.specs.declared.TheConstants.{BLOCK_BYTES, SLOTS_PER_BLOCK}
+use Rattle.base.specs.declared.TheConstants.{BLOCK_BYTES, SLOTS_PER_BLOCK}
 use Rattle.disk.specs.Crash.{Image}
 use Rattle.layout.specs.declared.fault.LayoutFault.{LayoutFault}
 use Rattle.layout.specs.declared.geometry.Geometry.{Geometry}
@@ -10,11 +10,11 @@ use Rattle.layout.specs.declared.inode.Inode.{Inode}
 use Rattle.layout.specs.Decode.{inode_at, span_of}
 use Rattle.layout.specs.Holds.{Holds}
 use Rattle.layout.specs.Parts.{content_in}
-use Rattle.model.specs.Tree.{Tree}
+use Rattle.nfs_spec.specs.Model.Tree.{Tree}
 use Rattle.inode.specs.declared.snap.Snap.{Snap}
 use Rattle.inode.specs.Over.{HasInode}
 use Rattle.inode.specs.Read.{Saw}
-use Rattle.files.specs.declared.entry.Entry.{Entry}
+use Rattle.procs_files.specs.declared.entry.Entry.{Entry}
 use Rattle.dir.specs.declared.sought.Sought.{Sought}
 use Rattle.dir.specs.Slots.{HasBlockAt, IsDirectoryOf, IsFound, Lying, NoneHas, NoneRefused, block_slot, slot_at}
 use Rattle.dir.specs.Sought.{IsClearAt, IsClearBehind, IsSought}

@@ -12,3 +12,4 @@ pub mod Grown
 pub mod Needed
 pub mod ClearBlocks
 pub mod Looks
+pub mod SearchLemmas

@@ -2,8 +2,8 @@
 use Rattle.std.proofs.Common.{◌≡◌, ℕ, ◌<◌, ◌≤◌, inl, inr, sym, ap, ◌∙◌, List, Option, Some, None, arith}
 use Rattle.std.proofs.lemmas.Bool.{cases_lt}
 use Rattle.layout.specs.SlotForm.{number_under}
-use Rattle.files.specs.declared.entry.Entry.{Entry}
-use Rattle.files.specs.declared.entry.SlotName.{SlotName}
+use Rattle.procs_files.specs.declared.entry.Entry.{Entry}
+use Rattle.procs_files.specs.declared.entry.SlotName.{SlotName}
 use Rattle.dir.specs.Slots.{AreFree, IsFound, IsNext, Lying}
 
 module _ (lies other : Lying) (from end : ℕ)

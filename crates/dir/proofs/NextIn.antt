@@ -8,19 +8,19 @@ use Rattle.std.specs.FinMap as map
 use Rattle.std.specs.List.{cons_option, filter_map, find, range_with_len}
 use Rattle.std.specs.Option.{option_map}
 use Rattle.std.specs.Ordering.{nat_cmp}
-use Rattle.limits.specs.declared.TheConstants.{SLOTS_PER_BLOCK}
+use Rattle.base.specs.declared.TheConstants.{SLOTS_PER_BLOCK}
 use Rattle.disk.specs.Crash.{Image}
 use Rattle.layout.specs.declared.fault.LayoutFault.{LayoutFault}
 use Rattle.layout.specs.declared.geometry.Geometry.{Geometry}
 use Rattle.layout.specs.declared.inode.Inode.{Inode}
 use Rattle.layout.specs.declared.slot.Slot.{Slot}
 use Rattle.layout.specs.Decode.{IsDirectory, directory_in, entry_in, named_in, span_of}
-use Rattle.model.specs.Node.{DirectoryEntry}
+use Rattle.nfs_spec.specs.Model.Node.{DirectoryEntry}
 use Rattle.nfs_types.specs.declared.entries.ListedEntry.{ListedEntry}
-use Rattle.procedures.specs.declared.cookies.TheConstants.{FIRST_SLOT_COOKIE}
-use Rattle.procedures.specs.Listing.{listed_in, slots_of}
-use Rattle.files.specs.declared.entry.SlotName.{SlotName}
-use Rattle.files.specs.Heads.{listing_of}
+use Rattle.nfs_spec.specs.declared.procedures.cookies.TheConstants.{FIRST_SLOT_COOKIE}
+use Rattle.nfs_spec.specs.Procedures.Listing.{listed_in, slots_of}
+use Rattle.procs_files.specs.declared.entry.SlotName.{SlotName}
+use Rattle.procs_files.specs.Heads.{listing_of}
 use Rattle.dir.specs.Slots.{IsNext, Lying, slot_at}
 use Rattle.dir.proofs.Distinct.{entries_once, found_in, found_once}
 use Rattle.dir.proofs.FoundIn.{entries}

@@ -1,9 +1,9 @@
 -- What a directory uses of the data blocks.
 use Rattle.std.proofs.Common.{◌≡◌, ℕ, ◌+◌, ◌∙◌, refl, cond, nat_lt}
-use Rattle.limits.specs.declared.TheConstants.{DIRECT_INDEXES}
+use Rattle.base.specs.declared.TheConstants.{DIRECT_INDEXES}
 use Rattle.disk.specs.Crash.{Image}
-use Rattle.model.specs.Cost.{cost}
-use Rattle.model.specs.Tree.{Tree}
+use Rattle.nfs_spec.specs.Model.Cost.{cost}
+use Rattle.nfs_spec.specs.Model.Tree.{Tree}
 use Rattle.layout.specs.declared.inode.Inode.{Inode}
 use Rattle.layout.specs.declared.inode.InodeKind.{InodeKind}
 use Rattle.layout.specs.declared.inode.InodeKind.TheVariants as kinds

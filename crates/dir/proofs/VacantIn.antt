@@ -6,7 +6,7 @@ use Rattle.std.proofs.lemmas.Bool.{cases_lt}
 use Rattle.std.proofs.lemmas.Bool.Decides.{nat_tests}
 use Rattle.std.specs.FinMap as map
 use Rattle.std.specs.List.{find, list_any, range_with_len}
-use Rattle.limits.specs.declared.TheConstants.{MOST_SPAN, SLOTS_PER_BLOCK}
+use Rattle.base.specs.declared.TheConstants.{MOST_SPAN, SLOTS_PER_BLOCK}
 use Rattle.disk.specs.Crash.{Image}
 use Rattle.layout.specs.declared.fault.LayoutFault.{LayoutFault}
 use Rattle.layout.specs.declared.fault.LayoutFault.TheVariants.{Range}
@@ -19,12 +19,12 @@ use Rattle.layout.specs.Fields.{four_at, is_zeros}
 use Rattle.layout.specs.SlotForm.{is_sound_slot, read_slot, slot_of}
 use Rattle.layout.proofs.Respelled.{all_zeros}
 use Rattle.layout.proofs.SlotBytes.{free_read}
-use Rattle.procedures.specs.Places.{is_taken_slot, least_free_slot}
+use Rattle.nfs_spec.specs.Procedures.Places.{is_taken_slot, least_free_slot}
 use Rattle.dir.specs.Slots.{Lying, slot_at}
 use Rattle.dir.specs.Vacant.{IsFirstFree, NoneFree, is_free}
 use Rattle.dir.proofs.Members.{at_or_past, found_is}
 use Rattle.dir.proofs.NextIn.{in_the_slot, of_few_slots}
-use Rattle.model.specs.Node.{DirectoryEntry}
+use Rattle.nfs_spec.specs.Model.Node.{DirectoryEntry}
 
 -- ---- the bytes of a slot
 

@@ -1,7 +1,7 @@
 -- What lies in the slots of a directory.
 use Rattle.std.specs.Prelude.{◌≡◌, ℕ, ◌-◌, ◌*◌, ◌<◌, ◌≤◌, List, take, drop, get_or, length, Option, Some, None}
 use Rattle.std.specs.Prelude.{Result, Ok, Err, IsOk}
-use Rattle.limits.specs.declared.TheConstants.{BLOCK_BYTES, DIRECT_INDEXES, INDIRECT_INDEXES}
+use Rattle.base.specs.declared.TheConstants.{BLOCK_BYTES, DIRECT_INDEXES, INDIRECT_INDEXES}
 use Rattle.disk.specs.Crash.{Image}
 use Rattle.layout.specs.declared.fault.LayoutFault.{LayoutFault}
 use Rattle.layout.specs.declared.inode.Inode.{Inode}
@@ -11,11 +11,11 @@ use Rattle.layout.specs.Decode.{slot_bytes}
 use Rattle.layout.specs.Fields.{numbers_at}
 use Rattle.layout.specs.SlotForm.{number_under, read_slot}
 use Rattle.layout.specs.declared.inode.InodeKind.TheVariants as kinds
-use Rattle.model.specs.Tree.{Tree}
+use Rattle.nfs_spec.specs.Model.Tree.{Tree}
 use Rattle.inode.specs.declared.snap.Snap.{Snap}
 use Rattle.inode.specs.Over.{HasInode}
-use Rattle.files.specs.declared.entry.SlotName.{SlotName}
-use Rattle.files.specs.declared.entry.Entry.{Entry}
+use Rattle.procs_files.specs.declared.entry.SlotName.{SlotName}
+use Rattle.procs_files.specs.declared.entry.Entry.{Entry}
 
 -- the number's file in the blocks is a directory with this inode
 pub record IsDirectoryOf (snap : Snap) (blocks : Image) (tree : Tree) (file : ℕ) (inode : Inode) : Type 0 where

@@ -1,14 +1,14 @@
 -- What is known of a name in a directory, by what was read.
 use Rattle.std.specs.Prelude.{◌≡◌, ℕ, ◌+◌, ◌*◌, ◌<◌, ◌≤◌, List, Some, None, Ok, length}
-use Rattle.limits.specs.declared.TheConstants.{BLOCK_BYTES, SLOTS_PER_BLOCK}
+use Rattle.base.specs.declared.TheConstants.{BLOCK_BYTES, SLOTS_PER_BLOCK}
 use Rattle.disk.specs.Crash.{Image}
 use Rattle.layout.specs.declared.inode.Inode.{Inode}
 use Rattle.layout.specs.Decode.{inode_at, span_of}
 use Rattle.layout.specs.Parts.{content_in}
-use Rattle.model.specs.Tree.{Tree}
+use Rattle.nfs_spec.specs.Model.Tree.{Tree}
 use Rattle.inode.specs.declared.snap.Snap.{Snap}
 use Rattle.inode.specs.Read.{Saw}
-use Rattle.files.specs.declared.entry.Entry.{Entry}
+use Rattle.procs_files.specs.declared.entry.Entry.{Entry}
 use Rattle.dir.specs.declared.sought.Sought.{Sought}
 use Rattle.dir.specs.Slots.{HasBlockAt, IsDirectoryOf, IsFound, NoneHas, NoneRefused, block_slot, slot_at}
 

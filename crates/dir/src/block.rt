@@ -1,13 +1,13 @@
 //! The slots of one block of a directory.
 ghost use Rattle.std.specs.Prelude.{◌≡◌, ◌+◌, ◌*◌, ◌^◌, ◌<◌, ◌≤◌, ℕ, true, length, IfOk, IfErr};
-ghost use Rattle.limits.specs.declared.TheConstants.{BLOCK_BYTES, MOST_SPAN, SLOTS_PER_BLOCK};
+ghost use Rattle.base.specs.declared.TheConstants.{BLOCK_BYTES, MOST_SPAN, SLOTS_PER_BLOCK};
 ghost use Rattle.layout.specs.declared.slot.TheConstants.{SLOT_BYTES};
 ghost use Rattle.layout.specs.SlotForm.{IsLook, read_slot};
 ghost use Rattle.dir.specs.Slots.{HasFault, IsFound, IsNext, NoneRefused, block_slot};
 
-use files::{Entry, SlotName};
+use base::SLOTS_PER_BLOCK;
 use layout::{LayoutFault, Look, NamePattern, Slot};
-use limits::SLOTS_PER_BLOCK;
+use procs_files::{Entry, SlotName};
 use std::alloc::{AllocError, Global};
 
 /// What a look through a block for a name has found: the slot that has it, if one does; and, of the slots before

@@ -1,8 +1,8 @@
 //! Whether a directory has names.
 ghost use Rattle.std.specs.Prelude.{◌≡◌, ℕ, not, IfErr, IfOk};
 ghost use Rattle.disk.specs.Crash.{Image};
-ghost use Rattle.model.specs.Tree.{Tree};
-ghost use Rattle.procedures.specs.RmDir.{has_names};
+ghost use Rattle.nfs_spec.specs.Model.Tree.{Tree};
+ghost use Rattle.nfs_spec.specs.Procedures.RmDir.{has_names};
 ghost use Rattle.layout.specs.Decode.{directory_in};
 ghost use Rattle.layout.specs.Parts.{content_in};
 ghost use Rattle.inode.specs.Over.{IsPause, MayStop};

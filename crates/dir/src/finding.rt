@@ -2,23 +2,23 @@
 ghost use Rattle.std.specs.Prelude.{◌≡◌, ◌+◌, ◌-◌, ◌*◌, ◌<◌, ◌≤◌, ℕ, IfErr, IfOk, IfSome, Some};
 ghost use Rattle.std.specs.FinMap.{get};
 ghost use Rattle.std.specs.Option.{option_map};
-ghost use Rattle.limits.specs.declared.TheConstants.{MOST_SPAN, SLOTS_PER_BLOCK};
+ghost use Rattle.base.specs.declared.TheConstants.{MOST_SPAN, SLOTS_PER_BLOCK};
 ghost use Rattle.disk.specs.Crash.{Image};
-ghost use Rattle.model.specs.Tree.{Tree};
+ghost use Rattle.nfs_spec.specs.Model.Tree.{Tree};
 ghost use Rattle.layout.specs.Decode.{entries_in, span_of};
 ghost use Rattle.layout.specs.Parts.{content_in};
 ghost use Rattle.inode.specs.Over.{IsPause, MayStop};
 ghost use Rattle.dir.specs.Slots.{IsDirectoryOf, IsFound, slot_at};
-ghost use Rattle.files.specs.Heads.{entry_of};
+ghost use Rattle.procs_files.specs.Heads.{entry_of};
 ghost use Rattle.inode.specs.Asked.{IsNeededAt, IsReadAt, IsStopFor};
 ghost use Rattle.dir.specs.Asked.{IsNeededBehind, LackBefore, StopsAt};
 
 use crate::block::find_in_block;
 use crate::span::{directory_block, span_of};
-use files::Entry;
+use base::SLOTS_PER_BLOCK;
 use inode::{Snap, Stop};
 use layout::Inode;
-use limits::SLOTS_PER_BLOCK;
+use procs_files::Entry;
 
 // A slot that has a name, of those in the block at an index.
 fn find_at(snap: &Snap, inode: &Inode, index: usize, name: &[u8]) -> Result<Option<Entry>, Stop>

@@ -1,8 +1,8 @@
 //! The names of a directory, by their slots.
 ghost use Rattle.std.specs.Prelude.{◌≡◌, ◌+◌, ◌*◌, ◌<◌, ◌≤◌, ℕ, IfErr, IfOk, IfSome};
-ghost use Rattle.limits.specs.declared.TheConstants.{MOST_SPAN, SLOTS_PER_BLOCK};
+ghost use Rattle.base.specs.declared.TheConstants.{MOST_SPAN, SLOTS_PER_BLOCK};
 ghost use Rattle.disk.specs.Crash.{Image};
-ghost use Rattle.model.specs.Tree.{Tree};
+ghost use Rattle.nfs_spec.specs.Model.Tree.{Tree};
 ghost use Rattle.layout.specs.Decode.{span_of};
 ghost use Rattle.layout.specs.Parts.{content_in};
 ghost use Rattle.inode.specs.Over.{IsPause, MayStop};
@@ -12,10 +12,10 @@ ghost use Rattle.dir.specs.Asked.{FreeBefore, IsNeededBehind};
 
 use crate::block::next_in_block;
 use crate::span::{directory_block, span_of};
-use files::SlotName;
+use base::SLOTS_PER_BLOCK;
 use inode::{Snap, Stop};
 use layout::Inode;
-use limits::SLOTS_PER_BLOCK;
+use procs_files::SlotName;
 use std::alloc::Global;
 
 // The later one of a slot and the first of a block.

@@ -3,15 +3,15 @@ ghost use Rattle.std.specs.Prelude.{◌≡◌, ◌+◌, ◌*◌, ◌^◌, ◌<�
 ghost use Rattle.std.specs.Prelude.{IfErr, IfOk, OnErr, OnOk};
 ghost use Rattle.std.specs.FinMap.{get};
 ghost use Rattle.std.specs.Option.{option_map};
-ghost use Rattle.limits.specs.declared.TheConstants.{BLOCK_BYTES, MOST_SPAN, SLOTS_PER_BLOCK};
+ghost use Rattle.base.specs.declared.TheConstants.{BLOCK_BYTES, MOST_SPAN, SLOTS_PER_BLOCK};
 ghost use Rattle.disk.specs.Crash.{Image};
-ghost use Rattle.model.specs.Tree.{Tree};
+ghost use Rattle.nfs_spec.specs.Model.Tree.{Tree};
 ghost use Rattle.layout.specs.Decode.{entries_in, inode_at, span_of};
 ghost use Rattle.layout.specs.Parts.{content_in};
 ghost use Rattle.inode.specs.Over.{IsPause, MayStop};
 ghost use Rattle.inode.specs.declared.snap.Snap.{Snap};
 ghost use Rattle.inode.specs.Read.{Saw};
-ghost use Rattle.files.specs.Heads.{entry_of};
+ghost use Rattle.procs_files.specs.Heads.{entry_of};
 ghost use Rattle.dir.specs.Slots.{IsDirectoryOf, NoneRefused, block_slot};
 ghost use Rattle.dir.specs.Sought.{IsClearAt, IsClearBehind, IsSought};
 ghost use Rattle.layout.specs.declared.inode.Inode.{Inode};
@@ -21,11 +21,11 @@ ghost use Rattle.dir.specs.Asked.{IsNextSought, IsSoughtOrAnew};
 use crate::block::{Looked, find_in_block, is_clear_from};
 use crate::finding::find;
 use crate::span::{directory_block, span_of};
-use files::Entry;
+use base::SLOTS_PER_BLOCK;
 use inode::{Snap, Stop};
 use layout::Inode;
-use limits::SLOTS_PER_BLOCK;
 use nfs_types::Octets;
+use procs_files::Entry;
 
 /// A name that is looked for in the directory of a number: how many of its first blocks were looked through, of how
 /// many of these it is known that the layout refuses none of their slots, and where the name was found, if it was.

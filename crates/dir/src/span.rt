@@ -1,8 +1,8 @@
 //! The blocks that a directory spans.
 ghost use Rattle.std.specs.Prelude.{◌≡◌, ◌+◌, ◌*◌, ◌<◌, ◌≤◌, ℕ, cond, length, nat_lt, IfErr, IfNone, IfOk, IfSome};
-ghost use Rattle.limits.specs.declared.TheConstants.{BLOCK_BYTES, DIRECT_INDEXES, MOST_SPAN, SLOTS_PER_BLOCK};
+ghost use Rattle.base.specs.declared.TheConstants.{BLOCK_BYTES, DIRECT_INDEXES, MOST_SPAN, SLOTS_PER_BLOCK};
 ghost use Rattle.disk.specs.Crash.{Image};
-ghost use Rattle.model.specs.Tree.{Tree};
+ghost use Rattle.nfs_spec.specs.Model.Tree.{Tree};
 ghost use Rattle.layout.specs.Decode.{span_of};
 ghost use Rattle.layout.specs.Parts.{content_in};
 ghost use Rattle.inode.specs.declared.snap.Snap.{Snap};
@@ -12,9 +12,9 @@ ghost use Rattle.inode.specs.Read.{Saw};
 ghost use Rattle.dir.specs.Slots.{HasBlockAt, IsDirectoryOf, block_slot, slot_at};
 ghost use Rattle.inode.specs.Asked.{IsNeededAt, IsReadAt, IsStopFor};
 
+use base::{BLOCK_BYTES, DIRECT_INDEXES, LARGEST_DIRECTORY};
 use inode::{Snap, Stop, block_number, data_block};
 use layout::Inode;
-use limits::{BLOCK_BYTES, DIRECT_INDEXES, LARGEST_DIRECTORY};
 
 /// How many blocks a directory spans: None where it is larger than one may be.
 pub(crate) fn span_of(inode: &Inode) -> Option<usize>

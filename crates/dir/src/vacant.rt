@@ -1,9 +1,9 @@
 //! Slots of directories in which no name lies.
 ghost use Rattle.std.specs.Prelude.{◌≡◌, ◌+◌, ◌*◌, ◌<◌, ◌≤◌, ℕ, length, IfErr, IfOk};
-ghost use Rattle.limits.specs.declared.TheConstants.{BLOCK_BYTES, MOST_SPAN, SLOTS_PER_BLOCK};
+ghost use Rattle.base.specs.declared.TheConstants.{BLOCK_BYTES, MOST_SPAN, SLOTS_PER_BLOCK};
 ghost use Rattle.disk.specs.Crash.{Image};
-ghost use Rattle.model.specs.Tree.{Tree};
-ghost use Rattle.procedures.specs.Places.{least_free_slot};
+ghost use Rattle.nfs_spec.specs.Model.Tree.{Tree};
+ghost use Rattle.nfs_spec.specs.Procedures.Places.{least_free_slot};
 ghost use Rattle.layout.specs.Decode.{directory_in, span_of};
 ghost use Rattle.layout.specs.Parts.{content_in};
 ghost use Rattle.inode.specs.Over.{IsPause, MayStop};
@@ -13,9 +13,9 @@ ghost use Rattle.inode.specs.Asked.{IsNeededAt, IsStopFor};
 ghost use Rattle.dir.specs.Asked.{IsNeededBehind, TakenBefore};
 
 use crate::span::{directory_block, span_of};
+use base::{MOST_SPAN, SLOTS_PER_BLOCK};
 use inode::{Snap, Stop};
 use layout::{Inode, Slot};
-use limits::{MOST_SPAN, SLOTS_PER_BLOCK};
 
 // The first free slot of a block, where the block's slots are numbered from one on.
 fn free_in_block(block: &[u8], first: u32) -> Option<u32>

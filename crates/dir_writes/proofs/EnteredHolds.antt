@@ -4,16 +4,16 @@ use Rattle.std.proofs.Common.{true, false, not, max, List, length, Option, Some,
 use Rattle.std.specs.Cmp.Lexicographic.{nat_list_cmp_total, slice_cmp}
 use Rattle.std.specs.FinMap.{find, from_entries, get, get-from_entries, insert}
 use Rattle.std.specs.Ordering.{nat_cmp}
-use Rattle.limits.specs.declared.TheConstants.{SLOTS_PER_BLOCK}
+use Rattle.base.specs.declared.TheConstants.{SLOTS_PER_BLOCK}
 use Rattle.disk.specs.Crash.{Image}
-use Rattle.model.specs.Node.{Body, DirectoryEntry, Entries, Node}
-use Rattle.model.specs.Node as nodes
-use Rattle.model.specs.Tree.{Tree, node_at, with_node}
-use Rattle.model.specs.Tree as trees
-use Rattle.procedures.specs.Changes.{with_entry}
-use Rattle.procedures.specs.Places.{entry_at, is_taken_slot}
-use Rattle.files.specs.Changing.{CanEnter, IsOwnSlot}
-use Rattle.files.specs.declared.entry.Entry.{Entry}
+use Rattle.nfs_spec.specs.Model.Node.{Body, DirectoryEntry, Entries, Node}
+use Rattle.nfs_spec.specs.Model.Node as nodes
+use Rattle.nfs_spec.specs.Model.Tree.{Tree, node_at, with_node}
+use Rattle.nfs_spec.specs.Model.Tree as trees
+use Rattle.nfs_spec.specs.Procedures.Changes.{with_entry}
+use Rattle.nfs_spec.specs.Procedures.Places.{entry_at, is_taken_slot}
+use Rattle.procs_files.specs.Changing.{CanEnter, IsOwnSlot}
+use Rattle.procs_files.specs.declared.entry.Entry.{Entry}
 use Rattle.layout.specs.declared.fault.LayoutFault.{LayoutFault}
 use Rattle.layout.specs.declared.geometry.Geometry.{Geometry}
 use Rattle.layout.specs.declared.inode.Inode.{Inode}

@@ -12,7 +12,7 @@ use Rattle.layout.specs.declared.slot.Slot.{Slot}
 use Rattle.layout.specs.Decode.{entry_in}
 use Rattle.layout.specs.SlotForm.{number_under}
 use Rattle.layout.proofs.Written.{not_same}
-use Rattle.model.specs.Node.{DirectoryEntry, Entries}
+use Rattle.nfs_spec.specs.Model.Node.{DirectoryEntry, Entries}
 use Rattle.dir.specs.Slots.{Lying}
 use Rattle.dir.proofs.Distinct.{first_once, itself, tied}
 use Rattle.dir.proofs.FoundIn.{entries}

@@ -3,9 +3,9 @@ use Rattle.std.proofs.Common.{◌≡◌, ℕ, ◌*◌, ◌<◌, ◌≤◌, inl, 
 use Rattle.std.specs.Cmp.Lexicographic.{nat_list_cmp_total, slice_cmp}
 use Rattle.std.specs.FinMap.{find, from_entries, get, get-from_entries, insert}
 use Rattle.std.specs.Ordering.{nat_cmp}
-use Rattle.limits.specs.declared.TheConstants.{BLOCK_BYTES, SLOTS_PER_BLOCK}
+use Rattle.base.specs.declared.TheConstants.{BLOCK_BYTES, SLOTS_PER_BLOCK}
 use Rattle.disk.specs.Crash.{Image}
-use Rattle.model.specs.Node.{Entries}
+use Rattle.nfs_spec.specs.Model.Node.{Entries}
 use Rattle.layout.specs.declared.geometry.Geometry.{Geometry}
 use Rattle.layout.specs.declared.inode.Inode.{Inode}
 use Rattle.layout.specs.declared.slot.Slot.{Slot}

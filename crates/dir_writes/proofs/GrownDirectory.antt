@@ -15,16 +15,16 @@ use Rattle.std.proofs.lemmas.List.{append_assoc, drop-drop, length-replicate, ge
 use Rattle.std.proofs.lemmas.List.{length-set, length-take-le}
 use Rattle.std.proofs.lemmas.List.FromFn.{get_or-range_with_len, length-range_with_len}
 use Rattle.std.proofs.lemmas.List.Elements.{All-from_get_or}
-use Rattle.limits.specs.declared.TheConstants.{BLOCK_BYTES, DIRECT_INDEXES, FILE_INDEXES, LARGEST_DIRECTORY}
-use Rattle.limits.specs.declared.TheConstants.{MOST_SPAN, SLOTS_PER_BLOCK}
+use Rattle.base.specs.declared.TheConstants.{BLOCK_BYTES, DIRECT_INDEXES, FILE_INDEXES, LARGEST_DIRECTORY}
+use Rattle.base.specs.declared.TheConstants.{MOST_SPAN, SLOTS_PER_BLOCK}
 use Rattle.disk.specs.Crash.{Image}
 use Rattle.objects.specs.Spliced.{spliced}
-use Rattle.model.specs.Node.{Body, DirectoryEntry, Entries, Node}
-use Rattle.model.specs.Node as nodes
-use Rattle.model.specs.Tree.{Tree, with_node}
-use Rattle.model.specs.Tree as trees
-use Rattle.procedures.specs.Changes.{with_entry}
-use Rattle.files.specs.Changing.{IsOwnSlot, adds}
+use Rattle.nfs_spec.specs.Model.Node.{Body, DirectoryEntry, Entries, Node}
+use Rattle.nfs_spec.specs.Model.Node as nodes
+use Rattle.nfs_spec.specs.Model.Tree.{Tree, with_node}
+use Rattle.nfs_spec.specs.Model.Tree as trees
+use Rattle.nfs_spec.specs.Procedures.Changes.{with_entry}
+use Rattle.procs_files.specs.Changing.{IsOwnSlot, adds}
 use Rattle.layout.specs.declared.geometry.Geometry.{Geometry}
 use Rattle.layout.specs.declared.inode.Inode.{Inode}
 use Rattle.layout.specs.declared.inode.InodeKind.{InodeKind}
@@ -51,11 +51,11 @@ use Rattle.bitmap.proofs.Gained.{grown, grown_holds}
 use Rattle.dir.specs.Slots.{Lying, slot_at}
 use Rattle.dir.proofs.FoundIn.{entries}
 use Rattle.dir.proofs.SlotBlocks.{of_directory}
-use Rattle.drafts.proofs.Marks.{times}
-use Rattle.file_writes.specs.Filling.{Fills, HasMapped, IsPiece, grown_size, mapping}
-use Rattle.file_writes.proofs.MappedFile as mapped
-use Rattle.file_writes.proofs.OneNumber.{all_still, is_some}
-use Rattle.file_writes.proofs.PieceWritten.{not_zero, or_data}
+use Rattle.inode.proofs.DraftsLemmas.Marks.{times}
+use Rattle.inode_data.specs.Filling.{Fills, HasMapped, IsPiece, grown_size, mapping}
+use Rattle.inode_data.proofs.MappedFile as mapped
+use Rattle.inode_data.proofs.OneNumber.{all_still, is_some}
+use Rattle.inode_data.proofs.PieceWritten.{not_zero, or_data}
 use Rattle.layout.specs.SlotForm.{first_slot}
 use Rattle.dir_writes.specs.Growing.{IsGrowth}
 use Rattle.dir_writes.proofs.EnteredName.{entered, gains}

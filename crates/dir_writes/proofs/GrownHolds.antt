@@ -1,13 +1,13 @@
 -- Blocks of an image to which a directory's new block was written hold the tree with the name in it.
 use Rattle.std.proofs.Common.{◌≡◌, ℕ, ◌+◌, ◌-◌, ◌*◌, ◌/◌, ◌<◌, ◌≤◌, sym, ap, refl, subst, Bool, true, false, cond}
 use Rattle.std.proofs.Common.{List, [], ◌∷◌, length, set, replicate, nat_eq, nat_lt, not, Some, Ok, arith}
-use Rattle.limits.specs.declared.TheConstants.{BLOCK_BYTES, DIRECT_INDEXES, FIRST_DOUBLE_INDEX, INDIRECT_INDEXES}
-use Rattle.limits.specs.declared.TheConstants.{SLOTS_PER_BLOCK}
+use Rattle.base.specs.declared.TheConstants.{BLOCK_BYTES, DIRECT_INDEXES, FIRST_DOUBLE_INDEX, INDIRECT_INDEXES}
+use Rattle.base.specs.declared.TheConstants.{SLOTS_PER_BLOCK}
 use Rattle.disk.specs.Crash.{Image}
 use Rattle.nfs_types.specs.Fits.{AreBytes}
 use Rattle.objects.specs.Spliced.{spliced}
-use Rattle.model.specs.Node.{Node}
-use Rattle.model.specs.Tree.{Tree, with_node}
+use Rattle.nfs_spec.specs.Model.Node.{Node}
+use Rattle.nfs_spec.specs.Model.Tree.{Tree, with_node}
 use Rattle.layout.specs.declared.geometry.Geometry.{Geometry}
 use Rattle.layout.specs.declared.inode.Inode.{Inode}
 use Rattle.layout.specs.declared.slot.TheConstants.{SLOT_BYTES}
@@ -19,12 +19,12 @@ use Rattle.layout.specs.Places.{is_data}
 use Rattle.layout.proofs.FreshBytes.{IsBytes, join}
 use Rattle.inode.specs.declared.snap.Snap.{Snap}
 use Rattle.bitmap.specs.NewBlock.{HasTaken}
-use Rattle.file_writes.specs.Filling.{Fills, grown_size, mapping}
-use Rattle.file_writes.proofs.Cases.{block_named, block_named_far, block_named_first}
-use Rattle.file_writes.proofs.FarNumbers.{named_count}
-use Rattle.file_writes.proofs.MappedFile.{long_content}
-use Rattle.file_writes.proofs.PieceWritten.{not_zero}
-use Rattle.file_writes.proofs.Stored.{content_are, named_are, zeros_are}
+use Rattle.inode_data.specs.Filling.{Fills, grown_size, mapping}
+use Rattle.inode_data.proofs.Cases.{block_named, block_named_far, block_named_first}
+use Rattle.inode_data.proofs.FarNumbers.{named_count}
+use Rattle.inode_data.proofs.MappedFile.{long_content}
+use Rattle.inode_data.proofs.PieceWritten.{not_zero}
+use Rattle.inode_data.proofs.Stored.{content_are, named_are, zeros_are}
 use Rattle.dir_writes.specs.Entering.{with_name}
 use Rattle.layout.specs.SlotForm.{first_slot}
 use Rattle.dir_writes.specs.Growing.{IsGrowth}

@@ -3,9 +3,9 @@ use Rattle.std.proofs.Common.{◌≡◌, ℕ, sym, ap, ◌∙◌, refl, List, Op
 use Rattle.std.specs.FinMap as map
 use Rattle.std.specs.Option.{unwrap_or}
 use Rattle.disk.specs.Crash.{Image}
-use Rattle.model.specs.Node.{Body, DirectoryEntry, Node}
-use Rattle.model.specs.Tree.{Tree, node_at}
-use Rattle.procedures.specs.Changes.{without_entry}
+use Rattle.nfs_spec.specs.Model.Node.{Body, DirectoryEntry, Node}
+use Rattle.nfs_spec.specs.Model.Tree.{Tree, node_at}
+use Rattle.nfs_spec.specs.Procedures.Changes.{without_entry}
 use Rattle.layout.specs.declared.inode.Inode.{Inode}
 use Rattle.layout.specs.declared.inode.InodeKind.{InodeKind}
 use Rattle.layout.specs.declared.inode.InodeKind.TheVariants as kinds

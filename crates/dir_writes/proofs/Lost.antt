@@ -15,7 +15,7 @@ use Rattle.layout.specs.declared.slot.Slot.{Slot}
 use Rattle.layout.specs.Decode.{entry_in}
 use Rattle.layout.specs.SlotForm.{number_under}
 use Rattle.layout.proofs.Written.{not_same}
-use Rattle.model.specs.Node.{DirectoryEntry}
+use Rattle.nfs_spec.specs.Model.Node.{DirectoryEntry}
 use Rattle.dir.specs.Slots.{Lying}
 use Rattle.dir.proofs.Distinct.{Once, first_once, some_found, tied}
 use Rattle.dir.proofs.FoundIn.{entries}

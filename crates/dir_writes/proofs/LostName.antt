@@ -1,12 +1,12 @@
 -- Blocks in which the slot of a name became zeros hold the tree without the name.
 use Rattle.std.proofs.Common.{◌≡◌, ℕ, ◌*◌, ◌<◌, sym, ap, ◌∙◌, refl, List, replicate, Some, None, Ok, arith}
 use Rattle.std.specs.FinMap.{remove}
-use Rattle.limits.specs.declared.TheConstants.{SLOTS_PER_BLOCK}
+use Rattle.base.specs.declared.TheConstants.{SLOTS_PER_BLOCK}
 use Rattle.disk.specs.Crash.{Image}
-use Rattle.model.specs.Node.{Body, Entries, Node}
-use Rattle.model.specs.Node as nodes
-use Rattle.model.specs.Tree.{Tree, node_at, with_node}
-use Rattle.procedures.specs.Changes.{without_entry}
+use Rattle.nfs_spec.specs.Model.Node.{Body, Entries, Node}
+use Rattle.nfs_spec.specs.Model.Node as nodes
+use Rattle.nfs_spec.specs.Model.Tree.{Tree, node_at, with_node}
+use Rattle.nfs_spec.specs.Procedures.Changes.{without_entry}
 use Rattle.layout.specs.declared.geometry.Geometry.{Geometry}
 use Rattle.layout.specs.declared.inode.Inode.{Inode}
 use Rattle.layout.specs.declared.inode.InodeKind.{InodeKind}

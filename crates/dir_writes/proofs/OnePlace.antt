@@ -11,7 +11,7 @@ use Rattle.layout.specs.Owners.{owned, owned_by}
 use Rattle.layout.specs.Parts.{Parts, put}
 use Rattle.layout.proofs.Frame.{counts}
 use Rattle.layout.proofs.Written.{not_same}
-use Rattle.drafts.proofs.Marks.{times}
+use Rattle.inode.proofs.DraftsLemmas.Marks.{times}
 
 one_more : (b x : ℕ) (xs : List ℕ) → times b (x ∷ xs) ≡ cond (nat_eq x b) 1 0 + times b xs
 one_more b x xs = sum_by-cons (λ one. cond (nat_eq one b) 1 0) x xs

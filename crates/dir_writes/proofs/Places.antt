@@ -6,12 +6,12 @@ use Rattle.std.specs.FinMap as map
 use Rattle.std.specs.Option.{option_map}
 use Rattle.std.specs.Ordering.{eq_by_cmp, nat_cmp}
 use Rattle.std.proofs.lemmas.Bool.{cases_eq}
-use Rattle.limits.specs.declared.TheConstants.{SLOTS_PER_BLOCK}
+use Rattle.base.specs.declared.TheConstants.{SLOTS_PER_BLOCK}
 use Rattle.disk.specs.Crash.{Image}
-use Rattle.model.specs.Node.{Body, DirectoryEntry, Entries, Node}
-use Rattle.model.specs.Node as nodes
-use Rattle.model.specs.Tree.{Tree, node_at, with_node}
-use Rattle.procedures.specs.Changes.{without_entry}
+use Rattle.nfs_spec.specs.Model.Node.{Body, DirectoryEntry, Entries, Node}
+use Rattle.nfs_spec.specs.Model.Node as nodes
+use Rattle.nfs_spec.specs.Model.Tree.{Tree, node_at, with_node}
+use Rattle.nfs_spec.specs.Procedures.Changes.{without_entry}
 use Rattle.layout.specs.declared.fault.LayoutFault.{LayoutFault}
 use Rattle.layout.specs.declared.geometry.Geometry.{Geometry}
 use Rattle.layout.specs.declared.inode.Inode.{Inode}
@@ -19,13 +19,13 @@ use Rattle.layout.specs.declared.slot.Slot.{Slot}
 use Rattle.layout.specs.Decode.{entries_in, entry_in, named_in, span_of}
 use Rattle.layout.specs.Holds.{Holds}
 use Rattle.layout.specs.SlotForm.{number_under}
-use Rattle.files.specs.declared.entry.Entry.{Entry}
-use Rattle.files.specs.Heads.{entry_of}
+use Rattle.procs_files.specs.declared.entry.Entry.{Entry}
+use Rattle.procs_files.specs.Heads.{entry_of}
 use Rattle.dir.specs.Slots.{slot_at}
 use Rattle.dir.proofs.Distinct.{found_in, itself, tied}
 use Rattle.dir.proofs.FoundIn.{entries}
 use Rattle.dir.proofs.Members.{from_range, same}
-use Rattle.drafts.proofs.OneFile.{here_next, there_next}
+use Rattle.inode.proofs.DraftsLemmas.OneFile.{here_next, there_next}
 use Rattle.dir_writes.proofs.Lost.{exact}
 
 pub record LiesAt (inodes : ℕ) (content : Image) (inode : Inode) (name : List ℕ) (slot number : ℕ) : Type 0 where

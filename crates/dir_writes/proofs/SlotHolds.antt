@@ -11,17 +11,17 @@ use Rattle.std.specs.Ordering.{nat_cmp}
 use Rattle.std.proofs.lemmas.List.{get_or-take, length-take-le}
 use Rattle.std.proofs.lemmas.List.Elements.{filter-append}
 use Rattle.std.proofs.lemmas.List.Sums.{sum_by-append}
-use Rattle.limits.specs.declared.TheConstants.{BLOCK_BYTES, SLOTS_PER_BLOCK}
+use Rattle.base.specs.declared.TheConstants.{BLOCK_BYTES, SLOTS_PER_BLOCK}
 use Rattle.disk.specs.Crash.{Image}
 use Rattle.nfs_types.specs.Fits.{AreBytes}
 use Rattle.objects.specs.Spliced.{spliced}
 use Rattle.objects.proofs.Splices.{spliced-length}
 use Rattle.layout.proofs.FreshBytes.{IsBytes}
 use Rattle.layout.proofs.WrittenBytes.{spliced-bytes}
-use Rattle.drafts.proofs.OtherWrites.{data_written}
-use Rattle.model.specs.Node.{Body, Entries, Node}
-use Rattle.model.specs.Node as nodes
-use Rattle.model.specs.Tree.{Tree, node_at, with_node}
+use Rattle.inode.proofs.DraftsLemmas.OtherWrites.{data_written}
+use Rattle.nfs_spec.specs.Model.Node.{Body, Entries, Node}
+use Rattle.nfs_spec.specs.Model.Node as nodes
+use Rattle.nfs_spec.specs.Model.Tree.{Tree, node_at, with_node}
 use Rattle.layout.specs.declared.fault.LayoutFault.TheVariants.{Range}
 use Rattle.layout.specs.declared.geometry.Geometry.{Geometry}
 use Rattle.layout.specs.declared.inode.Inode.{Inode}
@@ -47,8 +47,8 @@ use Rattle.bitmap.proofs.Held.{are_data}
 use Rattle.dir.specs.Slots.{IsDirectoryOf, Lying, slot_at}
 use Rattle.dir.proofs.FoundIn.{entries}
 use Rattle.dir.proofs.SlotBlocks.{of_directory, small}
-use Rattle.drafts.proofs.Marks.{times}
-use Rattle.drafts.proofs.OneFile.{blocks_still, numbered, one_file}
+use Rattle.inode.proofs.DraftsLemmas.Marks.{times}
+use Rattle.inode.proofs.DraftsLemmas.OneFile.{blocks_still, numbered, one_file}
 use Rattle.dir_writes.specs.Clearing.{HasOnce, slot_block}
 use Rattle.dir_writes.specs.Slotting.{slotted, slotted_block}
 use Rattle.dir_writes.proofs.Lost.{IsOnce}

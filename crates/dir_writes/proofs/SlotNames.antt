@@ -10,7 +10,7 @@ use Rattle.std.proofs.lemmas.Bool.{cases_eq, eq-eqb}
 use Rattle.std.proofs.lemmas.List.{get_or-take, length-take-le}
 use Rattle.std.proofs.lemmas.List.FromFn.{get_or-range_with_len, length-range_with_len}
 use Rattle.std.proofs.lemmas.List.Elements.{All-from_get_or}
-use Rattle.limits.specs.declared.TheConstants.{BLOCK_BYTES, SLOTS_PER_BLOCK}
+use Rattle.base.specs.declared.TheConstants.{BLOCK_BYTES, SLOTS_PER_BLOCK}
 use Rattle.disk.specs.Crash.{Image}
 use Rattle.layout.specs.declared.geometry.Geometry.{Geometry}
 use Rattle.layout.specs.declared.inode.Inode.{Inode}
@@ -27,7 +27,7 @@ use Rattle.layout.proofs.Written.{not_same}
 use Rattle.inode.proofs.AllTests.{all_two}
 use Rattle.dir.specs.Slots.{Lying, slot_at}
 use Rattle.dir.proofs.FoundIn.{entries}
-use Rattle.file_writes.proofs.Owned.{each_place, used_alike}
+use Rattle.inode_data.proofs.Owned.{each_place, used_alike}
 use Rattle.dir_writes.specs.Clearing.{HasOnce, slot_block}
 use Rattle.dir_writes.specs.Slotting.{slotted}
 use Rattle.dir_writes.proofs.Lost.{IsOnce}

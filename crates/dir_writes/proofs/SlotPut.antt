@@ -4,7 +4,7 @@ use Rattle.std.proofs.Common.{false}
 use Rattle.std.proofs.Common.{cond, List, length, take, drop, get_or, replicate, nat_eq, arith}
 use Rattle.std.specs.List.{flat_map}
 use Rattle.std.proofs.lemmas.Bool.{cases_eq, cases_lt, eq-eqb}
-use Rattle.limits.specs.declared.TheConstants.{BLOCK_BYTES, SLOTS_PER_BLOCK}
+use Rattle.base.specs.declared.TheConstants.{BLOCK_BYTES, SLOTS_PER_BLOCK}
 use Rattle.disk.specs.Crash.{Image}
 use Rattle.objects.specs.Spliced.{spliced}
 use Rattle.objects.proofs.Splices as splices

@@ -2,10 +2,10 @@
 use Rattle.std.proofs.Common.{◌≡◌, ℕ, ap, ◌∙◌, sym, refl, true, Option, Some}
 use Rattle.std.specs.Option.{unwrap_or}
 use Rattle.disk.specs.Crash.{Image}
-use Rattle.model.specs.Names.{is_directory}
-use Rattle.model.specs.Node.{Node}
-use Rattle.model.specs.Tree.{Tree, node_at}
-use Rattle.files.specs.Changing.{spanned}
+use Rattle.nfs_spec.specs.Model.Names.{is_directory}
+use Rattle.nfs_spec.specs.Model.Node.{Node}
+use Rattle.nfs_spec.specs.Model.Tree.{Tree, node_at}
+use Rattle.procs_files.specs.Changing.{spanned}
 use Rattle.layout.specs.declared.geometry.Geometry.{Geometry}
 use Rattle.layout.specs.declared.inode.Inode.{Inode}
 use Rattle.layout.specs.declared.inode.InodeKind.{InodeKind}

@@ -2,11 +2,11 @@
 -- inode, where these parts hold a tree.
 use Rattle.std.proofs.Common.{◌≡◌, ℕ, ◌<◌, sym, ap, ◌∙◌, refl, true, cond, List, length, Some, Ok, Err}
 use Rattle.std.proofs.lemmas.Bool.{eq-eqb, lt-ltb}
-use Rattle.limits.specs.declared.TheConstants.{BLOCK_BYTES}
+use Rattle.base.specs.declared.TheConstants.{BLOCK_BYTES}
 use Rattle.disk.specs.Crash.{Image}
 use Rattle.nfs_types.specs.Fits.{AreBytes}
 use Rattle.std.proofs.Common.{subst}
-use Rattle.model.specs.Tree.{Tree}
+use Rattle.nfs_spec.specs.Model.Tree.{Tree}
 use Rattle.layout.specs.declared.fault.LayoutFault.TheVariants.{Range}
 use Rattle.layout.specs.declared.geometry.Geometry.{Geometry}
 use Rattle.layout.specs.declared.inode.Inode.{Inode}
@@ -17,7 +17,7 @@ use Rattle.layout.specs.Parts.{Parts, content_in, parts_of, put, with_bytes, wit
 use Rattle.layout.specs.Places.{is_data}
 use Rattle.bitmap.specs.NewBlock.{HasTaken, marking}
 use Rattle.bitmap.proofs.Gained.{grown}
-use Rattle.file_writes.proofs.ImageWritten.{AreBlocks, block_parts, blocks_kept, inode_kept, inode_parts}
+use Rattle.inode_data.proofs.ImageWritten.{AreBlocks, block_parts, blocks_kept, inode_kept, inode_parts}
 
 module _ (g : Geometry) (base : Image) (tree next : Tree) (n : ℕ) (less : n < g.inodes) (new : Inode)
     (sound : SoundInode g new) (gained : List ℕ) (middle : Image) (taken : HasTaken g base tree gained middle)

@@ -1,6 +1,6 @@
 -- A directory's block in which a slot becomes zeros.
 use Rattle.std.specs.Prelude.{◌≡◌, ◌≢◌, ℕ, ◌*◌, ◌/◌, ◌%◌, ◌<◌, List, length, get_or, replicate}
-use Rattle.limits.specs.declared.TheConstants.{SLOTS_PER_BLOCK}
+use Rattle.base.specs.declared.TheConstants.{SLOTS_PER_BLOCK}
 use Rattle.disk.specs.Crash.{Image}
 use Rattle.objects.specs.Spliced.{spliced}
 use Rattle.layout.specs.declared.inode.Inode.{Inode}
@@ -8,8 +8,8 @@ use Rattle.layout.specs.declared.slot.TheConstants.{SLOT_BYTES}
 use Rattle.layout.specs.Decode.{numbers_of, pointer_blocks}
 use Rattle.layout.specs.declared.geometry.Geometry.{Geometry}
 use Rattle.layout.specs.Parts.{content_in, put, with_bytes}
-use Rattle.model.specs.Node.{Node}
-use Rattle.procedures.specs.Changes.{without_entry}
+use Rattle.nfs_spec.specs.Model.Node.{Node}
+use Rattle.nfs_spec.specs.Procedures.Changes.{without_entry}
 
 -- the block in which a slot lies
 abbrev pub slot_block : Image → Inode → ℕ → ℕ

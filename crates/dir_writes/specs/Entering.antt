@@ -1,7 +1,7 @@
 -- A file with a name more.
 use Rattle.std.specs.Prelude.{ℕ, List}
-use Rattle.model.specs.Node.{DirectoryEntry, Node}
-use Rattle.procedures.specs.Changes.{with_entry}
+use Rattle.nfs_spec.specs.Model.Node.{DirectoryEntry, Node}
+use Rattle.nfs_spec.specs.Procedures.Changes.{with_entry}
 
 -- what a name leads to, and where it lies
 abbrev pub entry_in : ℕ → ℕ → DirectoryEntry

@@ -1,15 +1,15 @@
 -- A directory that spans one block more, in which a name lies.
 use Rattle.std.specs.Prelude.{◌≡◌, ℕ, ◌*◌, List, Some, Ok}
-use Rattle.limits.specs.declared.TheConstants.{SLOTS_PER_BLOCK}
+use Rattle.base.specs.declared.TheConstants.{SLOTS_PER_BLOCK}
 use Rattle.disk.specs.Crash.{Image}
-use Rattle.model.specs.Node.{Node}
-use Rattle.model.specs.Tree.{Tree, node_at, with_node}
-use Rattle.files.specs.Changing.{CanEnter}
+use Rattle.nfs_spec.specs.Model.Node.{Node}
+use Rattle.nfs_spec.specs.Model.Tree.{Tree, node_at, with_node}
+use Rattle.procs_files.specs.Changing.{CanEnter}
 use Rattle.layout.specs.declared.inode.Inode.{Inode}
 use Rattle.layout.specs.Decode.{inode_at, span_of}
 use Rattle.inode.specs.declared.snap.Snap.{Snap}
 use Rattle.dir.specs.Slots.{IsDirectoryOf}
-use Rattle.drafts.specs.Drafted.{Drafted, IsDraft, image_of}
+use Rattle.inode.specs.Drafts.Drafted.{Drafted, IsDraft, image_of}
 use Rattle.dir_writes.specs.Entering.{entry_in}
 
 -- the draft holds the tree with this file, whose inode this is

@@ -1,7 +1,7 @@
 -- A directory's block in which a slot gets other bytes.
 use Rattle.std.specs.Prelude.{◌≡◌, ℕ, ◌*◌, ◌%◌, ◌⊎◌, List, Some, None, Ok}
 use Rattle.std.specs.FinMap.{get}
-use Rattle.limits.specs.declared.TheConstants.{SLOTS_PER_BLOCK}
+use Rattle.base.specs.declared.TheConstants.{SLOTS_PER_BLOCK}
 use Rattle.disk.specs.Crash.{Image}
 use Rattle.objects.specs.Spliced.{spliced}
 use Rattle.layout.specs.declared.geometry.Geometry.{Geometry}

@@ -1,26 +1,25 @@
 //! A name that is put into a directory.
 ghost use Rattle.std.specs.Prelude.{◌≡◌, ◌+◌, ◌*◌, ◌<◌, ◌≤◌, ℕ, length, true, false, IfErr, IfNone, IfOk, IfSome, IsSome, Ok, OnOk, Some};
-ghost use Rattle.limits.specs.declared.TheConstants.{BLOCK_BYTES, MOST_SPAN, NAME_BYTES};
-ghost use Rattle.limits.specs.declared.TheConstants.{SLOTS_PER_BLOCK};
+ghost use Rattle.base.specs.declared.TheConstants.{BLOCK_BYTES, MOST_SPAN, NAME_BYTES};
+ghost use Rattle.base.specs.declared.TheConstants.{SLOTS_PER_BLOCK};
 ghost use Rattle.disk.specs.Crash.{Image};
-ghost use Rattle.model.specs.Node.{Node};
-ghost use Rattle.model.specs.Tree.{Tree, free, node_at, with_node};
-ghost use Rattle.procedures.specs.Changes.{with_entry};
-ghost use Rattle.files.specs.Changing.{CanEnter, adds};
+ghost use Rattle.nfs_spec.specs.Model.Node.{Node};
+ghost use Rattle.nfs_spec.specs.Model.Tree.{Tree, free, node_at, with_node};
+ghost use Rattle.nfs_spec.specs.Procedures.Changes.{with_entry};
+ghost use Rattle.procs_files.specs.Changing.{CanEnter, adds};
 ghost use Rattle.layout.specs.Decode.{inode_at, span_of};
 ghost use Rattle.inode.specs.Over.{IsPause, MayStop};
 ghost use Rattle.dir.specs.Slots.{IsDirectoryOf};
-ghost use Rattle.drafts.specs.Drafted.{IsDraft, image_of, spent};
+ghost use Rattle.inode.specs.Drafts.Drafted.{IsDraft, image_of, spent};
 ghost use Rattle.dir_writes.specs.Entering.{entry_in, with_name};
 ghost use Rattle.dir_writes.specs.Growing.{HoldsWith, IsGrowth};
 
 use crate::growing::grow;
 use crate::slotting::put_slot;
-use drafts::Draft;
-use inode::{Stop, held};
+use base::{BLOCK_BYTES, MOST_SPAN, NAME_BYTES, SLOTS_PER_BLOCK};
+use inode::{Draft, Stop, held};
 use layout::{Inode, InodeKind, Slot};
 use layout_records::first_slot;
-use limits::{BLOCK_BYTES, MOST_SPAN, NAME_BYTES, SLOTS_PER_BLOCK};
 use std::alloc::Global;
 
 // Whether a slot is one of those that a directory spans.

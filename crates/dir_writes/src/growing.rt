@@ -1,27 +1,26 @@
 //! Directories that span one block more.
 ghost use Rattle.std.specs.Prelude.{◌≡◌, ◌+◌, ◌*◌, ◌<◌, ◌≤◌, ℕ, List, length, nat_eq, true, IfErr, IfOk};
-ghost use Rattle.limits.specs.declared.TheConstants.{BLOCK_BYTES, DIRECT_INDEXES, MOST_SPAN, SLOTS_PER_BLOCK};
+ghost use Rattle.base.specs.declared.TheConstants.{BLOCK_BYTES, DIRECT_INDEXES, MOST_SPAN, SLOTS_PER_BLOCK};
 ghost use Rattle.disk.specs.Crash.{Image};
-ghost use Rattle.model.specs.Node.{Node};
-ghost use Rattle.model.specs.Tree.{Tree, free};
-ghost use Rattle.procedures.specs.Changes.{with_entry};
-ghost use Rattle.files.specs.Changing.{adds};
+ghost use Rattle.nfs_spec.specs.Model.Node.{Node};
+ghost use Rattle.nfs_spec.specs.Model.Tree.{Tree, free};
+ghost use Rattle.nfs_spec.specs.Procedures.Changes.{with_entry};
+ghost use Rattle.procs_files.specs.Changing.{adds};
 ghost use Rattle.layout.specs.Decode.{span_of};
 ghost use Rattle.layout.specs.Places.{is_data};
 ghost use Rattle.inode.specs.Over.{IsPause, MayStop};
 ghost use Rattle.dir.specs.Slots.{IsDirectoryOf};
-ghost use Rattle.drafts.specs.Drafted.{IsDraft, image_of, spent};
+ghost use Rattle.inode.specs.Drafts.Drafted.{IsDraft, image_of, spent};
 ghost use Rattle.dir_writes.specs.Entering.{entry_in, with_name};
 ghost use Rattle.layout.specs.SlotForm.{first_slot};
 ghost use Rattle.dir_writes.specs.Growing.{HoldsWith, IsGrowth};
 
+use base::{BLOCK_BYTES, DIRECT_INDEXES};
 use bitmap::take_block;
-use drafts::Draft;
-use file_writes::{led_far, naming, sized, store, store_far};
-use inode::{Stop, data_block};
+use inode::{Draft, Stop, data_block};
+use inode_data::{led_far, naming, sized, store, store_far};
 use layout::Inode;
 use layout_records::with_number;
-use limits::{BLOCK_BYTES, DIRECT_INDEXES};
 use std::alloc::Global;
 
 // The size of a directory that has a block at this index, and none behind it.

@@ -1,10 +1,10 @@
 //! A name that is taken out of its directory.
 ghost use Rattle.std.specs.Prelude.{◌≡◌, ◌+◌, ◌*◌, ◌<◌, ◌≤◌, ℕ, length, true, replicate};
 ghost use Rattle.std.specs.Prelude.{IfErr, IfOk, OnOk, Some};
-ghost use Rattle.limits.specs.declared.TheConstants.{BLOCK_BYTES, SLOTS_PER_BLOCK};
+ghost use Rattle.base.specs.declared.TheConstants.{BLOCK_BYTES, SLOTS_PER_BLOCK};
 ghost use Rattle.disk.specs.Crash.{Image};
-ghost use Rattle.model.specs.Node.{Node};
-ghost use Rattle.model.specs.Tree.{Tree, node_at, with_node};
+ghost use Rattle.nfs_spec.specs.Model.Node.{Node};
+ghost use Rattle.nfs_spec.specs.Model.Tree.{Tree, node_at, with_node};
 ghost use Rattle.objects.specs.Spliced.{spliced};
 ghost use Rattle.layout.specs.declared.slot.TheConstants.{SLOT_BYTES};
 ghost use Rattle.layout.specs.Decode.{span_of};
@@ -12,13 +12,12 @@ ghost use Rattle.layout.specs.Parts.{content_in};
 ghost use Rattle.layout.specs.Places.{is_data};
 ghost use Rattle.inode.specs.Over.{IsPause, MayStop};
 ghost use Rattle.dir.specs.Slots.{IsDirectoryOf};
-ghost use Rattle.drafts.specs.Drafted.{IsDraft, Shows, image_of, spent};
+ghost use Rattle.inode.specs.Drafts.Drafted.{IsDraft, Shows, image_of, spent};
 ghost use Rattle.dir_writes.specs.Clearing.{IsClearedIn, without_name};
 
 use crate::slotting::put_slot;
 use dir::find;
-use drafts::Draft;
-use inode::{Stop, held};
+use inode::{Draft, Stop, held};
 use layout::{Inode, InodeKind, SLOT_BYTES};
 use std::alloc::Global;
 

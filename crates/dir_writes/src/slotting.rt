@@ -1,23 +1,22 @@
 //! A slot of a directory that gets other bytes.
 ghost use Rattle.std.specs.Prelude.{◌≡◌, ◌+◌, ◌*◌, ◌<◌, ◌≤◌, ℕ, length, true, IfErr, IfOk, OnOk};
-ghost use Rattle.limits.specs.declared.TheConstants.{BLOCK_BYTES, SLOTS_PER_BLOCK};
+ghost use Rattle.base.specs.declared.TheConstants.{BLOCK_BYTES, SLOTS_PER_BLOCK};
 ghost use Rattle.disk.specs.Crash.{Image};
-ghost use Rattle.model.specs.Tree.{Tree};
+ghost use Rattle.nfs_spec.specs.Model.Tree.{Tree};
 ghost use Rattle.layout.specs.declared.slot.TheConstants.{SLOT_BYTES};
 ghost use Rattle.layout.specs.Decode.{span_of};
 ghost use Rattle.layout.specs.Parts.{content_in};
 ghost use Rattle.layout.specs.Places.{is_data};
 ghost use Rattle.inode.specs.Over.{IsPause, MayStop};
 ghost use Rattle.dir.specs.Slots.{IsDirectoryOf};
-ghost use Rattle.drafts.specs.Drafted.{IsDraft, Shows, image_of, spent};
+ghost use Rattle.inode.specs.Drafts.Drafted.{IsDraft, Shows, image_of, spent};
 ghost use Rattle.dir_writes.specs.Slotting.{IsSlotted, IsSlottedIn};
 
+use base::{MOST_SPAN, SLOTS_PER_BLOCK};
 use disk::BlockNo;
-use drafts::Draft;
-use inode::{Snap, Stop, block_number, data_block};
+use inode::{Draft, Snap, Stop, block_number, data_block};
 use layout::Inode;
 use layout_records::with_slot;
-use limits::{MOST_SPAN, SLOTS_PER_BLOCK};
 use objects::Addr;
 use std::alloc::Global;
 

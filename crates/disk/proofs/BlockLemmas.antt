@@ -3,7 +3,7 @@ use Rattle.std.proofs.Common.{ℕ, zero, suc, ◌<◌, ◌-◌, min, List, [], �
 use Rattle.std.proofs.Common.{arith, sym, subst}
 use Rattle.std.proofs.lemmas.List.{length-replicate}
 use Rattle.std.proofs.lemmas.List.Elements.{All-nil, All-cons, All-head, All-tail, All-get_or}
-use Rattle.limits.specs.declared.TheConstants.{BLOCK_BYTES}
+use Rattle.base.specs.declared.TheConstants.{BLOCK_BYTES}
 use Rattle.disk.specs.Device.{Content}
 use Rattle.disk.specs.Blocks.{IsBlock, AreContents}
 use Rattle.disk.specs.Choice.{pick, chosen}

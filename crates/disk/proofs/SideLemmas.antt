@@ -4,7 +4,7 @@ use Rattle.std.proofs.Common.{subst, ◌∙◌, ap, rules, inl, inr, Result, Ok,
 use Rattle.std.proofs.lemmas.List.{append_assoc, map-append}
 use Rattle.std.proofs.lemmas.Bool.{cases_Bool, eq-eqb, eqb-true}
 use Rattle.std.specs.Prelude.{filter}
-use Rattle.limits.specs.declared.TheConstants.{BLOCK_BYTES}
+use Rattle.base.specs.declared.TheConstants.{BLOCK_BYTES}
 use Rattle.disk.specs.declared.block.Side.{Side}
 use Rattle.disk.specs.declared.block.Side.TheVariants.{Log, Home}
 use Rattle.disk.specs.declared.device.Failed.{Failed}

@@ -1,7 +1,7 @@
 -- Contents that are blocks.
 use Rattle.std.specs.Prelude.{◌≡◌, ℕ, ◌<◌, ◌≤◌, List, length, All}
 use Rattle.disk.specs.Device.{Content, Device}
-pub use Rattle.buffers.specs.Blocks.{IsBlock}
+pub use Rattle.base.specs.Buffers.Blocks.{IsBlock}
 
 -- what a crash may leave of a block: there is a content, and each of them is a block
 abbrev pub AreContents : List Content → Type 0

@@ -7,7 +7,7 @@ use Rattle.disk.specs.declared.device.Failed.{Failed}
 use Rattle.disk.specs.declared.block.BlockNo.{BlockNo}
 use Rattle.disk.specs.declared.file.FileCall.{FileCall}
 use Rattle.disk.specs.declared.file.FileCall.TheVariants.{Read, Write, Sync}
-use Rattle.limits.specs.declared.TheConstants.{BLOCK_BYTES}
+use Rattle.base.specs.declared.TheConstants.{BLOCK_BYTES}
 use Rattle.disk.specs.Blocks.{IsBlock}
 use Rattle.disk.specs.Device.{Content, Device, newest, newest_alone, is_on}
 

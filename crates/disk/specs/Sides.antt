@@ -4,7 +4,7 @@ use Rattle.disk.specs.declared.block.Side.{Side}
 use Rattle.disk.specs.declared.block.Side.TheVariants.{Log, Home}
 use Rattle.disk.specs.declared.file.FileCall.{FileCall}
 use Rattle.disk.specs.declared.file.FileCall.TheVariants.{Read, Write, Sync}
-use Rattle.limits.specs.declared.TheConstants.{BLOCK_BYTES}
+use Rattle.base.specs.declared.TheConstants.{BLOCK_BYTES}
 use Rattle.disk.specs.Device.{Content, is_on}
 use Rattle.disk.specs.File.{Calls, EachFits, IsHonest}
 use Rattle.disk.specs.Overlap.{DeviceCall, reads, writes, settles}

@@ -2,7 +2,7 @@
 ghost use Rattle.std.specs.Prelude.{◌≡◌};
 ghost use Rattle.disk.specs.Device.{side_of};
 
-use limits::{LOG_HEADER_BLOCK, START_BLOCK};
+use base::{LOG_HEADER_BLOCK, START_BLOCK};
 
 /// The number of a block of an image, from 0.
 #[derive(Clone, Copy, Debug, Default, PartialEq, Eq, PartialOrd, Ord)]

@@ -1,12 +1,12 @@
 //! A device over a file of the system.
 ghost use Rattle.std.specs.Prelude.{◌≡◌, ◌*◌, [], IfOk};
-ghost use Rattle.limits.specs.declared.TheConstants.{BLOCK_BYTES};
+ghost use Rattle.base.specs.declared.TheConstants.{BLOCK_BYTES};
 ghost use Rattle.disk.specs.Crash.{IsAtRest};
 ghost use Rattle.disk.specs.File.{file_device, first_in};
 
 use crate::file::NotedFile;
 use crate::{Block, BlockFile, BlockNo, CrashDisk, Failed, FirstContents, Side, open_locked};
-use limits::BLOCK_BYTES;
+use base::BLOCK_BYTES;
 use std::fs::{File, Files, OpenFile, OpenOptions};
 use std::io;
 use std::io::ErrorKind;

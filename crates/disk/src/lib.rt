@@ -16,8 +16,8 @@ mod ports;
 mod room;
 mod threaded_disk;
 
+pub use base::{Block, SharedBlock};
 pub use block::{BlockNo, Side};
-pub use buffers::{Block, SharedBlock};
 pub use device::{CrashDisk, Failed};
 pub use file::ports::{FilePort, FileSource};
 pub use file::{BlockFile, FileCall, FirstContents, open_locked};

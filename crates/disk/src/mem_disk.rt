@@ -1,7 +1,7 @@
 //! A device in memory, for tests and for what is proved of every run. It can be made to fail and to crash.
 ghost use Rattle.std.specs.Prelude.{◌≡◌, ℕ, ◌<◌, ◌^◌, ◌-◌, ◌↔◌, min, length, [], ◌∷◌, map, replicate};
 ghost use Rattle.std.specs.Prelude.{All, Contains, IsTrue, slice_index, slice_index_or, IfOk, if◌then◌else◌};
-ghost use Rattle.limits.specs.declared.TheConstants.{BLOCK_BYTES};
+ghost use Rattle.base.specs.declared.TheConstants.{BLOCK_BYTES};
 ghost use Rattle.disk.specs.Device.{is_on, newest_alone};
 ghost use Rattle.disk.specs.Blocks.{AreContents, AreWhole};
 ghost use Rattle.disk.specs.Choice.{chosen};

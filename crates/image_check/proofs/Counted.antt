@@ -7,7 +7,7 @@ use Rattle.std.specs.Ordering.{eq_by_cmp, nat_cmp}
 use Rattle.std.proofs.lemmas.List.{take_all, take_more}
 use Rattle.std.proofs.lemmas.List.Sums.{sum_by-append, sum_by-cons}
 use Rattle.disk.specs.Crash.{Image}
-use Rattle.model.specs.Node.{Node}
+use Rattle.nfs_spec.specs.Model.Node.{Node}
 use Rattle.layout.specs.declared.geometry.Geometry.{Geometry}
 use Rattle.layout.specs.declared.inode.Inode.{Inode}
 use Rattle.layout.specs.Decode.{file_of}
@@ -15,7 +15,7 @@ use Rattle.layout.specs.Parts.{content_in, parts_of, table_of}
 use Rattle.layout.specs.Stands.{file_at}
 use Rattle.layout.proofs.FreshFiles.{not_equal}
 use Rattle.bitmap.proofs.Ranges.{one_if}
-use Rattle.image_law.specs.TreeOf.{files_below, tree_of, with_file}
+use Rattle.image_read.specs.Laws.TreeOf.{files_below, tree_of, with_file}
 
 module _ (file : ℕ → Option Node) where
   kept : (k q : ℕ) → k < q → (o : Option Node) (nodes : FinMap nat_cmp Node) → get nodes q ≡ None

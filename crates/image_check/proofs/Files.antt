@@ -1,7 +1,7 @@
 -- A file is one by what was seen of its blocks, and back.
 use Rattle.std.proofs.Common.{◌≡◌, ℕ, ◌*◌, refl, subst, true, All, IsOk, get_or, Some, Ok, arith}
 use Rattle.std.proofs.lemmas.List.FromFn.{get_or-range_with_len, length-range_with_len}
-use Rattle.limits.specs.declared.TheConstants.{SLOTS_PER_BLOCK}
+use Rattle.base.specs.declared.TheConstants.{SLOTS_PER_BLOCK}
 use Rattle.disk.specs.Crash.{Image}
 use Rattle.nfs_types.specs.Fits.{AreBytes}
 use Rattle.layout.specs.declared.geometry.Geometry.{Geometry}
@@ -12,12 +12,12 @@ use Rattle.layout.specs.Decode.{IsDirectory, IsFile, IsMapped, IsOfKind, numbers
 use Rattle.layout.specs.InodeForm.{SoundInode, is_sound_inode, is_sound_kind}
 use Rattle.layout.specs.SlotForm.{read_slot}
 use Rattle.layout.proofs.AllNumbers.{all-length, maps}
-use Rattle.image_files.specs.Slots.{IsSpanned}
-use Rattle.image_files.proofs.AllMapped.{all_mapped, near_mapped, no_below, no_row}
-use Rattle.image_law.proofs.SoundKinds.{few_spanned, no_double_of_link, no_indirect_of_link}
-use Rattle.image_law.specs.TreeOf.{HasNames}
-use Rattle.directory_names.proofs.Directory.{are_names, has_names, once}
-use Rattle.image_bodies.specs.Bodies.{HasBlocksOf, IsTidyOf}
+use Rattle.image_read.specs.Files.Slots.{IsSpanned}
+use Rattle.image_read.proofs.FilesLemmas.AllMapped.{all_mapped, near_mapped, no_below, no_row}
+use Rattle.image_read.proofs.LawsLemmas.SoundKinds.{few_spanned, no_double_of_link, no_indirect_of_link}
+use Rattle.image_read.specs.Laws.TreeOf.{HasNames}
+use Rattle.image_contents.proofs.NamesLemmas.Directory.{are_names, has_names, once}
+use Rattle.image_contents.specs.Bodies.Bodies.{HasBlocksOf, IsTidyOf}
 use Rattle.image_check.proofs.SlotBytes.{slots_are_bytes}
 
 module _ (g : Geometry) (content : Image) (inode : Inode) (sound : SoundInode g inode) where

@@ -5,12 +5,12 @@ use Rattle.std.proofs.Common.{take, drop, get_or, is_some, replicate, IfSome, Is
 use Rattle.std.proofs.Common.{arith}
 use Rattle.std.specs.Prelude.{IfErr, IfOk}
 use Rattle.std.proofs.lemmas.Bool.{cases_lt}
-use Rattle.limits.specs.declared.TheConstants.{BLOCK_BYTES, INODE_BYTES}
+use Rattle.base.specs.declared.TheConstants.{BLOCK_BYTES, INODE_BYTES}
 use Rattle.disk.specs.Crash.{Image}
 use Rattle.nfs_types.specs.Fits.{AreBytes}
-use Rattle.model.specs.Node.{Node}
-use Rattle.model.specs.Sound.{IsMadeBy}
-use Rattle.model.specs.Tree.{Tree, node_at}
+use Rattle.nfs_spec.specs.Model.Node.{Node}
+use Rattle.nfs_spec.specs.Model.Sound.{IsMadeBy}
+use Rattle.nfs_spec.specs.Model.Tree.{Tree, node_at}
 use Rattle.layout.specs.declared.fault.LayoutFault.{LayoutFault}
 use Rattle.layout.specs.declared.geometry.Geometry.{Geometry}
 use Rattle.layout.specs.declared.inode.Inode.{Inode}
@@ -26,24 +26,24 @@ use Rattle.layout.proofs.FreshBytes.{zero_block}
 use Rattle.layout.proofs.Fits.{part-length, read_fits}
 use Rattle.layout.proofs.Holding.{holds_of}
 use Rattle.dir.proofs.Members.{none_some, same}
-use Rattle.tallies.specs.Tally.{IsOwned}
-use Rattle.image_parts.specs.Marks.{AreMarked}
-use Rattle.image_parts.specs.Table.{HasRefusedInode}
-use Rattle.image_files.proofs.AtHome.{in_table, same_content}
-use Rattle.image_law.specs.TreeOf.{HasNames, tree_of}
-use Rattle.image_law.specs.Whole.{IsWhole}
-use Rattle.image_law.proofs.Made.{files_are, none_past}
-use Rattle.image_law.proofs.Marks.{not_shared}
-use Rattle.image_law.proofs.Room.{used_are}
-use Rattle.image_law.proofs.Whole.{stands_whole}
-use Rattle.image_law.proofs.WholeBack.{whole_of}
-use Rattle.found_law.specs.Counted.{IsCounted}
-use Rattle.found_law.proofs.Facts.{below, same_option}
-use Rattle.found_law.proofs.Linked.{are_linked}
-use Rattle.found_law.proofs.Whole.{is_whole}
-use Rattle.image_bodies.specs.declared.found.Found.{Found}
-use Rattle.image_bodies.specs.Bodies.{AreAsRead, FitsFound, HasBlocks, IsFound, IsTidy, IsSoundIfAny}
-use Rattle.found_law.proofs.Counting.{is_counted, is_owned}
+use Rattle.image_read.specs.Tallies.Tally.{IsOwned}
+use Rattle.image_read.specs.Parts.Marks.{AreMarked}
+use Rattle.image_read.specs.Parts.Table.{HasRefusedInode}
+use Rattle.image_read.proofs.FilesLemmas.AtHome.{in_table, same_content}
+use Rattle.image_read.specs.Laws.TreeOf.{HasNames, tree_of}
+use Rattle.image_read.specs.Laws.Whole.{IsWhole}
+use Rattle.image_read.proofs.LawsLemmas.Made.{files_are, none_past}
+use Rattle.image_read.proofs.LawsLemmas.Marks.{not_shared}
+use Rattle.image_read.proofs.LawsLemmas.Room.{used_are}
+use Rattle.image_read.proofs.LawsLemmas.Whole.{stands_whole}
+use Rattle.image_read.proofs.LawsLemmas.WholeBack.{whole_of}
+use Rattle.image_contents.specs.Found.Counted.{IsCounted}
+use Rattle.image_contents.proofs.FoundLemmas.Facts.{below, same_option}
+use Rattle.image_contents.proofs.FoundLemmas.Linked.{are_linked}
+use Rattle.image_contents.proofs.FoundLemmas.Whole.{is_whole}
+use Rattle.image_contents.specs.declared.bodies.found.Found.{Found}
+use Rattle.image_contents.specs.Bodies.Bodies.{AreAsRead, FitsFound, HasBlocks, IsFound, IsTidy, IsSoundIfAny}
+use Rattle.image_contents.proofs.FoundLemmas.Counting.{is_counted, is_owned}
 use Rattle.image_check.specs.Refused.{IsRefusal}
 use Rattle.image_check.specs.Searched.{AreBlocksOf, AreMadeBy, IsJudged, IsNoTree, IsRead, IsSearched, IsTreeBy}
 use Rattle.image_check.specs.Searched.{IsTreeWith}

@@ -3,7 +3,7 @@ use Rattle.std.proofs.Common.{◌≡◌, ℕ, ◌+◌, ◌<◌, ◌≤◌, inl, 
 use Rattle.std.proofs.Common.{length, get_or}
 use Rattle.std.proofs.Common.{is_some, nat_eq, nat_le, Option, Some, None, Ok, arith}
 use Rattle.std.proofs.lemmas.Bool.{cases_lt, le-leb}
-use Rattle.limits.specs.declared.TheConstants.{FIRST_HOME_BLOCK}
+use Rattle.base.specs.declared.TheConstants.{FIRST_HOME_BLOCK}
 use Rattle.disk.specs.Crash.{Image}
 use Rattle.layout.specs.declared.geometry.Geometry.{Geometry}
 use Rattle.layout.specs.declared.inode.Inode.{Inode}
@@ -11,9 +11,9 @@ use Rattle.layout.specs.Geometry.{bitmap_blocks, inode_bitmap_at}
 use Rattle.layout.specs.Homes.{homes_of}
 use Rattle.layout.specs.Owners.{IsMarked, is_marked_inode, is_used, owned}
 use Rattle.layout.specs.Parts.{Parts, parts_of, table_of}
-use Rattle.tallies.specs.Tally.{IsOwned, Owned}
-use Rattle.image_law.proofs.Marks.{bits_of_marked, marked_by}
-use Rattle.image_parts.specs.Marks.{AreMarked, is_inode_mark}
+use Rattle.image_read.specs.Tallies.Tally.{IsOwned, Owned}
+use Rattle.image_read.proofs.LawsLemmas.Marks.{bits_of_marked, marked_by}
+use Rattle.image_read.specs.Parts.Marks.{AreMarked, is_inode_mark}
 use Rattle.image_check.proofs.Homes.{bit_same}
 
 past : (a b c : Bool) → b ≡ true → (a || b) ≡ (a || b || c)

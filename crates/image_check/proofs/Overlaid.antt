@@ -2,16 +2,16 @@
 use Rattle.std.proofs.Common.{ℕ, zero, suc, ◌+◌, ◌-◌, ◌<◌, ◌≤◌, Bool, true, false, List, [], ◌∷◌, ◌++◌, length}
 use Rattle.std.proofs.Common.{if◌then◌else◌, nat_eq, Option, Some, None, arith}
 use Rattle.std.specs.List.{All, AllByRecursion}
-use Rattle.limits.specs.declared.TheConstants.{FIRST_HOME_BLOCK, LOG_HEADER_BLOCK}
+use Rattle.base.specs.declared.TheConstants.{FIRST_HOME_BLOCK, LOG_HEADER_BLOCK}
 use Rattle.disk.specs.Blocks.{AreBlocks, IsBlock}
 use Rattle.disk.specs.Crash.{Image}
 use Rattle.disk.specs.Device.{Content, Device, current, newest}
 use Rattle.disk.specs.declared.block.BlockNo.{BlockNo}
-use Rattle.wal_law.specs.Effects.{newest_in}
-use Rattle.wal_law.specs.Log.{or_else}
-use Rattle.wal_law.specs.Logger.{slot_block}
-use Rattle.wal_law.specs.Overlay.{content_or, count_in, home_at, logged_in, over, positions, start_in}
-use Rattle.wal_law.specs.Recovery.{image_of}
+use Rattle.circ.specs.Log.Effects.{newest_in}
+use Rattle.circ.specs.Log.Log.{or_else}
+use Rattle.circ.specs.Log.Logger.{slot_block}
+use Rattle.circ.specs.Log.Overlay.{content_or, count_in, home_at, logged_in, over, positions, start_in}
+use Rattle.circ.specs.Log.Recovery.{image_of}
 use Rattle.image_check.specs.Searched.{AreBlocksOf}
 
 abbrev IfBlock : Option Content → Type 0

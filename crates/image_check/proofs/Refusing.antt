@@ -1,31 +1,31 @@
 -- What refuses an image, and what is said of it then.
 use Rattle.std.proofs.Common.{◌≡◌, ℕ, inl, inr, sym, ◌∙◌, refl, subst, List, Result, Ok, Err, arith}
 use Rattle.std.specs.Prelude.{IsErrOf}
-use Rattle.limits.specs.declared.TheConstants.{SUPER_BLOCK}
+use Rattle.base.specs.declared.TheConstants.{SUPER_BLOCK}
 use Rattle.disk.specs.Crash.{Image}
 use Rattle.disk.specs.Device.{Content, Device}
 use Rattle.disk.specs.declared.block.BlockNo.{BlockNo}
-use Rattle.model.specs.Sound.{IsMadeBy}
+use Rattle.nfs_spec.specs.Model.Sound.{IsMadeBy}
 use Rattle.layout.specs.declared.geometry.Geometry.{Geometry}
 use Rattle.layout.specs.declared.super_block.Super.{Super}
 use Rattle.layout.specs.Homes.{homes_of}
 use Rattle.layout.specs.Stands.{Stands}
 use Rattle.layout.specs.SuperForm.{IsSuper}
 use Rattle.layout.proofs.OneGeometry.{of_one_block}
-use Rattle.wal_law.specs.declared.recovery.LogFault.{LogFault}
-use Rattle.wal_law.specs.declared.recovery.LogFault.TheVariants as log
-use Rattle.wal_law.specs.Overlay.{HasHomes, IsInRange, logged_in, over}
-use Rattle.wal_law.specs.Recovery.{CountsFault, HasOnlyRead, IsLog, IsUnspoiled, image_of}
-use Rattle.wal_law.proofs.OnlyRead.{image_then}
-use Rattle.overlays.specs.LaidOver.{laid_over}
+use Rattle.circ.specs.declared.log.recovery.LogFault.{LogFault}
+use Rattle.circ.specs.declared.log.recovery.LogFault.TheVariants as log
+use Rattle.circ.specs.Log.Overlay.{HasHomes, IsInRange, logged_in, over}
+use Rattle.circ.specs.Log.Recovery.{CountsFault, HasOnlyRead, IsLog, IsUnspoiled, image_of}
+use Rattle.circ.proofs.LogLemmas.OnlyRead.{image_then}
+use Rattle.image_read.specs.Overlays.LaidOver.{laid_over}
 use Rattle.store_promise.specs.declared.fault.OpenFault.{OpenFault}
 use Rattle.store_promise.specs.declared.fault.OpenFault.TheVariants as opening
 use Rattle.store_promise.specs.Openings.{IsRefusedFor, IsShownBy}
 use Rattle.store_promise.proofs.Shown.{has_blocks, not_magic, not_range, not_version}
 use Rattle.store_images.specs.BringingHome.{CountsCause}
-use Rattle.image_parts.specs.declared.fault.PartFault.{PartFault}
-use Rattle.image_parts.specs.declared.fault.PartFault.TheVariants as part
-use Rattle.image_parts.specs.Table.{CountsPart}
+use Rattle.image_read.specs.declared.parts.fault.PartFault.{PartFault}
+use Rattle.image_read.specs.declared.parts.fault.PartFault.TheVariants as part
+use Rattle.image_read.specs.Parts.Table.{CountsPart}
 use Rattle.image_check.specs.declared.fault.CheckFault.{CheckFault}
 use Rattle.image_check.specs.declared.fault.CheckFault.TheVariants as fault
 use Rattle.image_check.specs.declared.judging.Counts.{Counts}

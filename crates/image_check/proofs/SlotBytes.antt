@@ -6,7 +6,7 @@ use Rattle.std.proofs.lemmas.Bool.{cases_lt}
 use Rattle.std.proofs.lemmas.List.{get_or-drop, get_or-take, get_or_past}
 use Rattle.disk.specs.Crash.{Image}
 use Rattle.nfs_types.specs.Fits.{AreBytes}
-use Rattle.limits.specs.declared.TheConstants.{BLOCK_BYTES}
+use Rattle.base.specs.declared.TheConstants.{BLOCK_BYTES}
 use Rattle.layout.specs.declared.fault.LayoutFault.{LayoutFault}
 use Rattle.layout.specs.declared.fault.LayoutFault.TheVariants.{Range}
 use Rattle.layout.specs.declared.inode.Inode.{Inode}
@@ -16,7 +16,7 @@ use Rattle.layout.specs.Decode.{bytes_of, numbers_of, slot_bytes, span_of}
 use Rattle.layout.specs.Fields.{four_at, is_zeros}
 use Rattle.layout.specs.SlotForm.{is_sound_slot, read_slot, slot_of}
 use Rattle.layout.proofs.FreshBytes.{IsBytes, join, zero_block}
-use Rattle.directory_names.specs.SlotsOf.{AreSlotsOf}
+use Rattle.image_contents.specs.Names.SlotsOf.{AreSlotsOf}
 
 pub taken : (count : ℕ) (xs : List ℕ) → AreBytes xs → AreBytes (take count xs)
 taken count xs are index = elim (cases_lt index count) [

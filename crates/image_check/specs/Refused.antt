@@ -1,10 +1,10 @@
 -- What a refusal says.
-use Rattle.wal_law.specs.declared.recovery.LogFault.{LogFault}
-use Rattle.wal_law.specs.declared.recovery.LogFault.TheVariants as log
+use Rattle.circ.specs.declared.log.recovery.LogFault.{LogFault}
+use Rattle.circ.specs.declared.log.recovery.LogFault.TheVariants as log
 use Rattle.store_promise.specs.declared.fault.OpenFault.{OpenFault}
 use Rattle.store_promise.specs.declared.fault.OpenFault.TheVariants as opening
-use Rattle.image_parts.specs.declared.fault.PartFault.{PartFault}
-use Rattle.image_parts.specs.declared.fault.PartFault.TheVariants as part
+use Rattle.image_read.specs.declared.parts.fault.PartFault.{PartFault}
+use Rattle.image_read.specs.declared.parts.fault.PartFault.TheVariants as part
 use Rattle.image_check.specs.declared.fault.CheckFault.{CheckFault}
 use Rattle.image_check.specs.declared.fault.CheckFault.TheVariants as fault
 

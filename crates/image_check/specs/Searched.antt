@@ -2,19 +2,19 @@
 use Rattle.std.specs.Prelude.{◌≡◌, ◌≢◌, ℕ, ◌<◌, ◌≤◌, List, count_by, length, get_or, is_some, IfSome, Option, Some}
 use Rattle.std.specs.Prelude.{None}
 use Rattle.std.specs.Prelude.{Result, Ok, Err}
-use Rattle.limits.specs.declared.TheConstants.{BLOCK_BYTES}
+use Rattle.base.specs.declared.TheConstants.{BLOCK_BYTES}
 use Rattle.disk.specs.Crash.{Image}
 use Rattle.nfs_types.specs.Fits.{AreBytes}
-use Rattle.model.specs.Sound.{IsMadeBy}
-use Rattle.model.specs.Tree.{Tree}
+use Rattle.nfs_spec.specs.Model.Sound.{IsMadeBy}
+use Rattle.nfs_spec.specs.Model.Tree.{Tree}
 use Rattle.layout.specs.declared.geometry.Geometry.{Geometry}
 use Rattle.layout.specs.declared.inode.Inode.{Inode}
 use Rattle.layout.specs.Homes.{homes_of}
 use Rattle.layout.specs.Stands.{Stands}
-use Rattle.file_counts.specs.declared.links.Links.{Links}
-use Rattle.file_counts.specs.Linked.{AreLinked}
-use Rattle.image_parts.specs.Table.{IsTable}
-use Rattle.image_bodies.specs.declared.found.Found.{Found}
+use Rattle.image_read.specs.declared.counts.links.Links.{Links}
+use Rattle.image_read.specs.Counts.Linked.{AreLinked}
+use Rattle.image_read.specs.Parts.Table.{IsTable}
+use Rattle.image_contents.specs.declared.bodies.found.Found.{Found}
 use Rattle.image_check.specs.Checked.{AreCounts}
 use Rattle.image_check.specs.declared.fault.CheckFault.{CheckFault}
 use Rattle.image_check.specs.declared.fault.CheckFault.TheVariants as fault

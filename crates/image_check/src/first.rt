@@ -1,24 +1,23 @@
 //! What an opening reads too: the super block, and the log.
 ghost use Rattle.std.specs.Prelude.{◌≡◌, ◌≤◌, IfErr, IfOk};
-ghost use Rattle.limits.specs.declared.TheConstants.{FIRST_HOME_BLOCK, SUPER_BLOCK};
+ghost use Rattle.base.specs.declared.TheConstants.{FIRST_HOME_BLOCK, SUPER_BLOCK};
 ghost use Rattle.layout.specs.SuperForm.{IsSuper};
-ghost use Rattle.wal_law.specs.Overlay.{HasHomes, IsInRange, logged_in};
-ghost use Rattle.wal_law.specs.Recovery.{HasOnlyRead, IsUnspoiled, image_of};
+ghost use Rattle.circ.specs.Log.Overlay.{HasHomes, IsInRange, logged_in};
+ghost use Rattle.circ.specs.Log.Recovery.{HasOnlyRead, IsUnspoiled, image_of};
 ghost use Rattle.image_check.specs.Checked.{CountsCheck, IsNotGood};
 ghost use Rattle.image_check.specs.Refused.{IsRefusal, of_log, of_open};
 
 use crate::CheckFault;
-use circ::read_log;
+use circ::{LogFault, read_log};
 use disk::{Block, CrashDisk};
+use image_read::Overlay;
 use layout::Super;
-use overlays::Overlay;
 use std::alloc::Global;
 use store_images::read_super;
 use store_promise::OpenFault;
-use wal_law::LogFault;
 
 // The super block of an image, as far as it may be opened.
-#[tactic(auto, using(wal_law::proofs::OnlyRead::no_read))]
+#[tactic(auto, using(circ::proofs::LogLemmas::OnlyRead::no_read))]
 pub(crate) fn read_first<D: CrashDisk>(alloc: Global, disk: &mut D) -> Result<Super, CheckFault>
     ensures reads { HasOnlyRead (D.device disk.old) (D.device disk.new) }
     ensures failure { CountsCheck (D.device disk.old) (D.device disk.new) result }

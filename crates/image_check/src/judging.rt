@@ -1,14 +1,14 @@
 //! Whether the files of a table make a tree, by what was found in them.
 ghost use Rattle.std.specs.Prelude.{◌≡◌, ◌<◌, ◌≤◌, Option, length, true, false, count_by, is_some, IfErr, IfOk, IfSome, IsErrOf};
-ghost use Rattle.limits.specs.declared.TheConstants.{MOST_INODES, ROOT};
+ghost use Rattle.base.specs.declared.TheConstants.{MOST_INODES, ROOT};
 ghost use Rattle.layout.specs.declared.inode.Inode.{Inode};
-ghost use Rattle.file_counts.specs.Linked.{HasCounts};
+ghost use Rattle.image_read.specs.Counts.Linked.{HasCounts};
 ghost use Rattle.image_check.specs.Refused.{IsRefusal};
 ghost use Rattle.image_check.specs.Searched.{AreMadeBy, IsJudged, IsTreeBy, IsUnlinked, IsUnlinkedAt};
 
 use crate::{CheckFault, Unlinked};
-use file_counts::{Links, are_linked};
-use image_bodies::Found;
+use image_contents::Found;
+use image_read::{Links, are_linked};
 use layout::{Inode, InodeKind};
 use std::alloc::Global;
 

@@ -7,6 +7,6 @@ mod judging;
 mod passes;
 
 pub use fault::{CheckFault, Unlinked};
-pub use image_bodies::Progress;
+pub use image_contents::Progress;
 pub use judging::Counts;
 pub use passes::{check, check_telling};

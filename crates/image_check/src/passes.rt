@@ -1,11 +1,11 @@
 //! An image, checked.
 ghost use Rattle.std.specs.Prelude.{◌≡◌, ◌≤◌, length};
-ghost use Rattle.limits.specs.declared.TheConstants.{SUPER_BLOCK};
+ghost use Rattle.base.specs.declared.TheConstants.{SUPER_BLOCK};
 ghost use Rattle.layout.specs.SuperForm.{IsSuper};
-ghost use Rattle.wal_law.specs.Recovery.{HasOnlyRead, IsUnspoiled, image_of};
-ghost use Rattle.overlays.specs.LaidOver.{laid_over};
-ghost use Rattle.image_files.specs.Content.{content_on};
-ghost use Rattle.image_bodies.specs.Bodies.{FitsFound, IsFound};
+ghost use Rattle.circ.specs.Log.Recovery.{HasOnlyRead, IsUnspoiled, image_of};
+ghost use Rattle.image_read.specs.Overlays.LaidOver.{laid_over};
+ghost use Rattle.image_read.specs.Files.Content.{content_on};
+ghost use Rattle.image_contents.specs.Bodies.Bodies.{FitsFound, IsFound};
 ghost use Rattle.image_check.specs.Checked.{CountsCheck, IsChecked};
 ghost use Rattle.image_check.specs.Refused.{of_part};
 ghost use Rattle.image_check.specs.Searched.{AreBlocksOf, IsRead, IsSearched};
@@ -14,10 +14,9 @@ use crate::CheckFault;
 use crate::first::{read_first, read_overlay};
 use crate::judging::{Counts, judge};
 use disk::CrashDisk;
-use image_bodies::{Found, Progress, Untold, look_at_files};
-use image_parts::{PartFault, are_marked, read_table};
+use image_contents::{Found, Progress, Untold, look_at_files};
+use image_read::{Overlay, PartFault, are_marked, read_table};
 use layout::{Inode, Super};
-use overlays::Overlay;
 use std::alloc::Global;
 
 /// Whether the image of a disk is good, and how much of it is in use. It only reads. An image is refused by the first
@@ -36,7 +35,7 @@ pub fn check<D: CrashDisk>(alloc: Global, disk: &mut D) -> Result<Counts, CheckF
 }
 
 /// The same, by which `progress` is told how many inodes were gone through.
-#[tactic(auto, using(wal_law::proofs::OnlyRead::reads_then))]
+#[tactic(auto, using(circ::proofs::LogLemmas::OnlyRead::reads_then))]
 pub fn check_telling<D: CrashDisk, P: Progress>(
     alloc: Global,
     disk: &mut D,
@@ -55,7 +54,7 @@ pub fn check_telling<D: CrashDisk, P: Progress>(
 }
 
 // The same, by the super block of the image.
-#[tactic(auto, using(wal_law::proofs::OnlyRead::reads_then))]
+#[tactic(auto, using(circ::proofs::LogLemmas::OnlyRead::reads_then))]
 fn check_log<D: CrashDisk, P: Progress>(
     alloc: Global,
     disk: &mut D,
@@ -77,7 +76,7 @@ fn check_log<D: CrashDisk, P: Progress>(
 }
 
 // Whether the files of an image, with these blocks laid over it, make a tree by the numbers of this super block.
-#[tactic(auto, using(wal_law::proofs::OnlyRead::reads_then))]
+#[tactic(auto, using(circ::proofs::LogLemmas::OnlyRead::reads_then))]
 fn search<D: CrashDisk, P: Progress>(
     alloc: Global,
     disk: &mut D,
@@ -100,7 +99,7 @@ fn search<D: CrashDisk, P: Progress>(
 }
 
 // The same, by the table of the image.
-#[tactic(auto, using(wal_law::proofs::OnlyRead::reads_then))]
+#[tactic(auto, using(circ::proofs::LogLemmas::OnlyRead::reads_then))]
 fn search_files<D: CrashDisk, P: Progress>(
     alloc: Global,
     disk: &mut D,
@@ -125,7 +124,7 @@ fn search_files<D: CrashDisk, P: Progress>(
 }
 
 // The same, by what was found in all files.
-#[tactic(auto, using(wal_law::proofs::OnlyRead::no_read))]
+#[tactic(auto, using(circ::proofs::LogLemmas::OnlyRead::no_read))]
 fn search_marks<D: CrashDisk>(
     alloc: Global,
     disk: &mut D,

@@ -1,8 +1,8 @@
 -- The kind, the size, the blocks and the parent that an inode shows are those of what is in its file.
 use Rattle.std.proofs.Common.{refl, ◌≡◌, ℕ, sym, ap, ◌∙◌, ◌%◌, ◌/◌, length, nat_eq, nat_le, nat_lt}
 use Rattle.std.proofs.Common.{cond, not, min, true, is_none}
-use Rattle.limits.specs.declared.TheConstants.{BLOCK_BYTES, DIRECT_INDEXES, LARGEST_DIRECTORY, LARGEST_FILE}
-use Rattle.limits.specs.declared.TheConstants.{TARGET_BYTES}
+use Rattle.base.specs.declared.TheConstants.{BLOCK_BYTES, DIRECT_INDEXES, LARGEST_DIRECTORY, LARGEST_FILE}
+use Rattle.base.specs.declared.TheConstants.{TARGET_BYTES}
 use Rattle.disk.specs.Crash.{Image}
 use Rattle.layout.specs.declared.geometry.Geometry.{Geometry}
 use Rattle.layout.specs.declared.inode.Inode.{Inode}

@@ -3,8 +3,8 @@ use Rattle.std.proofs.Common.{◌≡◌, ℕ, ◌*◌, ◌/◌, ◌%◌, ◌≤�
 use Rattle.std.proofs.Common.{length-append, length-take-le, arith}
 use Rattle.std.proofs.Common.{List, [], ◌∷◌, length, take, replicate, nat_eq}
 use Rattle.std.specs.List.{flat_map}
-use Rattle.limits.specs.declared.TheConstants.{BLOCK_BYTES, DIRECT_INDEXES, LARGEST_FILE}
-use Rattle.limits.specs.declared.TheConstants.{TARGET_BYTES}
+use Rattle.base.specs.declared.TheConstants.{BLOCK_BYTES, DIRECT_INDEXES, LARGEST_FILE}
+use Rattle.base.specs.declared.TheConstants.{TARGET_BYTES}
 use Rattle.disk.specs.Crash.{Image}
 use Rattle.layout.specs.declared.inode.Inode.{Inode}
 use Rattle.layout.specs.Decode.{numbers_of, bytes_of, content_of}

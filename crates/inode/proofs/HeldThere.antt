@@ -4,9 +4,9 @@ use Rattle.std.proofs.Common.{Option, Some, None, Ok, Err, nat_eq, nat_lt, arith
 use Rattle.std.proofs.lemmas.Bool.{lt-ltb}
 use Rattle.std.proofs.lemmas.Bool.Decides.{nat_tests}
 use Rattle.std.specs.List.{list_all}
-use Rattle.limits.specs.declared.TheConstants.{INDIRECT_INDEXES}
+use Rattle.base.specs.declared.TheConstants.{INDIRECT_INDEXES}
 use Rattle.disk.specs.Crash.{Image}
-use Rattle.model.specs.Tree.{Tree, node_at}
+use Rattle.nfs_spec.specs.Model.Tree.{Tree, node_at}
 use Rattle.layout.specs.declared.fault.LayoutFault.TheVariants.{Range}
 use Rattle.layout.specs.declared.geometry.Geometry.{Geometry}
 use Rattle.layout.specs.declared.inode.Inode.{Inode}

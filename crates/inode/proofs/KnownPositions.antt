@@ -5,7 +5,7 @@ use Rattle.std.specs.List.{list_any}
 use Rattle.std.proofs.lemmas.Bool.{cases_eq, eq-eqb, eqb-true}
 use Rattle.std.proofs.lemmas.List.{get_or-map, map-set, get_or_push, get_or-set_other, get_or-set_same, get_or-take, length-take-le, length_push, get_or_default}
 use Rattle.std.proofs.lemmas.List.Folds.{Any-from_list_any, list_any-append, list_any_at, list_any_more}
-use Rattle.limits.specs.declared.TheConstants.{INODE_BYTES}
+use Rattle.base.specs.declared.TheConstants.{INODE_BYTES}
 use Rattle.objects.specs.declared.addr.Addr.{Addr}
 use Rattle.objects.specs.Object.{ObjectBytes}
 use Rattle.inode.specs.declared.index.TheConstants.{BUCKETS}

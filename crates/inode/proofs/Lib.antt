@@ -13,3 +13,4 @@ pub mod Stops
 pub mod Needed
 pub mod KnownPositions
 pub mod HadAlone
+pub mod DraftsLemmas

@@ -2,11 +2,11 @@
 use Rattle.std.proofs.Common.{◌≡◌, ℕ, zero, suc, ◌-◌, ◌/◌, ◌%◌, ◌<◌, ◌≤◌, sym, ap, ◌∙◌, refl, Bool, true, false, cond}
 use Rattle.std.proofs.Common.{List, [], ◌∷◌, ◌++◌, length, get_or, replicate, nat_eq, nat_le, nat_lt, arith}
 use Rattle.std.specs.List.{list_all}
-use Rattle.limits.specs.declared.TheConstants.{BLOCK_BYTES, DIRECT_INDEXES, FILE_INDEXES, FIRST_DOUBLE_INDEX}
-use Rattle.limits.specs.declared.TheConstants.{INDIRECT_INDEXES}
+use Rattle.base.specs.declared.TheConstants.{BLOCK_BYTES, DIRECT_INDEXES, FILE_INDEXES, FIRST_DOUBLE_INDEX}
+use Rattle.base.specs.declared.TheConstants.{INDIRECT_INDEXES}
 use Rattle.disk.specs.Crash.{Image}
 use Rattle.objects.specs.declared.addr.Addr.{Addr}
-use Rattle.model.specs.Tree.{Tree}
+use Rattle.nfs_spec.specs.Model.Tree.{Tree}
 use Rattle.layout.specs.declared.geometry.Geometry.{Geometry}
 use Rattle.layout.specs.declared.inode.Inode.{Inode}
 use Rattle.layout.specs.Decode.{numbers_in, numbers_of}

@@ -1,7 +1,7 @@
 -- The numbers in a pointer block that was read.
 use Rattle.std.proofs.Common.{◌≡◌, ℕ, sym, ap, ◌∙◌, Bool, true, false, List, [], nat_eq, replicate}
 use Rattle.std.specs.List.{list_all}
-use Rattle.limits.specs.declared.TheConstants.{INDIRECT_INDEXES}
+use Rattle.base.specs.declared.TheConstants.{INDIRECT_INDEXES}
 use Rattle.disk.specs.Crash.{Image}
 use Rattle.layout.specs.Decode.{numbers_in}
 use Rattle.layout.specs.Fields.{numbers_at}

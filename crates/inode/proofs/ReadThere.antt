@@ -4,11 +4,11 @@ use Rattle.std.proofs.Common.{◌≡◌, ℕ, ◌<◌, sym, ap, ◌∙◌, subst
 use Rattle.std.proofs.Common.{IfSome, Ok, Err, length}
 use Rattle.std.proofs.Common.{arith}
 use Rattle.std.proofs.lemmas.Bool.{lt-ltb}
-use Rattle.limits.specs.declared.TheConstants.{BLOCK_BYTES, INODE_BYTES}
+use Rattle.base.specs.declared.TheConstants.{BLOCK_BYTES, INODE_BYTES}
 use Rattle.std.proofs.lemmas.List.{take_all}
 use Rattle.disk.specs.Crash.{Image}
 use Rattle.objects.specs.declared.addr.Addr.{Addr}
-use Rattle.model.specs.Tree.{Tree}
+use Rattle.nfs_spec.specs.Model.Tree.{Tree}
 use Rattle.layout.specs.declared.fault.LayoutFault.{LayoutFault}
 use Rattle.layout.specs.declared.fault.LayoutFault.TheVariants.{Range}
 use Rattle.layout.specs.declared.geometry.Geometry.{Geometry}

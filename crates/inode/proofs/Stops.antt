@@ -1,6 +1,6 @@
 -- Why the reading of a data block stops.
 use Rattle.std.proofs.Common.{◌≡◌, ℕ, sym, ap, ◌∙◌, subst, true, Result, Ok, Err, IfErr}
-use Rattle.limits.specs.declared.TheConstants.{BLOCK_BYTES}
+use Rattle.base.specs.declared.TheConstants.{BLOCK_BYTES}
 use Rattle.objects.specs.declared.addr.Addr.{Addr}
 use Rattle.objects.specs.declared.mode.Mode.{Mode}
 use Rattle.layout.specs.Objects.IsObject.{whole}

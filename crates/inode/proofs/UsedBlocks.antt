@@ -4,9 +4,9 @@ use Rattle.std.proofs.Common.{List, [], ◌∷◌, length, take, drop, nat_eq, n
 use Rattle.std.specs.List.{flat_map, list_all}
 use Rattle.std.proofs.lemmas.List.{take_all, take_more}
 use Rattle.std.proofs.lemmas.List.Sums.{sum_by-append, sum_by-cons, sum_by_push}
-use Rattle.limits.specs.declared.TheConstants.{DIRECT_INDEXES, INDIRECT_INDEXES, LARGEST_DIRECTORY}
+use Rattle.base.specs.declared.TheConstants.{DIRECT_INDEXES, INDIRECT_INDEXES, LARGEST_DIRECTORY}
 use Rattle.disk.specs.Crash.{Image}
-use Rattle.model.specs.Cost.{file_cost}
+use Rattle.nfs_spec.specs.Model.Cost.{file_cost}
 use Rattle.layout.specs.declared.geometry.Geometry.{Geometry}
 use Rattle.layout.specs.declared.inode.Inode.{Inode}
 use Rattle.layout.specs.Decode.{doubled_in, numbers_in, numbers_of, mapped_of, pointer_blocks, span_of, IsMapped}

@@ -1,9 +1,9 @@
 -- Which blocks were read, and when a reading may stop.
 use Rattle.std.specs.Prelude.{◌≡◌, ℕ, ◌<◌, List, Some, Ok, true, false, nat_eq, get_or}
 use Rattle.std.specs.List.{list_all}
-use Rattle.limits.specs.declared.TheConstants.{INDIRECT_INDEXES}
+use Rattle.base.specs.declared.TheConstants.{INDIRECT_INDEXES}
 use Rattle.disk.specs.Crash.{Image}
-use Rattle.model.specs.Tree.{Tree}
+use Rattle.nfs_spec.specs.Model.Tree.{Tree}
 use Rattle.layout.specs.declared.geometry.Geometry.{Geometry}
 use Rattle.layout.specs.declared.inode.Inode.{Inode}
 use Rattle.layout.specs.Decode.{bytes_of, doubled_in, inode_at, numbers_in, numbers_of}

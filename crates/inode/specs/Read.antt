@@ -1,9 +1,9 @@
 -- What was read of an image's blocks, and why a reading stops.
 use Rattle.std.specs.Prelude.{◌≡◌, ℕ, Contains, List, Some, Ok, true}
-use Rattle.limits.specs.declared.TheConstants.{INODE_BYTES}
+use Rattle.base.specs.declared.TheConstants.{INODE_BYTES}
 use Rattle.disk.specs.Crash.{Image}
 use Rattle.objects.specs.declared.addr.Addr.{Addr}
-use Rattle.model.specs.Tree.{Tree}
+use Rattle.nfs_spec.specs.Model.Tree.{Tree}
 use Rattle.layout.specs.declared.geometry.Geometry.{Geometry}
 use Rattle.layout.specs.declared.inode.Inode.{Inode}
 use Rattle.layout.specs.InodeForm.{read_inode}

@@ -3,11 +3,11 @@ use Rattle.std.specs.Prelude.{◌≡◌, ℕ, ◌+◌, cond, nat_eq}
 use Rattle.nfs_types.specs.declared.attributes.FileKind.{FileKind}
 use Rattle.nfs_types.specs.declared.attributes.FileKind.TheVariants as kinds
 use Rattle.disk.specs.Crash.{Image}
-use Rattle.model.specs.Attributes.{kind_of, size_of}
-use Rattle.model.specs.Cost.{cost}
-use Rattle.model.specs.Names.{parent_of}
-use Rattle.model.specs.Node.{Body}
-use Rattle.model.specs.Tree.{Tree, node_at}
+use Rattle.nfs_spec.specs.Model.Attributes.{kind_of, size_of}
+use Rattle.nfs_spec.specs.Model.Cost.{cost}
+use Rattle.nfs_spec.specs.Model.Names.{parent_of}
+use Rattle.nfs_spec.specs.Model.Node.{Body}
+use Rattle.nfs_spec.specs.Model.Tree.{Tree, node_at}
 use Rattle.std.specs.Prelude.{Option, Some, None}
 use Rattle.layout.specs.declared.geometry.Geometry.{Geometry}
 use Rattle.layout.specs.declared.inode.Inode.{Inode}

@@ -1,9 +1,9 @@
 //! What is in regular files and in links.
 ghost use Rattle.std.specs.Prelude.{[], ◌≡◌, ◌+◌, ◌-◌, ◌%◌, ◌<◌, ◌≤◌, ◌++◌, ℕ, true, min, take, drop, length};
 ghost use Rattle.std.specs.Prelude.{IfOk, IfErr, OnOk};
-ghost use Rattle.limits.specs.declared.TheConstants.{BLOCK_BYTES, FILE_INDEXES, LARGEST_FILE};
+ghost use Rattle.base.specs.declared.TheConstants.{BLOCK_BYTES, FILE_INDEXES, LARGEST_FILE};
 ghost use Rattle.disk.specs.Crash.{Image};
-ghost use Rattle.model.specs.Tree.{Tree};
+ghost use Rattle.nfs_spec.specs.Model.Tree.{Tree};
 ghost use Rattle.layout.specs.declared.inode.InodeKind.TheVariants as kinds;
 ghost use Rattle.layout.specs.Decode.{bytes_of, content_of};
 ghost use Rattle.layout.specs.InodeForm.{is_data_block_or_none};
@@ -14,9 +14,8 @@ ghost use Rattle.inode.specs.Over.{HasInode, IsOver, IsPause, MayStop, all_bytes
 use crate::map::{block_number, data_block, data_object};
 use crate::snap::Snap;
 use crate::stop::Stop;
-use buffers::{Pieces, SharedOctets};
+use base::{BLOCK_BYTES, LARGEST_FILE, Pieces, SharedOctets, TARGET_BYTES};
 use layout::Inode;
-use limits::{BLOCK_BYTES, LARGEST_FILE, TARGET_BYTES};
 use std::alloc::{AllocError, Global};
 
 // A piece of the block of a number: zeros where there is none. The bytes of a block that was read aren't copied.

@@ -7,7 +7,7 @@ ghost use Rattle.inode.specs.Indexed.{AreKnown, IsIndexed, key_of};
 ghost use Rattle.inode.specs.Snap.{is_seen, same_addr};
 
 use crate::index::AddressIndex;
-use limits::INODE_BYTES;
+use base::INODE_BYTES;
 use objects::{Addr, Object};
 use std::alloc::{AllocError, Global};
 

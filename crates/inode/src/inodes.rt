@@ -1,13 +1,13 @@
 //! The inode of a number, and what it shows.
 ghost use Rattle.std.specs.Prelude.{◌≡◌, ◌≤◌, ◌+◌, ℕ, cond, nat_eq, true, false, IfErr, IfOk};
-ghost use Rattle.limits.specs.declared.TheConstants.{DOUBLE_INDEXES, FILE_INDEXES, INDIRECT_INDEXES};
+ghost use Rattle.base.specs.declared.TheConstants.{DOUBLE_INDEXES, FILE_INDEXES, INDIRECT_INDEXES};
 ghost use Rattle.disk.specs.Crash.{Image};
 ghost use Rattle.std.specs.List.{list_all};
 ghost use Rattle.layout.specs.declared.inode.Inode.{Inode};
 ghost use Rattle.layout.specs.Fields.{count_of, numbers_at};
 ghost use Rattle.layout.specs.InodeForm.{is_data_block_or_none};
 ghost use Rattle.layout.specs.Parts.{content_in};
-ghost use Rattle.model.specs.Tree.{Tree};
+ghost use Rattle.nfs_spec.specs.Model.Tree.{Tree};
 ghost use Rattle.inode.specs.Asked.{IsBlockAddr, IsOfDouble, IsPointerOf, IsStopFor};
 ghost use Rattle.inode.specs.Read.{IsAskedInode};
 ghost use Rattle.inode.specs.Over.{AreInnerPlaced, HasInode, IsOver, IsPause, MayStop, are_far_placed};
@@ -17,8 +17,8 @@ use crate::map::{data_block, data_object};
 use crate::read::inode_of;
 use crate::snap::Snap;
 use crate::stop::Stop;
+use base::INDIRECT_INDEXES;
 use layout::{Inode, InodeKind, Numbers};
-use limits::INDIRECT_INDEXES;
 use nfs_types::FileKind;
 
 /// The kind of file that an inode is of.

@@ -3,6 +3,7 @@
 
 mod alone;
 mod bytes;
+mod drafts;
 mod finding;
 mod index;
 mod inodes;
@@ -12,6 +13,7 @@ mod snap;
 mod stop;
 
 pub use bytes::{ask_block, piece, target};
+pub use drafts::{Draft, attributed};
 pub use index::AddressIndex;
 pub use inodes::{far_used, file_kind, held, used_of};
 pub use map::{

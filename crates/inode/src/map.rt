@@ -1,9 +1,9 @@
 //! Where the blocks of a file lie.
 ghost use Rattle.std.specs.Prelude.{◌≡◌, ◌<◌, ◌≤◌, ℕ, true, length, IfOk, IfErr};
 ghost use Rattle.std.specs.List.{list_all};
-ghost use Rattle.limits.specs.declared.TheConstants.{BLOCK_BYTES, FILE_INDEXES, FIRST_DOUBLE_INDEX, INDIRECT_INDEXES};
+ghost use Rattle.base.specs.declared.TheConstants.{BLOCK_BYTES, FILE_INDEXES, FIRST_DOUBLE_INDEX, INDIRECT_INDEXES};
 ghost use Rattle.disk.specs.Crash.{Image};
-ghost use Rattle.model.specs.Tree.{Tree};
+ghost use Rattle.nfs_spec.specs.Model.Tree.{Tree};
 ghost use Rattle.layout.specs.Decode.{numbers_in};
 ghost use Rattle.layout.specs.InodeForm.{is_data_block_or_none};
 ghost use Rattle.layout.specs.Parts.{content_in};
@@ -15,9 +15,9 @@ ghost use Rattle.inode.specs.Over.{HasInode, IsOver, IsPause, MayStop, are_far_p
 use crate::read::object_at;
 use crate::snap::Snap;
 use crate::stop::Stop;
+use base::{DIRECT_INDEXES, FIRST_DOUBLE_INDEX, INDIRECT_INDEXES};
 use disk::BlockNo;
 use layout::{Inode, Numbers};
-use limits::{DIRECT_INDEXES, FIRST_DOUBLE_INDEX, INDIRECT_INDEXES};
 use objects::{Addr, Object};
 use std::alloc::Global;
 

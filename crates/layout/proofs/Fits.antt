@@ -4,7 +4,7 @@ use Rattle.std.proofs.Common.{false, cond, ◌&&◌, nat_eq, List, drop, get_or,
 use Rattle.std.proofs.Common.{IfSome, arith, ◌≤◌, length, take}
 use Rattle.std.specs.List.{AllByRecursion}
 use Rattle.std.proofs.lemmas.List.{get_or-drop, length-take, length-drop}
-use Rattle.limits.specs.declared.TheConstants.{DIRECT_INDEXES, INODE_BYTES}
+use Rattle.base.specs.declared.TheConstants.{DIRECT_INDEXES, INODE_BYTES}
 use Rattle.nfs_types.specs.declared.verifier.TheConstants.{VERIFIER_BYTES}
 use Rattle.nfs_types.specs.declared.verifier.Verifier.{Verifier}
 use Rattle.nfs_types.specs.Fits.{AreBytes, VerifierFits}

@@ -9,14 +9,14 @@ use Rattle.std.specs.List.{flat_map, list_any, range_with_len}
 use Rattle.std.specs.Ordering.{nat_cmp, eq_by_cmp}
 use Rattle.std.proofs.lemmas.Bool.{lt-ltb, le-leb, cases_eq, cases_lt}
 use Rattle.std.proofs.lemmas.Bool.Decides.{leb_tells, eqb_tells}
-use Rattle.limits.specs.declared.TheConstants.{BITS_PER_BLOCK, FIRST_HOME_BLOCK, ROOT}
+use Rattle.base.specs.declared.TheConstants.{BITS_PER_BLOCK, FIRST_HOME_BLOCK, ROOT}
 use Rattle.disk.specs.Crash.{Image}
 use Rattle.nfs_types.specs.declared.ctx.Moment.{Moment}
-use Rattle.model.specs.Format.{format_tree, format_root}
-use Rattle.model.specs.Node.{DirectoryEntry}
-use Rattle.model.specs.Sound.{SoundTime}
-use Rattle.model.specs.Tree.{node_at}
-use Rattle.model.proofs.Sets.{eq_by_cmp-is}
+use Rattle.nfs_spec.specs.Model.Format.{format_tree, format_root}
+use Rattle.nfs_spec.specs.Model.Node.{DirectoryEntry}
+use Rattle.nfs_spec.specs.Model.Sound.{SoundTime}
+use Rattle.nfs_spec.specs.Model.Tree.{node_at}
+use Rattle.nfs_spec.proofs.ModelLemmas.Sets.{eq_by_cmp-is}
 use Rattle.layout.specs.declared.fault.LayoutFault.TheVariants.{Range}
 use Rattle.layout.specs.declared.geometry.Geometry.{Geometry}
 use Rattle.layout.specs.Decode.{IsFile, IsDirectory, file_of, inode_at, is_used_pointer, named_in}

@@ -6,10 +6,10 @@ use Rattle.std.proofs.Math.Seq.{drop-append-add}
 use Rattle.std.proofs.lemmas.Bool.{lt-ltb, cases_eq, cases_lt}
 use Rattle.std.proofs.lemmas.List.{take-replicate, drop-replicate, take-append-le, take_all, length-replicate}
 use Rattle.std.proofs.lemmas.Nat.{from_le_bytes-to_le_bytes_4}
-use Rattle.limits.specs.declared.TheConstants.{BLOCK_BYTES, INODE_BYTES, INODES_PER_BLOCK, NANOSECONDS}
+use Rattle.base.specs.declared.TheConstants.{BLOCK_BYTES, INODE_BYTES, INODES_PER_BLOCK, NANOSECONDS}
 use Rattle.disk.specs.Crash.{Image}
 use Rattle.nfs_types.specs.declared.ctx.Moment.{Moment}
-use Rattle.model.specs.Sound.{SoundTime}
+use Rattle.nfs_spec.specs.Model.Sound.{SoundTime}
 use Rattle.layout.specs.declared.geometry.Geometry.{Geometry}
 use Rattle.layout.specs.declared.inode.InodeKind.TheVariants.{Directory}
 use Rattle.layout.specs.Decode.{inode_at}

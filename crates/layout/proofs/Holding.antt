@@ -1,9 +1,9 @@
 -- Blocks stand for a tree where they hold its files and it is sound.
 use Rattle.std.proofs.Common.{◌≡◌, refl, arith, Option, Some, None}
 use Rattle.disk.specs.Crash.{Image}
-use Rattle.model.specs.Node.{Node}
-use Rattle.model.specs.Sound.{Sound}
-use Rattle.model.specs.Tree.{Tree, node_at}
+use Rattle.nfs_spec.specs.Model.Node.{Node}
+use Rattle.nfs_spec.specs.Model.Sound.{Sound}
+use Rattle.nfs_spec.specs.Model.Tree.{Tree, node_at}
 use Rattle.layout.specs.declared.geometry.Geometry.{Geometry}
 use Rattle.layout.specs.Holds.{Holds}
 use Rattle.layout.specs.Stands.{Stands}

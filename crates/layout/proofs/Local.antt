@@ -7,7 +7,7 @@ use Rattle.std.specs.Cmp.Lexicographic.{slice_cmp}
 use Rattle.std.specs.Ordering.{nat_cmp}
 use Rattle.std.specs.FinMap as map
 use Rattle.std.proofs.lemmas.List.{take_all}
-use Rattle.limits.specs.declared.TheConstants.{BLOCK_BYTES}
+use Rattle.base.specs.declared.TheConstants.{BLOCK_BYTES}
 use Rattle.disk.specs.Crash.{Image}
 use Rattle.layout.specs.declared.fault.LayoutFault.{LayoutFault}
 use Rattle.layout.specs.declared.geometry.Geometry.{Geometry}
@@ -25,7 +25,7 @@ use Rattle.layout.specs.SlotForm.{read_slot}
 use Rattle.layout.proofs.ChangedNumbers.{ArePointersSame, same_numbers, same_pointers}
 use Rattle.layout.proofs.FileNumbers.{first_numbers}
 use Rattle.layout.proofs.NumbersIn.{either}
-use Rattle.model.specs.Node as model
+use Rattle.nfs_spec.specs.Model.Node as model
 
 module _ (P : ℕ → Type 0) where
   all_take : (k : ℕ) (xs : List ℕ) → AllByRecursion P xs → AllByRecursion P (take k xs)

@@ -10,9 +10,9 @@ use Rattle.std.proofs.lemmas.List.Sums.{sum_by-cons}
 use Rattle.std.proofs.Math.Seq.{drop-nil}
 use Rattle.std.proofs.lemmas.Bool.{cases_lt, le-ltb, lt-ltb}
 use Rattle.std.proofs.lemmas.Bool.Decides.{leb_tells}
-use Rattle.limits.specs.declared.TheConstants.{DIRECT_INDEXES, FIRST_DOUBLE_INDEX, INDIRECT_INDEXES}
-use Rattle.model.specs.Cost.{file_cost, inner_cost, is_inner}
-use Rattle.model.proofs.Sets.{any_items}
+use Rattle.base.specs.declared.TheConstants.{DIRECT_INDEXES, FIRST_DOUBLE_INDEX, INDIRECT_INDEXES}
+use Rattle.nfs_spec.specs.Model.Cost.{file_cost, inner_cost, is_inner}
+use Rattle.nfs_spec.proofs.ModelLemmas.Sets.{any_items}
 use Rattle.layout.specs.Decode.{mapped_of}
 use Rattle.layout.proofs.FreshFiles.{not_equal}
 

@@ -9,7 +9,7 @@ use Rattle.std.specs.declared.cmp.Ordering.{Ordering}
 use Rattle.std.specs.declared.cmp.Ordering.TheVariants.{Less, Equal, Greater}
 use Rattle.std.specs.Int.{w32, w64, from_le_bytes, to_le_bytes}
 use Rattle.std.proofs.lemmas.List.{drop-drop, drop-replicate, length-drop, length-take-le}
-use Rattle.limits.specs.declared.TheConstants.{NAME_BYTES}
+use Rattle.base.specs.declared.TheConstants.{NAME_BYTES}
 use Rattle.nfs_types.specs.Fits.{AreBytes}
 use Rattle.layout.specs.declared.fault.LayoutFault.{LayoutFault}
 use Rattle.layout.specs.declared.fault.LayoutFault.TheVariants.{Range}

@@ -5,7 +5,7 @@ use Rattle.std.specs.Int.{w32, from_le_bytes}
 use Rattle.std.specs.List.{list_all, AllByRecursion}
 use Rattle.std.proofs.lemmas.List.{drop-drop, take_all}
 use Rattle.std.proofs.lemmas.Nat.{from_le_bytes-to_le_bytes_4}
-use Rattle.limits.specs.declared.TheConstants.{BLOCK_BYTES, INDIRECT_INDEXES}
+use Rattle.base.specs.declared.TheConstants.{BLOCK_BYTES, INDIRECT_INDEXES}
 use Rattle.nfs_types.specs.Fits.{AreBytes}
 use Rattle.layout.specs.declared.geometry.Geometry.{Geometry}
 use Rattle.layout.specs.Fields.{four_at, numbers_at, four_bytes, number_bytes}

@@ -5,7 +5,7 @@ use Rattle.std.proofs.Common.{◌&&◌, ◌||◌, List, [], ◌∷◌, length, f
 use Rattle.std.specs.List.{list_all, list_any}
 use Rattle.std.proofs.lemmas.List.{length-replicate}
 use Rattle.std.proofs.lemmas.List.Sums.{length-filter, sum_by-cons}
-use Rattle.limits.specs.declared.TheConstants.{DOUBLE_INDEXES, INDIRECT_INDEXES}
+use Rattle.base.specs.declared.TheConstants.{DOUBLE_INDEXES, INDIRECT_INDEXES}
 use Rattle.disk.specs.Crash.{Image}
 use Rattle.layout.specs.declared.geometry.Geometry.{Geometry}
 use Rattle.layout.specs.Decode.{doubled_in, numbers_in}

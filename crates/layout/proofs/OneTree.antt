@@ -3,7 +3,7 @@ use Rattle.std.proofs.Common.{◌≡◌, ◌∙◌, sym, ℕ}
 use Rattle.std.specs.FinMap.{same_map, nat_cmp-IsAntisymmetric}
 use Rattle.std.specs.Cmp.{nat_cmp_total}
 use Rattle.disk.specs.Crash.{Image}
-use Rattle.model.specs.Tree.{Tree}
+use Rattle.nfs_spec.specs.Model.Tree.{Tree}
 use Rattle.layout.specs.declared.geometry.Geometry.{Geometry}
 use Rattle.layout.specs.Stands.{Stands}
 

@@ -1,7 +1,7 @@
 -- What 128 bytes are read as is what they are the bytes of.
 use Rattle.std.proofs.Common.{◌≡◌, ℕ, ap, ◌∙◌, refl, subst, Bool, true, false, cond, ◌&&◌, List}
 use Rattle.std.proofs.Common.{length, replicate, Option, Some, None, Ok, Err, arith}
-use Rattle.limits.specs.declared.TheConstants.{INODE_BYTES}
+use Rattle.base.specs.declared.TheConstants.{INODE_BYTES}
 use Rattle.nfs_types.specs.Fits.{AreBytes}
 use Rattle.layout.specs.declared.geometry.Geometry.{Geometry}
 use Rattle.layout.specs.declared.fault.LayoutFault.{LayoutFault}

@@ -2,7 +2,7 @@
 use Rattle.std.proofs.Common.{◌≡◌, ℕ, ◌+◌, ◌-◌, ◌≤◌, sym, ap, ◌∙◌, List, length, drop, replicate}
 use Rattle.std.proofs.Common.{nat_eq, true, Some, arith}
 use Rattle.std.proofs.lemmas.List.{length-drop, take_all}
-use Rattle.limits.specs.declared.TheConstants.{BLOCK_BYTES}
+use Rattle.base.specs.declared.TheConstants.{BLOCK_BYTES}
 use Rattle.nfs_types.specs.Fits.{AreBytes}
 use Rattle.layout.specs.declared.super_block.Super.{Super}
 use Rattle.layout.specs.declared.version.FormatVersion.{FormatVersion}

@@ -1,7 +1,7 @@
 -- A version has one number, and a number is that of one version.
 use Rattle.std.proofs.Common.{◌≡◌, ℕ, ◌^◌, ◌<◌, Bool, true, false, cond, nat_eq, Some, None, refl, sym}
 use Rattle.std.proofs.Common.{arith}
-use Rattle.limits.specs.declared.TheConstants.{FIRST_VERSION, FORMAT_VERSION}
+use Rattle.base.specs.declared.TheConstants.{FIRST_VERSION, FORMAT_VERSION}
 use Rattle.layout.specs.declared.version.FormatVersion.{FormatVersion}
 use Rattle.layout.specs.declared.version.FormatVersion.TheVariants.{First, Second}
 use Rattle.layout.specs.Version.{number_of_version, version_of_number}

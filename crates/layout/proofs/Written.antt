@@ -5,8 +5,8 @@ use Rattle.std.proofs.Common.{Bool, true, false, cond, ◌&&◌, if◌then◌els
 use Rattle.std.proofs.Common.{take, drop, get_or, replicate, Option, Ok, Err, ◌^◌, arith}
 use Rattle.std.proofs.lemmas.Bool.{lt-ltb, eq-eqb, cases_eq, cases_lt}
 use Rattle.std.proofs.lemmas.Bool.Decides.{leb_tells, eqb_tells}
-use Rattle.limits.specs.declared.TheConstants.{BITS_PER_BLOCK, BLOCK_BYTES, FIRST_HOME_BLOCK}
-use Rattle.limits.specs.declared.TheConstants.{INODES_PER_BLOCK, INODE_BYTES}
+use Rattle.base.specs.declared.TheConstants.{BITS_PER_BLOCK, BLOCK_BYTES, FIRST_HOME_BLOCK}
+use Rattle.base.specs.declared.TheConstants.{INODES_PER_BLOCK, INODE_BYTES}
 use Rattle.disk.specs.Crash.{Image}
 use Rattle.layout.specs.declared.fault.LayoutFault.TheVariants.{Range}
 use Rattle.layout.specs.declared.geometry.Geometry.{Geometry}

@@ -6,10 +6,10 @@ use Rattle.std.specs.List.{flat_map, filter_map, list_all, list_any, range_with_
 use Rattle.std.specs.Ordering.{nat_cmp}
 use Rattle.std.specs.FinMap as map
 use Rattle.std.specs.FinSet as set
-use Rattle.limits.specs.declared.TheConstants.{BLOCK_BYTES, INDIRECT_INDEXES, INODE_BYTES, SLOTS_PER_BLOCK}
+use Rattle.base.specs.declared.TheConstants.{BLOCK_BYTES, INDIRECT_INDEXES, INODE_BYTES, SLOTS_PER_BLOCK}
 use Rattle.disk.specs.Crash.{Image}
-use Rattle.model.specs.Node.{Node, Body, Entries, DirectoryEntry}
-use Rattle.model.specs.Node as model
+use Rattle.nfs_spec.specs.Model.Node.{Node, Body, Entries, DirectoryEntry}
+use Rattle.nfs_spec.specs.Model.Node as model
 use Rattle.layout.specs.declared.fault.LayoutFault.{LayoutFault}
 use Rattle.layout.specs.declared.geometry.Geometry.{Geometry}
 use Rattle.layout.specs.declared.inode.Inode.{Inode}

@@ -2,9 +2,9 @@
 use Rattle.std.specs.Prelude.{◌≡◌, ℕ, ◌+◌, ◌-◌, ◌*◌, ◌/◌, ◌<◌, ◌≤◌, Bool, ◌||◌, cond, List, ◌++◌, length, map}
 use Rattle.std.specs.Prelude.{nat_eq, nat_le, nat_lt, replicate, None}
 use Rattle.std.specs.List.{range_with_len}
-use Rattle.limits.specs.declared.TheConstants.{BITS_PER_BLOCK, BLOCK_BYTES, DIRECT_INDEXES, FIRST_HOME_BLOCK}
-use Rattle.limits.specs.declared.TheConstants.{INODE_BYTES, INODES_PER_BLOCK, LOG_HEADER_BLOCK, ROOT}
-use Rattle.limits.specs.declared.TheConstants.{ROOT_MODE, START_BLOCK, SUPER_BLOCK}
+use Rattle.base.specs.declared.TheConstants.{BITS_PER_BLOCK, BLOCK_BYTES, DIRECT_INDEXES, FIRST_HOME_BLOCK}
+use Rattle.base.specs.declared.TheConstants.{INODE_BYTES, INODES_PER_BLOCK, LOG_HEADER_BLOCK, ROOT}
+use Rattle.base.specs.declared.TheConstants.{ROOT_MODE, START_BLOCK, SUPER_BLOCK}
 use Rattle.disk.specs.Crash.{Image}
 use Rattle.nfs_types.specs.declared.ctx.Moment.{Moment}
 use Rattle.nfs_types.specs.Fits.{AreBytes}

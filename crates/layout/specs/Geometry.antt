@@ -1,9 +1,9 @@
 -- Where the parts of an image lie, by how many blocks and inodes it has. Blocks 0 to 513 are the super block
 -- and the log; behind them lie the bitmap of blocks, the bitmap of inodes, the table of inodes and the data.
 use Rattle.std.specs.Prelude.{◌≡◌, ℕ, ◌+◌, ◌-◌, ◌/◌, ◌%◌, ◌≤◌}
-use Rattle.limits.specs.declared.TheConstants.{BITS_PER_BLOCK, FIRST_HOME_BLOCK, INODES_PER_BLOCK}
-use Rattle.limits.specs.declared.TheConstants.{LEAST_BLOCKS, LEAST_DATA_BLOCKS, LEAST_INODES}
-use Rattle.limits.specs.declared.TheConstants.{MOST_BLOCKS, MOST_INODES}
+use Rattle.base.specs.declared.TheConstants.{BITS_PER_BLOCK, FIRST_HOME_BLOCK, INODES_PER_BLOCK}
+use Rattle.base.specs.declared.TheConstants.{LEAST_BLOCKS, LEAST_DATA_BLOCKS, LEAST_INODES}
+use Rattle.base.specs.declared.TheConstants.{MOST_BLOCKS, MOST_INODES}
 
 -- the blocks of a bitmap of so many items
 abbrev pub bitmap_blocks : ℕ → ℕ

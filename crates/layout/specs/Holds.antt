@@ -1,10 +1,10 @@
 -- Which tree's files the blocks of an image hold, sound or not: what stays true between the writes of one
 -- change.
 use Rattle.std.specs.Prelude.{◌≡◌, ℕ, ◌<◌, length, None}
-use Rattle.limits.specs.declared.TheConstants.{BLOCK_BYTES}
+use Rattle.base.specs.declared.TheConstants.{BLOCK_BYTES}
 use Rattle.disk.specs.Crash.{Image}
 use Rattle.nfs_types.specs.Fits.{AreBytes}
-use Rattle.model.specs.Tree.{Tree, node_at}
+use Rattle.nfs_spec.specs.Model.Tree.{Tree, node_at}
 use Rattle.layout.specs.declared.geometry.Geometry.{Geometry}
 use Rattle.layout.specs.Owners.{IsMarked}
 use Rattle.layout.specs.Parts.{Parts, parts_of}

@@ -1,7 +1,7 @@
 -- The homes of an image: its blocks behind the log. Blocks stand for trees by these alone, whatever the super
 -- block, the headers and the slots of the log hold.
 use Rattle.std.specs.Prelude.{ℕ, Bool, cond, ◌&&◌, nat_le, nat_lt, replicate}
-use Rattle.limits.specs.declared.TheConstants.{BLOCK_BYTES, FIRST_HOME_BLOCK}
+use Rattle.base.specs.declared.TheConstants.{BLOCK_BYTES, FIRST_HOME_BLOCK}
 use Rattle.disk.specs.Crash.{Image}
 
 abbrev pub is_home : ℕ → ℕ → Bool

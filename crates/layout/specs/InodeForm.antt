@@ -5,9 +5,9 @@ use Rattle.std.specs.Prelude.{◌||◌, List, ◌++◌, nat_eq, nat_le, nat_lt, 
 use Rattle.std.specs.Prelude.{is_none, replicate}
 use Rattle.std.specs.Prelude.{Result, Ok, Err}
 use Rattle.std.specs.List.{list_all, AllByRecursion}
-use Rattle.limits.specs.declared.TheConstants.{BLOCK_BYTES, DIRECT_INDEXES, LARGEST_DIRECTORY, LARGEST_FILE}
-use Rattle.limits.specs.declared.TheConstants.{MODE_BITS}
-use Rattle.limits.specs.declared.TheConstants.{INODE_BYTES, MOST_LINKS, NANOSECONDS, TARGET_BYTES}
+use Rattle.base.specs.declared.TheConstants.{BLOCK_BYTES, DIRECT_INDEXES, LARGEST_DIRECTORY, LARGEST_FILE}
+use Rattle.base.specs.declared.TheConstants.{MODE_BITS}
+use Rattle.base.specs.declared.TheConstants.{INODE_BYTES, MOST_LINKS, NANOSECONDS, TARGET_BYTES}
 use Rattle.nfs_types.specs.declared.ctx.Moment.{Moment}
 use Rattle.nfs_types.specs.declared.verifier.TheConstants.{VERIFIER_BYTES}
 use Rattle.nfs_types.specs.declared.verifier.Verifier.{Verifier}

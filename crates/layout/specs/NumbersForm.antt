@@ -1,7 +1,7 @@
 -- The indirect block: the numbers of the blocks that an inode doesn't name itself.
 use Rattle.std.specs.Prelude.{◌≡◌, ℕ, ◌*◌, ◌<◌, ◌^◌, true, List, length}
 use Rattle.std.specs.List.{list_all, AllByRecursion}
-use Rattle.limits.specs.declared.TheConstants.{INDIRECT_INDEXES}
+use Rattle.base.specs.declared.TheConstants.{INDIRECT_INDEXES}
 use Rattle.objects.specs.Spliced.{spliced}
 use Rattle.layout.specs.declared.geometry.Geometry.{Geometry}
 use Rattle.layout.specs.declared.numbers.TheConstants.{NUMBER_BYTES}

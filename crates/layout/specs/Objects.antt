@@ -1,6 +1,6 @@
 -- The objects of an image: what is read and written at once.
 use Rattle.std.specs.Prelude.{◌≡◌, ℕ, ◌*◌, ◌<◌, ◌≤◌, true}
-use Rattle.limits.specs.declared.TheConstants.{BLOCK_BYTES, FIRST_HOME_BLOCK, INODE_BYTES}
+use Rattle.base.specs.declared.TheConstants.{BLOCK_BYTES, FIRST_HOME_BLOCK, INODE_BYTES}
 use Rattle.objects.specs.declared.addr.Addr.{Addr}
 use Rattle.layout.specs.declared.geometry.Geometry.{Geometry}
 use Rattle.layout.specs.declared.grid.TheConstants.{PIECE_BYTES, PIECES_PER_BLOCK}

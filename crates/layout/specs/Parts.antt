@@ -2,7 +2,7 @@
 -- stand for trees through these parts alone, so that a write is one change of one part.
 use Rattle.std.specs.Prelude.{ℕ, ◌+◌, ◌*◌, ◌/◌, ◌%◌, ◌^◌, Bool, cond, if◌then◌else◌, List}
 use Rattle.std.specs.Prelude.{◌&&◌, nat_eq, nat_lt, get_or, replicate, Option, Result, Err}
-use Rattle.limits.specs.declared.TheConstants.{BITS_PER_BLOCK, BLOCK_BYTES, FIRST_HOME_BLOCK}
+use Rattle.base.specs.declared.TheConstants.{BITS_PER_BLOCK, BLOCK_BYTES, FIRST_HOME_BLOCK}
 use Rattle.disk.specs.Crash.{Image}
 use Rattle.objects.specs.Spliced.{spliced}
 use Rattle.layout.specs.declared.fault.LayoutFault.{LayoutFault}

@@ -1,6 +1,6 @@
 -- Which blocks of an image are data, and where an inode of it lies.
 use Rattle.std.specs.Prelude.{ℕ, ◌+◌, ◌*◌, ◌/◌, ◌%◌, Bool, ◌&&◌, nat_le, nat_lt}
-use Rattle.limits.specs.declared.TheConstants.{INODES_PER_BLOCK, INODE_BYTES}
+use Rattle.base.specs.declared.TheConstants.{INODES_PER_BLOCK, INODE_BYTES}
 use Rattle.layout.specs.declared.geometry.Geometry.{Geometry}
 use Rattle.layout.specs.Geometry.{data_at, table_at}
 

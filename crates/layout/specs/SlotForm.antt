@@ -4,7 +4,7 @@ use Rattle.std.specs.Prelude.{nat_le}
 use Rattle.std.specs.Prelude.{nat_lt, take, drop, replicate, Option, Some, None, Result, Ok, Err}
 use Rattle.std.specs.Cmp.Lexicographic.{slice_cmp}
 use Rattle.std.specs.Ordering.{is_eq, nat_cmp}
-use Rattle.limits.specs.declared.TheConstants.{BLOCK_BYTES, NAME_BYTES}
+use Rattle.base.specs.declared.TheConstants.{BLOCK_BYTES, NAME_BYTES}
 use Rattle.objects.specs.Spliced.{spliced}
 use Rattle.layout.specs.declared.fault.LayoutFault.{LayoutFault}
 use Rattle.layout.specs.declared.fault.LayoutFault.TheVariants.{Range}

@@ -1,12 +1,12 @@
 -- Which tree the blocks of an image stand for.
 use Rattle.std.specs.Prelude.{◌≡◌, ℕ, ◌-◌, ◌<◌, length, Option}
-use Rattle.limits.specs.declared.TheConstants.{BLOCK_BYTES}
+use Rattle.base.specs.declared.TheConstants.{BLOCK_BYTES}
 use Rattle.disk.specs.Crash.{Image}
 use Rattle.nfs_types.specs.Fits.{AreBytes}
-use Rattle.model.specs.Sound.{Sound}
-use Rattle.model.specs.Node.{Node}
-use Rattle.model.specs.Tree.{Tree, node_at}
-use Rattle.model.specs.Tree as model
+use Rattle.nfs_spec.specs.Model.Sound.{Sound}
+use Rattle.nfs_spec.specs.Model.Node.{Node}
+use Rattle.nfs_spec.specs.Model.Tree.{Tree, node_at}
+use Rattle.nfs_spec.specs.Model.Tree as model
 use Rattle.layout.specs.declared.geometry.Geometry.{Geometry}
 use Rattle.layout.specs.Decode.{IsFile, file_of}
 use Rattle.layout.specs.Owners.{IsMarked}

@@ -1,7 +1,7 @@
 -- The super block: of which version the image is, how large it is, and how often it was opened.
 use Rattle.std.specs.Prelude.{◌≡◌, ℕ, ◌-◌, Bool, true, ◌&&◌, List, [], ◌∷◌, ◌++◌, nat_eq, take, drop}
 use Rattle.std.specs.Prelude.{replicate, Some, IsSome}
-use Rattle.limits.specs.declared.TheConstants.{BLOCK_BYTES}
+use Rattle.base.specs.declared.TheConstants.{BLOCK_BYTES}
 use Rattle.layout.specs.declared.fault.LayoutFault.{LayoutFault}
 use Rattle.layout.specs.declared.fault.LayoutFault.TheVariants.{Magic, Version, Range}
 use Rattle.layout.specs.declared.super_block.Super.{Super}

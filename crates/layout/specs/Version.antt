@@ -1,7 +1,7 @@
 -- The versions of the format, and their numbers. Another one is another case here, and wherever it is read in
 -- another way.
 use Rattle.std.specs.Prelude.{ℕ, Bool, true, false, cond, nat_eq, Option, Some, None}
-use Rattle.limits.specs.declared.TheConstants.{FIRST_VERSION, FORMAT_VERSION}
+use Rattle.base.specs.declared.TheConstants.{FIRST_VERSION, FORMAT_VERSION}
 use Rattle.layout.specs.declared.version.FormatVersion.{FormatVersion}
 use Rattle.layout.specs.declared.version.FormatVersion.TheVariants.{First, Second}
 

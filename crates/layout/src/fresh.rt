@@ -1,9 +1,9 @@
 //! Laws on an image that was just made, and on the tree that blocks stand for.
 ghost use Rattle.std.specs.Prelude.{ℕ, ◌≡◌, ◌<◌, ◌^◌};
 ghost use Rattle.disk.specs.Crash.{Image};
-ghost use Rattle.model.specs.Format.{format_tree};
-ghost use Rattle.model.specs.Sound.{SoundTime};
-ghost use Rattle.model.specs.Tree.{Tree};
+ghost use Rattle.nfs_spec.specs.Model.Format.{format_tree};
+ghost use Rattle.nfs_spec.specs.Model.Sound.{SoundTime};
+ghost use Rattle.nfs_spec.specs.Model.Tree.{Tree};
 ghost use Rattle.nfs_types.specs.declared.ctx.Moment.{Moment};
 ghost use Rattle.layout.specs.declared.geometry.Geometry.{Geometry};
 ghost use Rattle.layout.specs.Fresh.{HasFreshHomes, IsFresh, fresh};

@@ -1,15 +1,15 @@
 //! The blocks of an image that was just made.
 ghost use Rattle.std.specs.Prelude.{◌≡◌, ◌+◌, ◌*◌, ◌<◌, ◌≤◌, ◌^◌, length, replicate, IfOk};
-ghost use Rattle.limits.specs.declared.TheConstants.{BITS_PER_BLOCK, BLOCK_BYTES};
+ghost use Rattle.base.specs.declared.TheConstants.{BITS_PER_BLOCK, BLOCK_BYTES};
 ghost use Rattle.layout.specs.Fresh.{root_inode, root_block, bit, byte_of, bitmap_block, is_outside, fresh};
 ghost use Rattle.layout.specs.SuperForm.{super_bytes};
 
 use crate::{Geometry, Inode, InodeKind, Super};
-use disk::Block;
-use limits::{
+use base::{
     BITS_PER_BLOCK, BLOCK_BYTES, DIRECT_INDEXES, FIRST_HOME_BLOCK, INODE_BYTES, ROOT, ROOT_MODE,
     SUPER_BLOCK,
 };
+use disk::Block;
 use nfs_types::{Moment, Stamp};
 use std::alloc::{AllocError, Global};
 

@@ -1,15 +1,15 @@
 //! Where the parts of an image lie.
 ghost use Rattle.std.specs.Prelude.{◌≡◌, ◌+◌, ◌-◌, ◌<◌, ◌≤◌, IfOk, IfErr};
-ghost use Rattle.limits.specs.declared.TheConstants.{MOST_BLOCKS, INODE_BYTES};
+ghost use Rattle.base.specs.declared.TheConstants.{MOST_BLOCKS, INODE_BYTES};
 ghost use Rattle.layout.specs.Geometry.{IsLawful, IsLawfulSize, IsLawfulCount, bitmap_blocks};
 ghost use Rattle.layout.specs.Geometry.{inode_bitmap_at, table_at, data_at};
 
 use crate::FormatVersion;
-use disk::BlockNo;
-use limits::{
+use base::{
     BITS_PER_BLOCK, FIRST_HOME_BLOCK, INODE_BYTES, INODES_PER_BLOCK, LEAST_BLOCKS,
     LEAST_DATA_BLOCKS, LEAST_INODES, MOST_BLOCKS, MOST_INODES,
 };
+use disk::BlockNo;
 use objects::Addr;
 use thiserror::Error;
 

@@ -1,6 +1,6 @@
 //! Laws on the objects of an image.
 ghost use Rattle.std.specs.Prelude.{◌≡◌, ◌<◌, ◌≤◌};
-ghost use Rattle.limits.specs.declared.TheConstants.{FIRST_HOME_BLOCK};
+ghost use Rattle.base.specs.declared.TheConstants.{FIRST_HOME_BLOCK};
 ghost use Rattle.objects.specs.Addr.{Overlap};
 ghost use Rattle.objects.specs.declared.addr.Addr.{Addr};
 ghost use Rattle.layout.specs.declared.geometry.Geometry.{Geometry};

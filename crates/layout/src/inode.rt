@@ -1,6 +1,6 @@
 //! Inodes: what the disk has of a file in 128 bytes.
 ghost use Rattle.std.specs.Prelude.{◌≡◌, ◌≤◌, length, replicate, IfOk, IfErr, Option};
-ghost use Rattle.limits.specs.declared.TheConstants.{INODE_BYTES};
+ghost use Rattle.base.specs.declared.TheConstants.{INODE_BYTES};
 ghost use Rattle.layout.specs.InodeForm.{read_inode, IsInTable};
 
 use crate::fields::{four_at, is_zeros};
@@ -8,7 +8,7 @@ use crate::inode_bytes::{put_head, put_middle, put_tail};
 use crate::inode_fields::{KIND_AT, fields_of, kind_of_number, rest_is_zero};
 use crate::numbers::count_mapped;
 use crate::{Geometry, LayoutFault};
-use limits::{DIRECT_INDEXES, INODE_BYTES};
+use base::{DIRECT_INDEXES, INODE_BYTES};
 use nfs_types::{Moment, Stamp, Verifier};
 use std::alloc::{AllocError, Global};
 
@@ -41,7 +41,7 @@ pub struct Inode {
 }
 
 impl Inode {
-    ghost use Rattle.limits.specs.declared.TheConstants.{DIRECT_INDEXES};
+    ghost use Rattle.base.specs.declared.TheConstants.{DIRECT_INDEXES};
     ghost use Rattle.layout.specs.InodeForm.{inode_bytes};
     ghost use Rattle.layout.specs.Fields.{count_of};
 

@@ -1,6 +1,6 @@
 //! The fields of an inode in its bytes.
 ghost use Rattle.std.specs.Prelude.{◌≡◌, ◌+◌, ◌≤◌, length};
-ghost use Rattle.limits.specs.declared.TheConstants.{INODE_BYTES};
+ghost use Rattle.base.specs.declared.TheConstants.{INODE_BYTES};
 ghost use Rattle.layout.specs.InodeForm.{kind_of_number, fields_of, rest_is_zero, time_at, verifier_at};
 ghost use Rattle.layout.specs.InodeForm.{verifier_of};
 ghost use Rattle.layout.specs.Fields.{numbers_at};
@@ -8,7 +8,7 @@ ghost use Rattle.layout.specs.declared.inode_fields.TheConstants.{DIRECT_AT};
 
 use crate::fields::{eight_at, four_at};
 use crate::{Inode, InodeKind};
-use limits::DIRECT_INDEXES;
+use base::DIRECT_INDEXES;
 use nfs_types::{Moment, Stamp, Verifier};
 
 // Where the fields of an inode begin in its bytes.

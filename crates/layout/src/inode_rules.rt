@@ -6,7 +6,7 @@ ghost use Rattle.layout.specs.InodeForm.{is_sound_map, is_sound_regular, is_soun
 ghost use Rattle.layout.specs.InodeForm.{is_sound_kind, is_sound_inode};
 
 use crate::{Geometry, Inode, InodeKind};
-use limits::{
+use base::{
     BLOCK_BYTES, DIRECT_INDEXES, LARGEST_DIRECTORY, LARGEST_FILE, MODE_BITS, MOST_LINKS,
     NANOSECONDS, TARGET_BYTES,
 };

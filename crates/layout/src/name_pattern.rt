@@ -3,7 +3,7 @@ ghost use Rattle.std.specs.Prelude.{◌≡◌, ◌+◌, ◌≤◌, ◌++◌, ℕ
 ghost use Rattle.layout.specs.SlotForm.{number_under, read_slot, used_bytes};
 
 use crate::slot::{COUNT_AT, NAME_AT, SLOT_BYTES};
-use limits::NAME_BYTES;
+use base::NAME_BYTES;
 use std::marker::Model;
 
 /// A name with the bytes of the slots that have it, but for a number, which is zero.

@@ -1,7 +1,7 @@
 //! Indirect blocks: the numbers of the blocks that an inode doesn't name itself.
 ghost use Rattle.std.specs.Prelude.{◌≡◌, ◌*◌, ◌<◌, ◌≤◌, true, false, get_or, length, IfOk, IfErr};
 ghost use Rattle.std.specs.List.{list_all};
-ghost use Rattle.limits.specs.declared.TheConstants.{BLOCK_BYTES, INDIRECT_INDEXES};
+ghost use Rattle.base.specs.declared.TheConstants.{BLOCK_BYTES, INDIRECT_INDEXES};
 ghost use Rattle.layout.specs.Fields.{numbers_at, number_bytes, count_of};
 ghost use Rattle.layout.specs.InodeForm.{is_data_block_or_none};
 
@@ -9,7 +9,7 @@ use crate::fields::four_at;
 use crate::inode_bytes::put_numbers;
 use crate::inode_rules::{are_data_blocks_or_none, is_data_block_or_none};
 use crate::{Geometry, LayoutFault};
-use limits::{BLOCK_BYTES, INDIRECT_INDEXES};
+use base::{BLOCK_BYTES, INDIRECT_INDEXES};
 use objects::Object;
 use std::alloc::{AllocError, Global};
 use std::marker::Model;
@@ -25,7 +25,7 @@ pub struct Numbers {
 
 impl Model for Numbers {
     ghost use Rattle.std.specs.Prelude.{List, ℕ, ◌≡◌, length};
-    ghost use Rattle.limits.specs.declared.TheConstants.{INDIRECT_INDEXES};
+    ghost use Rattle.base.specs.declared.TheConstants.{INDIRECT_INDEXES};
 
     ghost Value = { List ℕ };
 

@@ -1,13 +1,13 @@
 //! Slots: what the disk has of a name in a directory in 128 bytes.
 ghost use Rattle.std.specs.Prelude.{◌≡◌, ◌+◌, ◌*◌, ◌<◌, ◌≤◌, ◌&&◌, ℕ, length, take, drop, true, false};
 ghost use Rattle.std.specs.Prelude.{IfOk, IfErr, IsOk, Ok, Err, Option, Some};
-ghost use Rattle.limits.specs.declared.TheConstants.{BLOCK_BYTES, NAME_BYTES, SLOTS_PER_BLOCK};
+ghost use Rattle.base.specs.declared.TheConstants.{BLOCK_BYTES, NAME_BYTES, SLOTS_PER_BLOCK};
 ghost use Rattle.layout.specs.Fields.{four_at, is_zeros};
 ghost use Rattle.layout.specs.SlotForm.{is_sound_slot, number_under, read_slot, used_bytes, IsInDirectory, IsLook};
 
 use crate::fields::{are_zeros_at, eight_at, four_at, is_zeros, put_four};
 use crate::{LayoutFault, NamePattern};
-use limits::{BLOCK_BYTES, NAME_BYTES, SLOTS_PER_BLOCK};
+use base::{BLOCK_BYTES, NAME_BYTES, SLOTS_PER_BLOCK};
 use nfs_types::Octets;
 use std::alloc::{AllocError, Global};
 

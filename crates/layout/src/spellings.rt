@@ -1,7 +1,7 @@
 //! Laws on how records are spelled in bytes.
 ghost use Rattle.std.specs.Prelude.{◌≡◌, ◌↔◌, ℕ, true, false, List, length, Option, Some, Ok, Err};
 ghost use Rattle.std.specs.List.{list_all};
-ghost use Rattle.limits.specs.declared.TheConstants.{BLOCK_BYTES, INDIRECT_INDEXES, INODE_BYTES};
+ghost use Rattle.base.specs.declared.TheConstants.{BLOCK_BYTES, INDIRECT_INDEXES, INODE_BYTES};
 ghost use Rattle.nfs_types.specs.Fits.{AreBytes};
 ghost use Rattle.layout.specs.declared.fault.LayoutFault.{LayoutFault};
 ghost use Rattle.layout.specs.declared.fault.LayoutFault.TheVariants.{Range};

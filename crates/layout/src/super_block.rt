@@ -1,14 +1,14 @@
 //! The super block.
 ghost use Rattle.std.specs.Prelude.{◌≡◌, ◌+◌, ◌++◌, ◌≤◌, ◌↔◌, length, IfOk, IfErr, IfSome, IfNone, OnOk};
 ghost use Rattle.std.specs.Prelude.{IsTrue};
-ghost use Rattle.limits.specs.declared.TheConstants.{BLOCK_BYTES};
+ghost use Rattle.base.specs.declared.TheConstants.{BLOCK_BYTES};
 ghost use Rattle.layout.specs.SuperForm.{HasMagic, HasSizes, is_unused_zero, super_head};
 ghost use Rattle.layout.specs.Fields.{four_at};
 ghost use Rattle.layout.specs.declared.super_block.TheConstants.{VERSION_AT, BLOCKS_AT, INODES_AT, REST_AT};
 
 use crate::fields::{eight_at, four_at, is_zeros, put_eight, put_four};
 use crate::{FormatVersion, Geometry, LayoutFault};
-use limits::BLOCK_BYTES;
+use base::BLOCK_BYTES;
 use std::alloc::{AllocError, Global};
 
 /// The bytes that an image of this format begins with.

@@ -2,7 +2,7 @@
 ghost use Rattle.std.specs.Prelude.{◌≡◌};
 ghost use Rattle.layout.specs.Version.{has_double, number_of_version, version_of_number};
 
-use limits::{FIRST_VERSION, FORMAT_VERSION};
+use base::{FIRST_VERSION, FORMAT_VERSION};
 
 /// A version of the format: it says how the bytes of an image are read.
 #[derive(Clone, Copy, Debug, PartialEq, Eq)]

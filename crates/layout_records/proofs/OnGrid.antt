@@ -3,7 +3,7 @@ use Rattle.std.proofs.Common.{◌≡◌, ℕ, suc, ◌+◌, ◌-◌, ◌*◌, �
 use Rattle.std.proofs.Common.{nat_eq, nat_le, nat_lt, inl, inr, arith}
 use Rattle.std.proofs.lemmas.Bool.{cases_eq, eq-eqb, eqb-true}
 use Rattle.std.proofs.lemmas.Bool.Decides.{leb_tells, nat_tests}
-use Rattle.limits.specs.declared.TheConstants.{BLOCK_BYTES, FIRST_HOME_BLOCK, INODES_PER_BLOCK, INODE_BYTES}
+use Rattle.base.specs.declared.TheConstants.{BLOCK_BYTES, FIRST_HOME_BLOCK, INODES_PER_BLOCK, INODE_BYTES}
 use Rattle.objects.specs.declared.addr.Addr.{Addr}
 use Rattle.layout.specs.declared.geometry.Geometry.{Geometry}
 use Rattle.layout.specs.declared.grid.TheConstants.{PIECE_BYTES}

@@ -1,6 +1,6 @@
 //! How many bits are clear.
 ghost use Rattle.std.specs.Prelude.{◌≡◌, ◌+◌, ◌*◌, ◌≤◌, drop, length, take};
-ghost use Rattle.limits.specs.declared.TheConstants.{BLOCK_BYTES};
+ghost use Rattle.base.specs.declared.TheConstants.{BLOCK_BYTES};
 ghost use Rattle.layout_records.specs.Bits.{clear_in, clear_in_byte};
 
 // How many bits of a byte are clear.

@@ -2,8 +2,8 @@
 ghost use Rattle.std.specs.Prelude.{ℕ, ◌≡◌, IfNone, IfSome};
 ghost use Rattle.layout_records.specs.OnGrid.{IsInodeAt, is_on_grid};
 
+use base::{BLOCK_BYTES, FIRST_HOME_BLOCK, INODE_BYTES, INODES_PER_BLOCK};
 use layout::{Geometry, PIECE_BYTES};
-use limits::{BLOCK_BYTES, FIRST_HOME_BLOCK, INODE_BYTES, INODES_PER_BLOCK};
 use objects::Addr;
 
 /// Whether an address is that of an inode, of an eighth of a block of a bitmap, or of a whole data block.

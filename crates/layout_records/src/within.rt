@@ -1,13 +1,13 @@
 //! Blocks in which a slot or a number is another.
 ghost use Rattle.std.specs.Prelude.{◌≡◌, ◌+◌, ◌<◌, ◌≤◌, length, IfOk};
-ghost use Rattle.limits.specs.declared.TheConstants.{BLOCK_BYTES, INDIRECT_INDEXES, NAME_BYTES, SLOTS_PER_BLOCK};
+ghost use Rattle.base.specs.declared.TheConstants.{BLOCK_BYTES, INDIRECT_INDEXES, NAME_BYTES, SLOTS_PER_BLOCK};
 ghost use Rattle.objects.specs.Spliced.{spliced};
 ghost use Rattle.layout.specs.NumbersForm.{with_number};
 ghost use Rattle.layout.specs.declared.slot.TheConstants.{SLOT_BYTES};
 ghost use Rattle.layout.specs.SlotForm.{first_slot, with_slot};
 
+use base::BLOCK_BYTES;
 use layout::{NUMBER_BYTES, SLOT_BYTES, Slot};
-use limits::BLOCK_BYTES;
 use std::alloc::{AllocError, Global};
 
 /// These bytes with others in the place of those from an offset on.

@@ -8,7 +8,7 @@ use crate::told::{
     read_handle, read_moment, read_optional_attributes, read_optional_handle, read_stability,
     read_verifier,
 };
-use limits::RECORD_BYTES;
+use base::RECORD_BYTES;
 use nfs_types::{
     Created, FileSystemInfo, FileSystemSpace, Looked, Mounted, NumberList, PathLimits, Pieces,
     ReadBytes, Written,

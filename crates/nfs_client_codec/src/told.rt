@@ -3,7 +3,7 @@ ghost use Rattle.std.specs.Prelude.{◌≡◌};
 ghost use Rattle.xdr.specs.Reading.{Reads, Gives};
 ghost use Rattle.nfs_codec.specs.Items as codes;
 
-use limits::{MOST_HANDLE_BYTES, RECORD_BYTES};
+use base::{MOST_HANDLE_BYTES, RECORD_BYTES};
 use nfs_types::{
     Attributes, DeviceNumber, FileKind, Handle, Moment, Octets, Stability, Verifier,
     WeakCacheAttributes, WeakCacheData,

@@ -1,6 +1,6 @@
 -- Each item is read as it is spelled: a term for each code.
 use Rattle.std.proofs.Common.{◌≡◌, ◌⊎◌, [], ◌∷◌, refl, arith, inl, inr}
-use Rattle.limits.specs.declared.TheConstants.{MOST_HANDLE_BYTES, RECORD_BYTES}
+use Rattle.base.specs.declared.TheConstants.{MOST_HANDLE_BYTES, RECORD_BYTES}
 use Rattle.nfs_types.specs.declared.attributes.DeviceNumber.{DeviceNumber}
 use Rattle.nfs_types.specs.declared.attributes.FileKind.{FileKind}
 use Rattle.nfs_types.specs.declared.attributes.FileKind.TheVariants as kinds

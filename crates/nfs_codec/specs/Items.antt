@@ -2,7 +2,7 @@
 -- where a call has them.
 use Rattle.std.specs.Prelude.{◌⊎◌, ℕ, ◌∷◌, [], List, Option}
 use Rattle.std.proofs.Common.{inl, inr}
-use Rattle.limits.specs.declared.TheConstants.{MOST_HANDLE_BYTES, RECORD_BYTES}
+use Rattle.base.specs.declared.TheConstants.{MOST_HANDLE_BYTES, RECORD_BYTES}
 use Rattle.nfs_types.specs.declared.attributes.Attributes.{Attributes}
 use Rattle.nfs_types.specs.declared.attributes.DeviceNumber.{DeviceNumber}
 use Rattle.nfs_types.specs.declared.attributes.FileKind.{FileKind}

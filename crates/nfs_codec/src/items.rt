@@ -6,7 +6,7 @@ ghost use Rattle.nfs_codec.specs.Items.{set_time};
 ghost use Rattle.nfs_codec.specs.Items.{optional_word, optional_double, guard, new_attributes, create_how};
 ghost use Rattle.nfs_codec.specs.Items.{stability, device, special_file};
 
-use limits::{MOST_HANDLE_BYTES, RECORD_BYTES};
+use base::{MOST_HANDLE_BYTES, RECORD_BYTES};
 use nfs_types::{
     CreateHow, DeviceNumber, Moment, NewAttributes, SetTime, SpecialFile, Stability, Verifier,
 };

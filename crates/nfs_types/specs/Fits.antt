@@ -1,7 +1,7 @@
 -- What a call can spell: each number has its bits, and each string is of bytes, as many as it may have
 -- (RFC 1813, sections 2.4 to 2.6, 3.3 and 5.2). Whether the server takes it is another matter.
 use Rattle.std.specs.Prelude.{◌≡◌, ℕ, ◌^◌, ◌<◌, ◌≤◌, List, length, get_or, IfSome}
-use Rattle.limits.specs.declared.TheConstants.{MOST_HANDLE_BYTES, RECORD_BYTES}
+use Rattle.base.specs.declared.TheConstants.{MOST_HANDLE_BYTES, RECORD_BYTES}
 use Rattle.nfs_types.specs.declared.attributes.DeviceNumber.{DeviceNumber}
 use Rattle.nfs_types.specs.declared.attributes.NewAttributes.{NewAttributes}
 use Rattle.nfs_types.specs.declared.attributes.SetTime.{SetTime}

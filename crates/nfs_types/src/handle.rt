@@ -4,7 +4,7 @@ ghost use Rattle.std.specs.Int.{w32, w64, to_be_bytes};
 ghost use Rattle.nfs_types.specs.Handle.{handle_bytes};
 
 use crate::Octets;
-use limits::HANDLE_BYTES;
+use base::HANDLE_BYTES;
 use std::alloc::{AllocError, Global};
 
 /// When a file was made: the boot number of the store, and the number in that boot of the transaction that

@@ -17,7 +17,7 @@ mod verifier;
 pub use attributes::{
     Attributes, DeviceNumber, FileKind, NewAttributes, SetTime, WeakCacheAttributes, WeakCacheData,
 };
-pub use buffers::{Pieces, SharedOctets};
+pub use base::{Pieces, SharedOctets};
 pub use call::{Call, CreateHow, DirectoryName, SpecialFile, Stability};
 pub use ctx::{Credential, Ctx, Moment};
 pub use entries::{ListedEntries, ListedEntriesPlus, ListedEntry, ListedEntryPlus};

@@ -4,8 +4,8 @@ use Rattle.std.specs.Prelude.{IfErr, OnOk}
 use Rattle.std.specs.Io.KnownBytes.{Appends}
 use Rattle.disk.specs.Device.{Device}
 use Rattle.image_check.specs.declared.judging.Counts.{Counts}
-use Rattle.image_lines.specs.declared.line.Line.{Line}
-use Rattle.image_lines.specs.Printed.{lines_text}
+use Rattle.image_contents.specs.declared.lines.line.Line.{Line}
+use Rattle.image_contents.specs.Lines.Printed.{lines_text}
 use Rattle.nfsd.specs.declared.fault.Fault.{Fault}
 use Rattle.nfsd.specs.declared.fault.Fault.TheVariants as fault
 use Rattle.nfsd.specs.Looked.{ChecksDevice, IsCheckOf, IsShowOf, ShowsDevice, clean_line}

@@ -8,17 +8,17 @@ use Rattle.clap.specs.Words.{Text}
 use Rattle.disk.specs.declared.file.FirstContents.{FirstContents}
 use Rattle.disk.specs.Device.{Device}
 use Rattle.disk.specs.File.{Calls, KeepsModel, file_device, first_in}
-use Rattle.model.specs.Tree.{Tree}
-use Rattle.wal_law.specs.Recovery.{HasOnlyRead, IsUnspoiled, image_of as image_in}
+use Rattle.nfs_spec.specs.Model.Tree.{Tree}
+use Rattle.circ.specs.Log.Recovery.{HasOnlyRead, IsUnspoiled, image_of as image_in}
 use Rattle.store_images.specs.BringingHome.{CountsCause}
 use Rattle.store_promise.specs.declared.fault.OpenFault.{OpenFault}
 use Rattle.store_promise.specs.GoodImage.{IsGoodImage}
 use Rattle.image_check.specs.declared.fault.CheckFault.{CheckFault}
 use Rattle.image_check.specs.declared.judging.Counts.{Counts}
 use Rattle.image_check.specs.Checked.{CountsCheck, IsChecked}
-use Rattle.image_lines.specs.declared.line.Line.{Line}
-use Rattle.image_lines.specs.Printed.{lines_text}
-use Rattle.image_lines.specs.Shown.{IsShown}
+use Rattle.image_contents.specs.declared.lines.line.Line.{Line}
+use Rattle.image_contents.specs.Lines.Printed.{lines_text}
+use Rattle.image_contents.specs.Lines.Shown.{IsShown}
 use Rattle.nfsd.specs.Left.{Left, nothing_left, with_device}
 use Rattle.nfsd.specs.declared.fault.Fault.{Fault}
 use Rattle.nfsd.specs.declared.fault.Fault.TheVariants as fault

@@ -19,6 +19,7 @@ use crate::streams::{Streams, fill};
 use crate::tcp::serve_image;
 use crate::trouble::Trouble;
 use disk::{BlockFile, FirstContents};
+use disk_file::{Alarm, WatchedFile};
 use nfsd_words::{Args, words};
 use session::{Input, Output};
 use std::fs::Files;
@@ -27,7 +28,6 @@ use std::net::{Net, TcpListener, TcpStream};
 use std::sync::Wait;
 use std::thread::Threads;
 use std::time::Clock;
-use watched_files::{Alarm, WatchedFile};
 
 /// Tells a fault on `faults`, where that can be done, and gives the exit status.
 pub fn conclude<E: Write>(faults: &mut FaultStream<E>, outcome: &Result<(), Fault>) -> u8

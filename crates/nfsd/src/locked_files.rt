@@ -4,9 +4,9 @@ ghost use Rattle.disk.specs.Crash.{IsAtRest};
 ghost use Rattle.disk.specs.File.{file_device, first_in};
 ghost use Rattle.nfsd.specs.Done.{AreAsked};
 
+use base::{BLOCK_BYTES, MOST_BLOCKS};
 use disk::{BlockFile, FileDisk, open_locked};
 use layout::Super;
-use limits::{BLOCK_BYTES, MOST_BLOCKS};
 use std::fs::{Files, OpenFile};
 use std::io;
 use std::io::{ErrorKind, Read, Seek, SeekFrom};

@@ -1,7 +1,7 @@
 //! What the program tells of an image that it only reads.
 ghost use Rattle.std.specs.Prelude.{◌≡◌, IfErr, OnOk};
 ghost use Rattle.std.specs.Io.KnownBytes.{Appends};
-ghost use Rattle.image_lines.specs.Printed.{lines_text};
+ghost use Rattle.image_contents.specs.Lines.Printed.{lines_text};
 ghost use Rattle.nfsd.specs.Left.{left_by};
 ghost use Rattle.nfsd.specs.Looked.{ChecksDevice, ChecksImage, ShowsDevice, ShowsImage, clean_line};
 
@@ -12,7 +12,7 @@ use crate::read_files::{SharedFile, open_to_read};
 use crate::streams::Streams;
 use crate::trouble::Trouble;
 use disk::{BlockFile, CrashDisk, FirstContents};
-use image_lines::print_lines;
+use image_contents::print_lines;
 use std::alloc::Global;
 use std::fs::Files;
 use std::io::{Eprint, Write};

@@ -27,6 +27,7 @@ use crate::fault_stream::FaultStream;
 use crate::read_files::SharedFile;
 use crate::streams::Streams;
 use disk::{BlockFile, FirstContents};
+use disk_file::Alarm;
 use session::{Input, Output};
 use std::alloc::AllocError;
 use std::env::Env;
@@ -37,7 +38,6 @@ use std::process::ExitCode;
 use std::sync::Wait;
 use std::thread::Threads;
 use std::time::Clock;
-use watched_files::Alarm;
 
 fn main(rt: HostRuntime) -> ExitCode {
     let input = Input::new(rt.reader());

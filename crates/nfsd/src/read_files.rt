@@ -2,8 +2,8 @@
 ghost use Rattle.std.specs.Prelude.{◌≡◌, [], IfOk};
 
 use crate::locked_files::blocks_of_image;
+use base::BLOCK_BYTES;
 use disk::{BlockFile, FileDisk};
-use limits::BLOCK_BYTES;
 use std::fs::{File, Files};
 use std::io;
 use std::io::{ErrorKind, Seek, SeekFrom};

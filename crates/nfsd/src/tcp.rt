@@ -12,6 +12,7 @@ use crate::image_disk::ImageDisk;
 use crate::trouble::Trouble;
 use crate::watched_image::open_for_threads;
 use disk::{BlockFile, FirstContents, ThreadedDisk};
+use disk_file::{Alarm, WatchedFile};
 use server::{Ended, ServeFault, serve_store};
 use session::SessionFault;
 use std::alloc::Global;
@@ -23,7 +24,6 @@ use std::sync::Wait;
 use std::thread::Threads;
 use std::time::Clock;
 use store_images::Store;
-use watched_files::{Alarm, WatchedFile};
 
 /// What listens at an address, and the address that it got, as text.
 #[derive(Drop)]

@@ -5,11 +5,11 @@ ghost use Rattle.disk.specs.File.{file_device, first_in};
 
 use crate::locked_files::blocks_in;
 use disk::{BlockFile, ThreadedDisk, open_locked};
+use disk_file::{Alarm, WatchedFile};
 use std::fs::{Files, OpenOptions};
 use std::io;
 use std::io::Eprint;
 use std::time::Clock;
-use watched_files::{Alarm, WatchedFile};
 
 /// Opens a file or a block device as `open_image` does, for threads: it is opened twice, so that each side hears of a
 /// write that failed behind its answer, and this alarm tells of both.

@@ -15,9 +15,9 @@ ghost use Rattle.nfsd_words.specs.Words.{third_of_program, whole_program};
 mod scripts;
 
 use crate::scripts::{asked_sim, sim_words};
+use base::MOST_WORKERS;
 use clap::error::ErrorKind;
 use clap::{Arg, ArgMatches, Command, Error, value_parser};
-use limits::MOST_WORKERS;
 use std::alloc::{AllocError, Global};
 
 // What `--version` tells.

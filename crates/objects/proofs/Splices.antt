@@ -4,7 +4,7 @@ use Rattle.std.proofs.Common.{length-append, length-drop, append_assoc, arith}
 use Rattle.std.proofs.Math.Seq.{drop-append-add, take-append_seam}
 use Rattle.std.proofs.lemmas.List.{drop-append-le, take-append-le, drop-take, take-take, drop-drop}
 use Rattle.std.proofs.lemmas.List.{length-take-le, take_all}
-use Rattle.limits.specs.declared.TheConstants.{BLOCK_BYTES}
+use Rattle.base.specs.declared.TheConstants.{BLOCK_BYTES}
 use Rattle.objects.specs.Spliced.{extracted, spliced}
 
 module _ (content bytes : List ℕ) (offset : ℕ) (room : offset + length bytes ≤ length content) where

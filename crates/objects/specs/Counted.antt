@@ -1,6 +1,6 @@
 -- What the numbers of a block count to.
 use Rattle.std.specs.Prelude.{◌≡◌, ℕ, ◌<◌, ◌≤◌, ◌⊎◌, ◌^◌, ◌-◌, List, get_or}
-use Rattle.limits.specs.declared.TheConstants.{INDIRECT_INDEXES}
+use Rattle.base.specs.declared.TheConstants.{INDIRECT_INDEXES}
 use Rattle.objects.specs.declared.counted.Counted.{Counted}
 use Rattle.objects.specs.Numbers.{count_of, numbers_at}
 

@@ -2,7 +2,7 @@
 use Rattle.std.specs.Prelude.{◌≡◌, ℕ, ◌<◌, ◌*◌, true, not, ◌||◌, List, All, length}
 use Rattle.std.specs.List.{filter}
 use Rattle.disk.specs.declared.block.BlockNo.{BlockNo}
-use Rattle.limits.specs.declared.TheConstants.{CLEAN_BLOCKS}
+use Rattle.base.specs.declared.TheConstants.{CLEAN_BLOCKS}
 use Rattle.objects.specs.Pins.{Residents, is_wanted, pins_of}
 use Rattle.objects.specs.Recent.{is_noted}
 use Rattle.objects.specs.declared.present.Present.{Present}

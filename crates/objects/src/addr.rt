@@ -1,9 +1,9 @@
 //! The address of an object.
 ghost use Rattle.std.specs.Prelude.{◌≡◌, ◌+◌, ◌<◌, ◌≤◌, ◌↔◌, IsTrue, IsSome, IfSome};
-ghost use Rattle.limits.specs.declared.TheConstants.{BLOCK_BYTES};
+ghost use Rattle.base.specs.declared.TheConstants.{BLOCK_BYTES};
 
+use base::BLOCK_BYTES;
 use disk::BlockNo;
-use limits::BLOCK_BYTES;
 
 /// Where an object lies: `len` bytes of a block from `offset` on, at least one and all within the block.
 #[derive(Clone, Copy, Debug, PartialEq, Eq, PartialOrd, Ord)]

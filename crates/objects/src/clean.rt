@@ -1,6 +1,6 @@
 //! Blocks that stay in memory though nobody has pinned them.
 ghost use Rattle.std.specs.Prelude.{◌≡◌, ◌<◌, ◌*◌, ◌||◌, ◌∷◌, ℕ, List, length};
-ghost use Rattle.limits.specs.declared.TheConstants.{CLEAN_BLOCKS};
+ghost use Rattle.base.specs.declared.TheConstants.{CLEAN_BLOCKS};
 ghost use Rattle.objects.specs.Pins.{LetsGo, count_in, is_wanted, spared};
 ghost use Rattle.objects.specs.Recent.{is_noted};
 ghost use Rattle.objects.specs.Unneeded.{AreNoted, IsTidy};

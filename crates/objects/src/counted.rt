@@ -1,10 +1,10 @@
 //! What the numbers of a block count to.
 ghost use Rattle.std.specs.Prelude.{◌≡◌, ◌+◌, ◌<◌, ◌≤◌, ◌⊎◌, length};
-ghost use Rattle.limits.specs.declared.TheConstants.{BLOCK_BYTES};
+ghost use Rattle.base.specs.declared.TheConstants.{BLOCK_BYTES};
 ghost use Rattle.objects.specs.Counted.{IsCountedIn};
 ghost use Rattle.objects.specs.Numbers.{four_at};
 
-use limits::INDIRECT_INDEXES;
+use base::INDIRECT_INDEXES;
 
 /// Of a block that is read as numbers, how many of them aren't 0, and between which two of them these lie. Where all
 /// are 0 the least is the largest number there is, and the greatest 0.

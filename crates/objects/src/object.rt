@@ -1,11 +1,11 @@
 //! Objects: parts of blocks with their bytes.
 ghost use Rattle.std.specs.Prelude.{◌≡◌, ◌+◌, ◌≤◌, IfOk, IfSome, length, take, drop};
-ghost use Rattle.limits.specs.declared.TheConstants.{BLOCK_BYTES};
+ghost use Rattle.base.specs.declared.TheConstants.{BLOCK_BYTES};
 ghost use Rattle.objects.specs.Counted.{IsCountedIn};
 ghost use Rattle.objects.specs.declared.addr.Addr.{Addr as Address};
 
 use crate::{Addr, Counted, SharedBytes};
-use buffers::SharedOctets;
+use base::SharedOctets;
 use disk::SharedBlock;
 use std::alloc::AllocError;
 use std::marker::Model;

@@ -1,11 +1,11 @@
 //! Parts of a block: taken out of it, and laid into it.
 ghost use Rattle.std.specs.Prelude.{◌≡◌, ◌+◌, ◌≤◌, ◌⊎◌, ℕ, IfOk, length, take, drop};
-ghost use Rattle.limits.specs.declared.TheConstants.{BLOCK_BYTES};
+ghost use Rattle.base.specs.declared.TheConstants.{BLOCK_BYTES};
 ghost use Rattle.objects.specs.Spliced.{extracted, spliced};
 
 use crate::{Addr, Object, SharedBytes};
+use base::BLOCK_BYTES;
 use disk::Block;
-use limits::BLOCK_BYTES;
 use std::alloc::{AllocError, Global};
 
 /// The bytes that lie at an address of a block.

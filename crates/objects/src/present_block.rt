@@ -5,8 +5,8 @@ ghost use Rattle.objects.specs.Spliced.{extracted};
 
 use crate::kept_block::KeptBlock;
 use crate::{Addr, Counted, SharedBytes};
+use base::BLOCK_BYTES;
 use disk::{Block, SharedBlock};
-use limits::BLOCK_BYTES;
 use std::alloc::{AllocError, Global};
 use std::marker::Model;
 

@@ -2,12 +2,12 @@
 ghost use Rattle.std.specs.Prelude.{◌≡◌, ◌<◌, ◌*◌, [], ◌∷◌, length, take, true, false};
 ghost use Rattle.std.specs.Map.{keys_of};
 ghost use Rattle.disk.specs.declared.block.BlockNo.{BlockNo as BlockNumber};
-ghost use Rattle.limits.specs.declared.TheConstants.{CLEAN_BLOCKS};
+ghost use Rattle.base.specs.declared.TheConstants.{CLEAN_BLOCKS};
 ghost use Rattle.lru.specs.LruCache.{lru_cache};
 ghost use Rattle.objects.specs.Recent.{is_noted};
 
+use base::CLEAN_BLOCKS;
 use disk::BlockNo;
-use limits::CLEAN_BLOCKS;
 use lru::LruCache;
 use std::alloc::Global;
 use std::marker::Model;
@@ -26,7 +26,7 @@ pub(crate) struct Recent {
 
 impl Model for Recent {
     ghost use Rattle.std.specs.Prelude.{◌≡◌, ◌*◌, ℕ, List, IfSome};
-    ghost use Rattle.limits.specs.declared.TheConstants.{CLEAN_BLOCKS};
+    ghost use Rattle.base.specs.declared.TheConstants.{CLEAN_BLOCKS};
     ghost use Rattle.objects.specs.Recent.{numbers_in};
 
     ghost Value = { List ℕ };

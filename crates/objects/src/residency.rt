@@ -2,7 +2,7 @@
 ghost use Rattle.std.specs.Prelude.{◌≡◌, ◌<◌, ◌+◌, ◌-◌, ◌*◌, ◌^◌, ◌↔◌, Bool, IsTrue, IfOk, IfSome, OnErr, OnOk, []};
 ghost use Rattle.std.specs.Prelude.{length, option_map};
 ghost use Rattle.disk.specs.declared.block.BlockNo.{BlockNo};
-ghost use Rattle.limits.specs.declared.TheConstants.{CLEAN_BLOCKS};
+ghost use Rattle.base.specs.declared.TheConstants.{CLEAN_BLOCKS};
 ghost use Rattle.objects.specs.Pins.{HasRoom, Pins, PinsStay, Unpins, once_at, pins_of, spared};
 ghost use Rattle.objects.specs.Unneeded.{unneeded};
 ghost use Rattle.objects.specs.Present.{bytes_in, present_of, content_in, is_pending, IsOnce, with_block, filled};

@@ -1,13 +1,12 @@
 //! Bytes that are shared.
 ghost use Rattle.std.specs.Prelude.{◌≡◌, ◌+◌, ◌≤◌, IfOk, IfSome, length, take, drop};
-ghost use Rattle.limits.specs.declared.TheConstants.{BLOCK_BYTES};
+ghost use Rattle.base.specs.declared.TheConstants.{BLOCK_BYTES};
 ghost use Rattle.objects.specs.Counted.{IsCountedIn};
 ghost use Rattle.objects.specs.Spliced.{extracted};
 
 use crate::{Addr, Counted};
-use buffers::SharedOctets;
+use base::{BLOCK_BYTES, SharedOctets};
 use disk::SharedBlock;
-use limits::BLOCK_BYTES;
 use std::alloc::AllocError;
 use std::marker::Model;
 

@@ -3,11 +3,11 @@ use Rattle.std.proofs.Common.{◌≡◌, ℕ, false, List, [], ◌++◌, Option,
 use Rattle.std.proofs.Common.{subst, sym, ◌∙◌, ap, append_assoc, refl}
 use Rattle.std.proofs.lemmas.List.{append-nil}
 use Rattle.std.specs.Io.KnownBytes.{Appends, Consumes}
-use Rattle.plain_session.specs.Answering.{Files}
-use Rattle.plain_session.specs.Serving.{AreAnswered, IsFed, Session, More}
-use Rattle.plain_session.specs.Serving.{None as Nothing}
-use Rattle.plain_session.specs.declared.session.Connection.TheVariants.{Open}
-use Rattle.plain_session.proofs.Pieces.{at_once}
+use Rattle.plain_once.specs.Session.Answering.{Files}
+use Rattle.plain_once.specs.Session.Serving.{AreAnswered, IsFed, Session, More}
+use Rattle.plain_once.specs.Session.Serving.{None as Nothing}
+use Rattle.plain_once.specs.declared.session.session.Connection.TheVariants.{Open}
+use Rattle.plain_once.proofs.SessionLemmas.Pieces.{at_once}
 use Rattle.plain_once.specs.Attending.{IsAttended}
 
 -- ---- what is known of an input and of an output

@@ -1,2 +1,3 @@
 pub mod Attended
 pub mod Spelled
+pub mod SessionLemmas

@@ -1,8 +1,8 @@
 -- What is known while the records of an input are answered.
 use Rattle.std.specs.Prelude.{◌≡◌, ℕ, false, List, [], ◌++◌, Option, Some}
 use Rattle.std.specs.Io.KnownBytes.{Appends, Consumes, IsAtEnd}
-use Rattle.plain_session.specs.Counts.{HasData}
-use Rattle.plain_session.specs.Serving.{AreAnswered, Session, fresh}
+use Rattle.plain_once.specs.Session.Counts.{HasData}
+use Rattle.plain_once.specs.Session.Serving.{AreAnswered, Session, fresh}
 use Rattle.plain_once.specs.declared.words.Asked.{Asked}
 
 -- The records that are whole in what was read are answered, and their replies are written. Told are what is

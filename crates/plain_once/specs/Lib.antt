@@ -1,2 +1,3 @@
 pub mod Attending
 pub mod Words
+pub mod Session

@@ -5,16 +5,17 @@
 ghost use Rattle.std.specs.Prelude.{◌≡◌, ◌<◌, ◌≤◌, ℕ, List, [], Option, Some, None, true, false, length};
 ghost use Rattle.std.specs.Prelude.{IfNone, IfSome};
 ghost use Rattle.std.specs.Io.KnownBytes.{Appends};
-ghost use Rattle.plain_session.specs.Serving.{Ends, IsFed, Session, session_of};
-ghost use Rattle.plain_session.specs.declared.session.Connection.TheVariants as progress;
-ghost use Rattle.plain_session.specs.Counts.{HasData};
+ghost use Rattle.plain_once.specs.Session.Serving.{Ends, IsFed, Session, session_of};
+ghost use Rattle.plain_once.specs.declared.session.session.Connection.TheVariants as progress;
+ghost use Rattle.plain_once.specs.Session.Counts.{HasData};
 ghost use Rattle.plain_once.specs.Attending.{IsServedWhole, IsAttended, IsDone};
 
+mod session;
 mod words;
 
+use crate::session::{Connection, PlainSession};
 use crate::words::{Asked, parse};
-use limits::{MOST_READS, PIECE_BYTES};
-use plain_session::{Connection, PlainSession};
+use base::{MOST_READS, PIECE_BYTES};
 use std::alloc::{AllocError, Global};
 use std::env;
 use std::env::Env;

@@ -3,7 +3,7 @@ ghost use Rattle.std.specs.Prelude.{ℕ, map, string_bytes, IfSome, IfNone};
 ghost use Rattle.plain_once.specs.Words.{AsksFor, Spells};
 ghost use Rattle.plain_once.specs.declared.words.Asked.{Asked as ask};
 
-use plain_session::Pace;
+use crate::session::Pace;
 
 /// The counts of the image, when its root is made, and when calls come.
 #[derive(Clone, Copy, Debug, PartialEq, Eq)]

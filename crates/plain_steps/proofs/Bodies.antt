@@ -1,11 +1,11 @@
 -- The file that stands in the list is the tree's.
 use Rattle.std.proofs.Common.{◌≡◌, ℕ, sym, ap, ◌∙◌, Option, Some, None}
 use Rattle.std.specs.Option.{option_map}
-use Rattle.model.specs.Node.{Node, Body}
-use Rattle.model.specs.Tree.{Tree, node_at}
-use Rattle.procedures.specs.Places.{file_at}
-use Rattle.files.specs.declared.head.Head.{Head}
-use Rattle.files.specs.Heads.{IsFileIn, node_of}
+use Rattle.nfs_spec.specs.Model.Node.{Node, Body}
+use Rattle.nfs_spec.specs.Model.Tree.{Tree, node_at}
+use Rattle.nfs_spec.specs.Procedures.Places.{file_at}
+use Rattle.procs_files.specs.declared.head.Head.{Head}
+use Rattle.procs_files.specs.Heads.{IsFileIn, node_of}
 
 pub file_body : (old tree : Tree) (head : Head) (body : Body) (file : ℕ × Node) → old ≡ tree
     → IsFileIn tree head body → file_at old head.number ≡ Some file → file.1.body ≡ body

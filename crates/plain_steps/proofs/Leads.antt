@@ -4,11 +4,11 @@ use Rattle.nfs_types.specs.Fits.{CallFits}
 use Rattle.nfs_types.specs.declared.call.Call.{Call}
 use Rattle.nfs_types.specs.declared.ctx.Ctx.{Ctx}
 use Rattle.nfs_types.specs.declared.reply.Reply.{Reply}
-use Rattle.model.specs.Sound.{Sound, SoundCtx}
-use Rattle.model.specs.Tree.{Tree}
-use Rattle.procedures.specs.Step.{step, numbered_step}
-use Rattle.procedures.proofs.Numbers.{new_number}
-use Rattle.procs_steps.specs.Leads.{IsStepTo}
+use Rattle.nfs_spec.specs.Model.Sound.{Sound, SoundCtx}
+use Rattle.nfs_spec.specs.Model.Tree.{Tree}
+use Rattle.nfs_spec.specs.Procedures.Step.{step, numbered_step}
+use Rattle.nfs_spec.proofs.ProceduresLemmas.Numbers.{new_number}
+use Rattle.procs_dispatch.specs.Leads.{IsStepTo}
 
 -- a copy of the tree was changed
 pub changed : (tree copy after : Tree) (ctx : Ctx) (asked : Call) (reply : Reply) → copy ≡ tree

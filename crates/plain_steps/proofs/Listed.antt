@@ -3,10 +3,10 @@ use Rattle.std.proofs.Common.{◌≡◌, ℕ, zero, suc, ◌+◌, ◌<◌, ◌�
 use Rattle.std.proofs.Common.{rules, arith, nat_le, List, [], ◌∷◌, Some, None, inl, inr}
 use Rattle.std.specs.List.{cons_option, filter, filter_map, range_with_len}
 use Rattle.nfs_types.specs.declared.entries.ListedEntry.{ListedEntry}
-use Rattle.model.specs.Node.{Body, Regular, Directory, Link}
-use Rattle.procedures.proofs.Lacking.{equal_or_not}
-use Rattle.procedures.specs.Listing.{listed_in}
-use Rattle.files.specs.Heads.{listed_from}
+use Rattle.nfs_spec.specs.Model.Node.{Body, Regular, Directory, Link}
+use Rattle.nfs_spec.proofs.ProceduresLemmas.Lacking.{equal_or_not}
+use Rattle.nfs_spec.specs.Procedures.Listing.{listed_in}
+use Rattle.procs_files.specs.Heads.{listed_from}
 use Rattle.plain_steps.specs.Slots.{count_slots}
 
 kept : (p : ℕ → Bool) (x : ℕ) (xs : List ℕ) → p x ≡ true → filter p (x ∷ xs) ≡ x ∷ filter p xs

@@ -9,14 +9,14 @@ use Rattle.std.proofs.lemmas.List.Quantifiers.{position-Some}
 use Rattle.std.specs.Cmp.{nat_cmp_total}
 use Rattle.std.specs.FinMap as map
 use Rattle.std.specs.Ordering.{nat_cmp}
-use Rattle.model.proofs.Maps.{entries-empty, sum_insert}
-use Rattle.model.specs.Cost.{cost}
-use Rattle.model.specs.Node.{Node}
-use Rattle.model.specs.Tree.{cost_at}
-use Rattle.procedures.proofs.Sums.{sum_insert_new}
-use Rattle.plain_server.proofs.Found.{find_at, find_none}
-use Rattle.plain_server.specs.Plain.{body_of, node_of, numbered}
-use Rattle.plain_server.specs.declared.tree.NumberedNode.{NumberedNode}
+use Rattle.nfs_spec.proofs.ModelLemmas.Maps.{entries-empty, sum_insert}
+use Rattle.nfs_spec.specs.Model.Cost.{cost}
+use Rattle.nfs_spec.specs.Model.Node.{Node}
+use Rattle.nfs_spec.specs.Model.Tree.{cost_at}
+use Rattle.nfs_spec.proofs.ProceduresLemmas.Sums.{sum_insert_new}
+use Rattle.plain_tree.proofs.TreeLemmas.Found.{find_at, find_none}
+use Rattle.plain_tree.specs.Tree.Plain.{body_of, node_of, numbered}
+use Rattle.plain_tree.specs.declared.tree.tree.NumberedNode.{NumberedNode}
 use Rattle.plain_steps.specs.Numbered.{blocks_of, files_of, weight_at, weight_of}
 
 same_number : (a b : ℕ) → nat_eq a b ≡ true → a ≡ b

@@ -5,10 +5,10 @@ use Rattle.std.specs.Cmp.{nat_cmp_total, unsigned_tied}
 use Rattle.std.specs.FinMap as finmap
 use Rattle.std.specs.FinMap.Entries.{where_key, find-where_key}
 use Rattle.std.specs.Ordering.{eq_by_cmp, nat_cmp}
-use Rattle.model.proofs.Sets.{itself}
-use Rattle.model.specs.Node.{Node}
-use Rattle.plain_server.specs.Plain.{node_of, numbered}
-use Rattle.plain_server.specs.declared.tree.NumberedNode.{NumberedNode}
+use Rattle.nfs_spec.proofs.ModelLemmas.Sets.{itself}
+use Rattle.nfs_spec.specs.Model.Node.{Node}
+use Rattle.plain_tree.specs.Tree.Plain.{node_of, numbered}
+use Rattle.plain_tree.specs.declared.tree.tree.NumberedNode.{NumberedNode}
 use Rattle.plain_steps.specs.Numbered.{files_of}
 
 abbrev eq : ℕ → ℕ → Bool

@@ -4,10 +4,10 @@ use Rattle.std.proofs.Common.{false}
 use Rattle.std.proofs.Common.{cond, ◌||◌, List, [], ◌∷◌, map, nat_eq, Option, Some, None, is_none, is_some}
 use Rattle.std.proofs.Common.{arith}
 use Rattle.std.specs.List.{find, list_any, range_with_len}
-use Rattle.model.specs.Tree.{Tree, node_at}
-use Rattle.procedures.specs.Fresh.{IsNewNumber}
-use Rattle.plain_server.specs.Named.{entry_of}
-use Rattle.plain_server.specs.declared.names.PlainEntry.{PlainEntry}
+use Rattle.nfs_spec.specs.Model.Tree.{Tree, node_at}
+use Rattle.nfs_spec.specs.Procedures.Fresh.{IsNewNumber}
+use Rattle.plain_tree.specs.Tree.Named.{entry_of}
+use Rattle.plain_tree.specs.declared.tree.names.PlainEntry.{PlainEntry}
 use Rattle.plain_steps.specs.Numbered.{least_unused}
 
 module _ (test : ℕ → Bool) where

@@ -5,9 +5,9 @@ use Rattle.std.proofs.Common.{arith}
 use Rattle.std.proofs.lemmas.Iterator.Adapters.{position_from-zero}
 use Rattle.std.proofs.lemmas.List.Quantifiers.{position-Some}
 use Rattle.std.specs.List.{find, position_from}
-use Rattle.model.specs.Node.{DirectoryEntry}
-use Rattle.plain_server.specs.Named.{entry_of}
-use Rattle.plain_server.specs.declared.names.PlainEntry.{PlainEntry}
+use Rattle.nfs_spec.specs.Model.Node.{DirectoryEntry}
+use Rattle.plain_tree.specs.Tree.Named.{entry_of}
+use Rattle.plain_tree.specs.declared.tree.names.PlainEntry.{PlainEntry}
 
 taken : (b : Bool) (x : List ℕ × DirectoryEntry) (o : Option (List ℕ × DirectoryEntry)) → b ≡ true
     → cond b (Some x) o ≡ Some x

@@ -3,7 +3,7 @@ use Rattle.std.proofs.Common.{◌≡◌, ℕ, zero, suc, ◌+◌, ◌-◌, ◌�
 use Rattle.std.specs.FinSet.{FinSet, insert}
 use Rattle.std.specs.List.{range_with_len}
 use Rattle.std.specs.Ordering.{nat_cmp}
-use Rattle.procedures.specs.Write.{mapped_with}
+use Rattle.nfs_spec.specs.Procedures.Write.{mapped_with}
 
 one_more : (mapped : FinSet nat_cmp) (first n : ℕ)
     → mapped_with (range_with_len first (suc n)) mapped

@@ -3,11 +3,11 @@ use Rattle.std.specs.Prelude.{ℕ, ◌-◌, List, map, is_none, Option, Some, No
 use Rattle.std.specs.FinMap.{FinMap, entries, from_entries}
 use Rattle.std.specs.List.{find, range_with_len}
 use Rattle.std.specs.Ordering.{nat_cmp}
-use Rattle.model.specs.Cost.{cost}
-use Rattle.model.specs.Node.{Node}
-use Rattle.model.specs.Tree.{Tree, node_at}
-use Rattle.plain_server.specs.Plain.{numbered}
-use Rattle.plain_server.specs.declared.tree.NumberedNode.{NumberedNode}
+use Rattle.nfs_spec.specs.Model.Cost.{cost}
+use Rattle.nfs_spec.specs.Model.Node.{Node}
+use Rattle.nfs_spec.specs.Model.Tree.{Tree, node_at}
+use Rattle.plain_tree.specs.Tree.Plain.{numbered}
+use Rattle.plain_tree.specs.declared.tree.tree.NumberedNode.{NumberedNode}
 
 -- the files under their numbers: of those of one number the first
 abbrev pub files_of : List NumberedNode → FinMap nat_cmp Node

@@ -1,11 +1,11 @@
 -- What lies in the slots of a directory.
 use Rattle.std.specs.Prelude.{◌≡◌, ℕ, ◌*◌, Option}
 use Rattle.std.specs.Option.{option_map}
-use Rattle.limits.specs.declared.TheConstants.{SLOTS_PER_BLOCK}
-use Rattle.model.specs.Node.{Body, Regular, Directory, Link}
-use Rattle.procedures.specs.Listing.{listed_in}
-use Rattle.files.specs.declared.entry.SlotName.{SlotName}
-use Rattle.files.specs.Heads.{listing_of}
+use Rattle.base.specs.declared.TheConstants.{SLOTS_PER_BLOCK}
+use Rattle.nfs_spec.specs.Model.Node.{Body, Regular, Directory, Link}
+use Rattle.nfs_spec.specs.Procedures.Listing.{listed_in}
+use Rattle.procs_files.specs.declared.entry.SlotName.{SlotName}
+use Rattle.procs_files.specs.Heads.{listing_of}
 
 -- how many slots a directory has
 abbrev pub count_slots : Body → ℕ

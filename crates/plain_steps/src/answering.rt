@@ -1,15 +1,15 @@
 //! One call after another.
 ghost use Rattle.std.specs.Prelude.{◌≡◌, IfOk, IfSome, IfNone, OnErr, is_some, not};
 ghost use Rattle.nfs_types.specs.Fits.{CallFits};
-ghost use Rattle.model.specs.Sound.{Sound, SoundCtx};
-ghost use Rattle.procedures.specs.Step.{step};
-ghost use Rattle.plain_server.specs.Plain.{tree_of};
+ghost use Rattle.nfs_spec.specs.Model.Sound.{Sound, SoundCtx};
+ghost use Rattle.nfs_spec.specs.Procedures.Step.{step};
+ghost use Rattle.plain_tree.specs.Tree.Plain.{tree_of};
 ghost use Rattle.plain_steps.specs.Computed.{is_null};
 
 use crate::changing::answer_changing;
 use crate::telling::answer_telling;
 use nfs_types::{Call, Ctx, Reply};
-use plain_server::PlainTree;
+use plain_tree::PlainTree;
 use std::alloc::{AllocError, Global};
 
 /// One step of the sequential server. NULL has no answer here. An error leaves the tree as it was.

@@ -1,15 +1,15 @@
 //! Calls that change files, over the tree as files.
 ghost use Rattle.std.specs.Prelude.{◌≡◌, IfOk, IfSome, IfNone, OnErr, is_some};
 ghost use Rattle.nfs_types.specs.Fits.{CallFits};
-ghost use Rattle.model.specs.Sound.{Sound, SoundCtx};
-ghost use Rattle.procedures.specs.Step.{step};
-ghost use Rattle.procs_steps.specs.Kinds.{changes};
-ghost use Rattle.plain_server.specs.Plain.{tree_of};
+ghost use Rattle.nfs_spec.specs.Model.Sound.{Sound, SoundCtx};
+ghost use Rattle.nfs_spec.specs.Procedures.Step.{step};
+ghost use Rattle.procs_dispatch.specs.Kinds.{changes};
+ghost use Rattle.plain_tree.specs.Tree.Plain.{tree_of};
 
 use crate::tree_files::PlainFiles;
 use nfs_types::{Call, Ctx, Reply};
-use plain_server::PlainTree;
-use procs_steps::change;
+use plain_tree::PlainTree;
+use procs_dispatch::change;
 use std::alloc::{AllocError, Global};
 
 /// What a call that changes files is answered. The other calls have no answer here. The files change in a copy,

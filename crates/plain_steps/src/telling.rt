@@ -1,13 +1,13 @@
 //! Calls that only tell something, over the tree as files.
 ghost use Rattle.std.specs.Prelude.{◌≡◌, ℕ, IfOk, IfSome, Option, is_some};
-ghost use Rattle.procedures.specs.Step.{numbered_step};
-ghost use Rattle.procs_steps.specs.Kinds.{tells};
-ghost use Rattle.plain_server.specs.Plain.{tree_of};
+ghost use Rattle.nfs_spec.specs.Procedures.Step.{numbered_step};
+ghost use Rattle.procs_dispatch.specs.Kinds.{tells};
+ghost use Rattle.plain_tree.specs.Tree.Plain.{tree_of};
 
 use crate::tree_files::PlainFiles;
 use nfs_types::{Call, Ctx, Reply};
-use plain_server::PlainTree;
-use procs_steps::tell;
+use plain_tree::PlainTree;
+use procs_dispatch::tell;
 use std::alloc::{AllocError, Global};
 use std::mem;
 

@@ -3,10 +3,10 @@
 use Rattle.std.proofs.Common.{◌≡◌, ◌∙◌, ◌+◌, arith, refl, ap, ℕ, Bool, Option, Some, None}
 use Rattle.objects.specs.declared.addr.Addr.{Addr}
 use Rattle.objects.specs.declared.mode.Mode.{Mode}
-use Rattle.log_seats.specs.Steps.{InstComesBack, InstGoesOut, LogComesBack, LogGoesOut}
-use Rattle.pool_calls.specs.Sides.{HandsOutNone, HasTurned, gone}
-use Rattle.pool_calls.specs.declared.turn.Turn.{Turn}
-use Rattle.pool_calls.specs.declared.turn.Turn.TheVariants as turn
+use Rattle.wal_calls.specs.Callers.Steps.{InstComesBack, InstGoesOut, LogComesBack, LogGoesOut}
+use Rattle.wal_calls.specs.Seats.Sides.{HandsOutNone, HasTurned, gone}
+use Rattle.wal_calls.specs.declared.seats.turn.Turn.{Turn}
+use Rattle.wal_calls.specs.declared.seats.turn.Turn.TheVariants as turn
 use Rattle.procs.specs.Outcome.{Outcome}
 use Rattle.store_promise.specs.declared.events.Step.{Step}
 use Rattle.store_workers.proofs.WorkCases.{Cases, by_cases}
@@ -20,9 +20,9 @@ use Rattle.txn.specs.declared.outcomes.Commit.{Commit}
 use Rattle.txn.specs.declared.outcomes.Commit.TheVariants as commit
 use Rattle.txn.specs.declared.outcomes.Want.{Want}
 use Rattle.txn.specs.declared.outcomes.Want.TheVariants as want
-use Rattle.wal_law.specs.Installer.{may_install}
-use Rattle.wal_law.specs.Io.{Io}
-use Rattle.wal_law.specs.Logger.{may_log}
+use Rattle.circ.specs.Log.Installer.{may_install}
+use Rattle.circ.specs.Log.Io.{Io}
+use Rattle.circ.specs.Log.Logger.{may_log}
 
 -- ---- a step of a worker
 

@@ -3,8 +3,8 @@ use Rattle.std.proofs.Common.{◌≡◌, ◌∙◌, refl, sym, ap, subst, ℕ, L
 use Rattle.std.specs.Prelude.{IsSomeAnd, IsTrue, MatchOption, if◌then◌else◌, is_some, option_map, ◌↔◌, ◌≤◌, unwrap_or}
 use Rattle.disk.specs.Ports.{AnsweredCalls}
 use Rattle.disk.specs.declared.block.BlockNo.{BlockNo}
-use Rattle.model.specs.Calls.{begins_transaction, is_answered_stable}
-use Rattle.model.specs.Refused.{refused}
+use Rattle.nfs_spec.specs.Model.Calls.{begins_transaction, is_answered_stable}
+use Rattle.nfs_spec.specs.Model.Refused.{refused}
 use Rattle.nfs_types.specs.declared.call.Call.{Call}
 use Rattle.nfs_types.specs.declared.reply.Reply.{Reply}
 use Rattle.nfs_types.specs.declared.reply.Reply.TheVariants.{Null}
@@ -49,10 +49,10 @@ use Rattle.txn.specs.declared.outcomes.Commit.{Commit}
 use Rattle.txn.specs.declared.outcomes.Commit.TheVariants as commit
 use Rattle.txn.specs.declared.outcomes.Want.{Want}
 use Rattle.txn.specs.declared.outcomes.Want.TheVariants as want
-use Rattle.wal_law.specs.Log.{settled_place}
-use Rattle.wal_law.specs.declared.outcomes.Seq.{Seq}
-use Rattle.pool_answers.specs.Evident.{Answered, IsInItsPlace, IsOwn}
-use Rattle.pool_jobs.specs.Sent.{Sent}
+use Rattle.circ.specs.Log.Log.{settled_place}
+use Rattle.circ.specs.declared.log.outcomes.Seq.{Seq}
+use Rattle.pool_requests.specs.Answers.Evident.{Answered, IsInItsPlace, IsOwn}
+use Rattle.pool_requests.specs.Jobs.Sent.{Sent}
 use Rattle.pool.specs.Answers.{GivesBy, GivesFor, body_of, errand_after, errand_with, given_to, kept, way_by}
 use Rattle.pool.specs.Seated.{HasCall, IsOf, IsSeated, StandsWith, WaitsWith}
 use Rattle.pool.specs.Stepping.{ReadsFrom}

@@ -1,6 +1,6 @@
 -- What a step gives, and what it leaves of a job at its seat.
 use Rattle.std.specs.Prelude.{◌≡◌, ◌≤◌, true, false, Option, Some, None, IsSomeAnd}
-use Rattle.model.specs.Calls.{begins_transaction, is_answered_stable}
+use Rattle.nfs_spec.specs.Model.Calls.{begins_transaction, is_answered_stable}
 use Rattle.nfs_types.specs.declared.reply.Reply.TheVariants.{Null}
 use Rattle.procs.specs.Outcome.{Outcome}
 use Rattle.rpc.specs.declared.refusal.Refusal.TheVariants.{SystemError}
@@ -15,11 +15,11 @@ use Rattle.store_promise.specs.declared.events.Step.{Step}
 use Rattle.store_promise.specs.declared.events.Step.TheVariants as step
 use Rattle.txn.specs.Core.{CoreState}
 use Rattle.txn.specs.Receipts.{Given}
-use Rattle.wal_law.specs.Log.{settled_place}
-use Rattle.pool_answers.specs.Evident.{Answered, IsInItsPlace, IsOwn, answer_to as made_of, with_reply}
-use Rattle.pool_answers.specs.declared.evidence.Evidence.{Evidence}
-use Rattle.pool_answers.specs.declared.evidence.Evidence.TheVariants as evidence
-use Rattle.pool_jobs.specs.Sent.{Sent}
+use Rattle.circ.specs.Log.Log.{settled_place}
+use Rattle.pool_requests.specs.Answers.Evident.{Answered, IsInItsPlace, IsOwn, answer_to as made_of, with_reply}
+use Rattle.pool_requests.specs.declared.answers.evidence.Evidence.{Evidence}
+use Rattle.pool_requests.specs.declared.answers.evidence.Evidence.TheVariants as evidence
+use Rattle.pool_requests.specs.Jobs.Sent.{Sent}
 use Rattle.pool.specs.Errand.{Errand}
 use Rattle.pool.specs.declared.errand.Way.{Way}
 use Rattle.pool.specs.declared.errand.Way.TheVariants as way

@@ -1,7 +1,7 @@
 -- What a clause sees of what a seat has of its job.
 use Rattle.std.specs.Prelude.{Option}
-use Rattle.pool_answers.specs.Evident.{Answered}
-use Rattle.pool_jobs.specs.Sent.{Sent}
+use Rattle.pool_requests.specs.Answers.Evident.{Answered}
+use Rattle.pool_requests.specs.Jobs.Sent.{Sent}
 use Rattle.procs.specs.Outcome.{Outcome}
 use Rattle.txn.specs.Receipts.{Given}
 

@@ -3,7 +3,7 @@ use Rattle.std.specs.Prelude.{◌≡◌, ◌↔◌, length, IsTrue}
 use Rattle.procs.specs.Finished.{HasPlan}
 use Rattle.txn_law.specs.CoreLaw.{IsLawfulCore}
 use Rattle.txn.specs.Core.{CoreState}
-use Rattle.wal_law.specs.Log.{settled_place, tail_count}
+use Rattle.circ.specs.Log.Log.{settled_place, tail_count}
 use Rattle.pool.specs.declared.locked.look.Look.{Look}
 
 -- a core that keeps its laws: its window of commits is legal, and no two holders overlap

@@ -1,6 +1,6 @@
 -- What holds of a worker at its seat between its steps.
 use Rattle.std.specs.Prelude.{◌≡◌, Option, Some, None, IsSomeAnd}
-use Rattle.model.specs.Refused.{refused}
+use Rattle.nfs_spec.specs.Model.Refused.{refused}
 use Rattle.nfs_types.specs.declared.status.Status.TheVariants as status
 use Rattle.procs.specs.Outcome.{Outcome}
 use Rattle.store_workers.specs.declared.workers.parts.Phase.{Phase}
@@ -10,9 +10,9 @@ use Rattle.store_workers.specs.declared.workers.parts.Phase.TheVariants.{Refused
 use Rattle.store_workers.specs.declared.workers.parts.Job as own
 use Rattle.store_workers.specs.declared.workers.parts.State.{State}
 use Rattle.txn.specs.Receipts.{Given}
-use Rattle.wal_law.specs.declared.outcomes.Seq.{Seq}
-use Rattle.pool_answers.specs.Evident.{IsOwn}
-use Rattle.pool_jobs.specs.Sent.{Sent}
+use Rattle.circ.specs.declared.log.outcomes.Seq.{Seq}
+use Rattle.pool_requests.specs.Answers.Evident.{IsOwn}
+use Rattle.pool_requests.specs.Jobs.Sent.{Sent}
 use Rattle.pool.specs.Errand.{Errand}
 
 -- it is the call of the job, for its credential, and at the moment at which it was taken up

@@ -18,9 +18,9 @@ use Rattle.store_workers.specs.declared.workers.parts.State.{State}
 use Rattle.txn.specs.Core.{CoreState}
 use Rattle.txn.specs.Receipts.{Given}
 use Rattle.procs.specs.Outcome.{Outcome}
-use Rattle.pool_calls.specs.declared.turn.Turn.{Turn}
-use Rattle.pool_calls.specs.declared.turn.Turn.TheVariants as turn
-use Rattle.pool_jobs.specs.declared.job.Job.{Job}
+use Rattle.wal_calls.specs.declared.seats.turn.Turn.{Turn}
+use Rattle.wal_calls.specs.declared.seats.turn.Turn.TheVariants as turn
+use Rattle.pool_requests.specs.declared.jobs.job.Job.{Job}
 use Rattle.pool.specs.Answers.{errand_after, no_errand}
 use Rattle.pool.specs.Working.{Working}
 use Rattle.pool.specs.declared.told.Told.{Told}

@@ -5,11 +5,11 @@ ghost use Rattle.disk.specs.declared.block.Side.TheVariants.{Home, Log};
 use crate::locked::Begun;
 use crate::{Locked, Seat, Shared};
 use disk::{Port, Source, Splits};
-use pool_calls::{IoSeat, Whole};
 use std::alloc::{AllocError, Global};
 use std::sync::Mutex;
 use std::sync::ledger::{Blank, Ledger, Share};
 use store_images::TakenApart;
+use wal_calls::{IoSeat, Whole};
 
 /// What the threads of a store share, and where each sits, with its own part of the device.
 pub struct Pool<L: Ledger, G: Whole, I: Whole, P: Port, S> {

@@ -1,13 +1,13 @@
 //! The device calls of workers, logger and installer, apart from the lock.
 ghost use Rattle.std.specs.Prelude.{◌≡◌, ◌↔◌, IsTrue};
 ghost use Rattle.pool.specs.Stepping.{ReadsFrom};
-ghost use Rattle.pool_calls.specs.Numbers.{MakesCall, due};
+ghost use Rattle.wal_calls.specs.Seats.Numbers.{MakesCall, due};
 ghost use Rattle.store_workers.specs.declared.workers.parts.Phase.TheVariants.{Reading};
 
 use crate::Seat;
 use disk::{Port, Side, Source};
-use pool_calls::{Gate, IoSeat, Point, Whole, make_call};
 use std::sync::ledger::Ledger;
+use wal_calls::{Gate, IoSeat, Point, Whole, make_call};
 
 /// Makes the read that a worker has due, if one is, by the seat's own source. It answers whether there was one.
 pub fn worker_io<L: Ledger, S: Source, T: Gate>(

@@ -1,14 +1,14 @@
 //! How the threads of a store end.
 ghost use Rattle.std.specs.Prelude.{◌≡◌, ◌+◌, ◌⊎◌, false, true, IfErr, IfOk};
-ghost use Rattle.wal_law.specs.Log.{settled_place};
+ghost use Rattle.circ.specs.Log.Log.{settled_place};
 
 use crate::Pool;
 use disk::Port;
-use pool_calls::Whole;
 use procs::Done;
 use std::sync::Wait;
 use std::sync::ledger::Ledger;
 use txn::Core;
+use wal_calls::Whole;
 
 /// A core that came out of its lock with each of its commits settled, and that isn't broken. Only `end` makes one.
 #[derive(Drop)]

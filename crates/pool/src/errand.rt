@@ -3,16 +3,14 @@ ghost use Rattle.std.specs.Prelude.{◌≡◌, ◌≤◌, IsSomeAnd, IsTrue};
 ghost use Rattle.pool.specs.Answers.{GivesBy, answer_of, body_of, errand_with, given_to, kept, way_by};
 
 use nfs_types::ProgramReply;
-use pool_answers::Answer;
-use pool_jobs::Ticket;
-use procs::Done;
+use pool_requests::{Answer, Ticket};
+use procs::{Done, Voucher};
 use rpc::Refusal;
 use session_wire::ReplyBody;
 use std::marker::Model;
 use std::sync::ledger::{Ledger, Share};
 use store_promise::{CallAnswer, Committing, Step, Verdict};
 use txn::{Core, Seq};
-use vouchers::Voucher;
 
 /// What a seat has of the job that it was handed last: where its answer goes, until it is answered; what shows that its
 /// procedure was committed; and the answer that lies ready.

@@ -15,10 +15,10 @@ pub use beginning::{Ledgers, Pool, begin};
 pub use device_calls::{installer_io, logger_io, worker_io};
 pub use ending::{Ended, Unsettled, end};
 pub use locked::{Locked, Look, installer_step, logger_step, worker_step};
-pub use log_seats::Caller;
-pub use pool_answers::{Answer, Put, ReplyBytes};
-pub use pool_calls::{Gate, IoSeat, NoGate, Point, Turn, Whole};
-pub use pool_jobs::{Bearer, ConnectionKey, Connections, Immediate, Job, Received, Stream};
+pub use pool_requests::{
+    Answer, Bearer, ConnectionKey, Connections, Immediate, Job, Put, Received, ReplyBytes, Stream,
+};
 pub use seat::Seat;
 pub use shared::Shared;
 pub use told::Told;
+pub use wal_calls::{Caller, Gate, IoSeat, NoGate, Point, Turn, Whole};

@@ -9,11 +9,11 @@ mod steps;
 
 pub(crate) use beginning::Begun;
 pub use look::Look;
-use pool_calls::Whole;
 use procs::Done;
 use std::sync::ledger::{Book, Ledger};
 pub use steps::{installer_step, logger_step, worker_step};
 use txn::Core;
+use wal_calls::Whole;
 
 /// The core, the book of its commits, and those of the device calls that it has handed out. Its type keeps that the
 /// core's counts of commits and of device calls are the books' totals, with the calls that were handed out before the

@@ -4,8 +4,7 @@ ghost use Rattle.std.specs.Prelude.{◌≡◌, ◌<◌};
 use crate::Told;
 use crate::work::Work;
 use nfs_types::Moment;
-use pool_answers::Answer;
-use pool_jobs::Job;
+use pool_requests::{Answer, Job};
 use std::alloc::Global;
 use std::sync::ledger::{Ledger, Share};
 use txn::Seq;
@@ -22,8 +21,8 @@ pub struct Seat<L: Ledger, S> {
 
 impl<L: Ledger, S> Seat<L, S> {
     ghost use Rattle.std.specs.Prelude.{◌≡◌, ◌<◌, ◌↔◌, IsTrue, IsErr, IfErr, IfSome, OnOk, None};
-    ghost use Rattle.model.specs.Sound.{SoundTime};
-    ghost use Rattle.pool_answers.specs.Evident.{IsEvident};
+    ghost use Rattle.nfs_spec.specs.Model.Sound.{SoundTime};
+    ghost use Rattle.pool_requests.specs.Answers.Evident.{IsEvident};
     ghost use Rattle.pool.specs.Stepping.{IsFree, seated, with_job};
     ghost use Rattle.store_workers.specs.SourceReads.{place_awaited};
     ghost use Rattle.store_workers.specs.declared.workers.parts.Phase.TheVariants.{Reading};

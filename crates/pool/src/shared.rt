@@ -1,22 +1,22 @@
 //! The lock.
 ghost use Rattle.std.specs.Prelude.{◌≡◌, ◌+◌, ◌≤◌, length, None, IsSome};
-ghost use Rattle.log_seats.specs.Steps.{HasEnded, InstComesBack, InstGoesOut, LogComesBack, LogGoesOut};
+ghost use Rattle.wal_calls.specs.Callers.Steps.{HasEnded, InstComesBack, InstGoesOut, LogComesBack, LogGoesOut};
 ghost use Rattle.pool.specs.Locking.{IsLawful, LooksAt};
 ghost use Rattle.pool.specs.Stepping.{HasStepped, grown};
-ghost use Rattle.pool_calls.specs.Sides.{HasTurned};
+ghost use Rattle.wal_calls.specs.Seats.Sides.{HasTurned};
 ghost use Rattle.store_workers.specs.Ended.{GivesAllBack};
 ghost use Rattle.txn.specs.Core.{CoreState};
-ghost use Rattle.wal_law.specs.Installer.{may_install};
-ghost use Rattle.wal_law.specs.Logger.{may_log};
+ghost use Rattle.circ.specs.Log.Installer.{may_install};
+ghost use Rattle.circ.specs.Log.Logger.{may_log};
 
 use crate::{Locked, Look, Seat, installer_step, logger_step, worker_step};
 use disk::{Port, Side};
-use pool_calls::{IoSeat, Turn, Whole};
 use procs::Done;
 use std::alloc::Global;
 use std::sync::ledger::{Ledger, Share};
 use std::sync::{Mutex, Wait};
 use txn::Core;
+use wal_calls::{IoSeat, Turn, Whole};
 
 /// The lock round the one core. Each call takes it for one step, and may wait for it.
 #[derive(Drop)]

@@ -10,10 +10,8 @@ use crate::Told;
 use crate::errand::Errand;
 use disk::Source;
 use nfs_types::Moment;
-use pool_answers::Answer;
-use pool_calls::Turn;
-use pool_jobs::Job;
-use procs::Done;
+use pool_requests::{Answer, Job};
+use procs::{Done, Voucher};
 use std::alloc::Global;
 use std::marker::Model;
 use std::mem;
@@ -21,7 +19,7 @@ use std::sync::ledger::{Ledger, Share};
 use store_promise::{CallAnswer, Committing, Step, Wish};
 use store_workers::Worker;
 use txn::{Core, Seq};
-use vouchers::Voucher;
+use wal_calls::Turn;
 
 /// A worker with what its seat has of the job that it was handed last. Its type keeps that what the worker has is the
 /// job's, and that it waits only for the place of the job's own change.
@@ -45,9 +43,9 @@ impl<L: Ledger> Model for Work<L> {
 
 impl<L: Ledger> Work<L> {
     ghost use Rattle.std.specs.Prelude.{◌≡◌, ◌+◌, ◌↔◌, IsTrue, IsErr, IfErr, IfSome, OnOk, None};
-    ghost use Rattle.model.specs.Sound.{SoundTime};
-    ghost use Rattle.pool_answers.specs.Evident.{IsEvident};
-    ghost use Rattle.pool_calls.specs.Sides.{HandsOutNone};
+    ghost use Rattle.nfs_spec.specs.Model.Sound.{SoundTime};
+    ghost use Rattle.pool_requests.specs.Answers.Evident.{IsEvident};
+    ghost use Rattle.wal_calls.specs.Seats.Sides.{HandsOutNone};
     ghost use Rattle.pool.specs.Stepping.{HasStepped, IsFree, ReadsFrom, grown, seated, with_job};
     ghost use Rattle.store_workers.specs.SourceReads.{place_awaited};
     ghost use Rattle.store_workers.specs.Ended.{GivesAllBack};

@@ -5,10 +5,10 @@ use Rattle.nfs_types.specs.Fits.{CallFits}
 use Rattle.nfs_types.specs.declared.call.Call.{Call}
 use Rattle.nfs_types.specs.declared.ctx.Ctx.{Ctx}
 use Rattle.nfs_types.specs.declared.reply.Reply.{Reply}
-use Rattle.model.specs.Sound.{Sound, SoundCtx}
-use Rattle.model.specs.Tree.{Tree}
-use Rattle.procedures.specs.Step.{step}
-use Rattle.procedures.proofs.SoundSteps.{step_sound}
+use Rattle.nfs_spec.specs.Model.Sound.{Sound, SoundCtx}
+use Rattle.nfs_spec.specs.Model.Tree.{Tree}
+use Rattle.nfs_spec.specs.Procedures.Step.{step}
+use Rattle.nfs_spec.proofs.ProceduresLemmas.SoundSteps.{step_sound}
 use Rattle.layout.specs.declared.geometry.Geometry.{Geometry}
 use Rattle.layout.specs.Holds.{Holds}
 use Rattle.layout.specs.Stands.{Stands}
@@ -20,8 +20,8 @@ use Rattle.inode.specs.declared.stop.Stop.{Stop}
 use Rattle.inode.specs.declared.stop.Stop.TheVariants as stop
 use Rattle.inode.specs.Over.{IsPause}
 use Rattle.inode.specs.Read.{AreAsRead, NoneStand, Saw}
-use Rattle.drafts.specs.Drafted.{Drafted, IsDraft}
-use Rattle.procs_steps.specs.Leads.{IsStepTo}
+use Rattle.inode.specs.Drafts.Drafted.{Drafted, IsDraft}
+use Rattle.procs_dispatch.specs.Leads.{IsStepTo}
 use Rattle.procs.specs.Outcome.{IsDoneFor, Outcome}
 use Rattle.procs.specs.SoundCalls.{SoundCall}
 use Rattle.procs.specs.Steps.{IsStepOf, NoneStandFor}

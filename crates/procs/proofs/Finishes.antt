@@ -1,9 +1,9 @@
 -- What is worked out for a call that can be spelled is finished.
 use Rattle.std.proofs.Common.{◌≡◌, sym, subst, true}
-use Rattle.limits.specs.declared.TheConstants.{CHANGED_BLOCKS}
+use Rattle.base.specs.declared.TheConstants.{CHANGED_BLOCKS}
 use Rattle.nfs_types.specs.declared.call.Call.{Call}
 use Rattle.nfs_types.specs.declared.ctx.Ctx.{Ctx}
-use Rattle.model.specs.Calls.{begins_transaction}
+use Rattle.nfs_spec.specs.Model.Calls.{begins_transaction}
 use Rattle.inode.specs.declared.snap.Snap.{Snap}
 use Rattle.procs.specs.Finished.{ChangesFew, EndsFrom, IsFinished}
 use Rattle.procs.specs.Outcome.{IsMadeFor, Outcome}

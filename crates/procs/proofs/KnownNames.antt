@@ -7,9 +7,9 @@ use Rattle.objects.specs.declared.addr.Addr.{Addr}
 use Rattle.txn.specs.Object.{ObjectBytes}
 use Rattle.inode.specs.Snap.{is_seen, with_read}
 use Rattle.inode.specs.declared.snap.Snap.{Snap}
-use Rattle.name_search.specs.declared.names.Names.{Names}
-use Rattle.name_search.specs.Known.{IsKnown, IsOfCall}
-use Rattle.name_search.proofs.Stays.{stays}
+use Rattle.dir.specs.declared.search.names.Names.{Names}
+use Rattle.dir.specs.Search.Known.{IsKnown, IsOfCall}
+use Rattle.dir.proofs.SearchLemmas.Stays.{stays}
 use Rattle.procs.specs.Planning.{AreOf, IsKnownBy}
 
 same_names : (a b : Names) → ◌≡◌ {A = Option Names} (Some a) (Some b) → a ≡ b

@@ -8,10 +8,10 @@ use Rattle.nfs_types.specs.declared.call.Call.{Call}
 use Rattle.nfs_types.specs.declared.call.Call.TheVariants as call
 use Rattle.nfs_types.specs.declared.ctx.Ctx.{Ctx}
 use Rattle.nfs_types.specs.declared.reply.Reply.TheVariants.{Null}
-use Rattle.model.specs.Calls.{begins_transaction}
-use Rattle.model.specs.Node.{Regular}
-use Rattle.model.specs.Tree.{Tree, node_at}
-use Rattle.procedures.specs.Step.{step}
+use Rattle.nfs_spec.specs.Model.Calls.{begins_transaction}
+use Rattle.nfs_spec.specs.Model.Node.{Regular}
+use Rattle.nfs_spec.specs.Model.Tree.{Tree, node_at}
+use Rattle.nfs_spec.specs.Procedures.Step.{step}
 use Rattle.layout.specs.Decode.{body_of, file_of, inode_at, mapped_of, node_with, numbers_of}
 use Rattle.layout.specs.Parts.{content_in}
 use Rattle.layout.specs.Stands.{Stands}

@@ -2,14 +2,14 @@
 use Rattle.std.proofs.Common.{rules, ◌≡◌, ℕ, ◌^◌, ◌<◌, inl, inr, sym, ap, ◌∙◌, subst, true, false}
 use Rattle.std.proofs.Common.{◌&&◌, nat_eq, not, refl, List, [], Option, Some, None, Result, Ok, Err, arith}
 use Rattle.std.proofs.lemmas.Bool.{eq-eqb}
-use Rattle.limits.specs.declared.TheConstants.{BLOCK_BYTES}
+use Rattle.base.specs.declared.TheConstants.{BLOCK_BYTES}
 use Rattle.disk.specs.Crash.{Image}
 use Rattle.nfs_types.specs.Handle.{handle_bytes}
 use Rattle.nfs_types.specs.declared.handle.Stamp.{Stamp}
 use Rattle.nfs_types.specs.declared.call.Call.{Call}
 use Rattle.nfs_types.specs.declared.status.Status.TheVariants as status
-use Rattle.model.specs.Find.{number_in, stamp_in}
-use Rattle.model.specs.Refused.{refused}
+use Rattle.nfs_spec.specs.Model.Find.{number_in, stamp_in}
+use Rattle.nfs_spec.specs.Model.Refused.{refused}
 use Rattle.layout.specs.declared.fault.LayoutFault.{LayoutFault}
 use Rattle.layout.specs.declared.fault.LayoutFault.TheVariants.{Range}
 use Rattle.layout.specs.declared.geometry.Geometry.{Geometry}
@@ -27,8 +27,8 @@ use Rattle.objects.specs.declared.addr.Addr.{Addr}
 use Rattle.nfs_types.specs.declared.handle.Handle.{Handle}
 use Rattle.layout.specs.Places.{is_data}
 use Rattle.inode.specs.Read.{WasRead, WasReadInode}
-use Rattle.inspection.specs.Refused.{IsRefused, refused_block, refused_indirect, refused_numbers}
-use Rattle.inspection.proofs.Seen.{seen_of}
+use Rattle.procs_inspection.specs.Refused.{IsRefused, refused_block, refused_indirect, refused_numbers}
+use Rattle.procs_inspection.proofs.Seen.{seen_of}
 
 pub number_read : (number : ℕ) (stamp : Stamp) → number < 2 ^ 32
     → number_in (handle_bytes number stamp) ≡ number

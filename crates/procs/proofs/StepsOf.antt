@@ -4,8 +4,8 @@ use Rattle.disk.specs.Crash.{Image}
 use Rattle.nfs_types.specs.declared.call.Call.{Call}
 use Rattle.nfs_types.specs.declared.ctx.Ctx.{Ctx}
 use Rattle.nfs_types.specs.declared.reply.Reply.{Reply}
-use Rattle.model.specs.Tree.{Tree}
-use Rattle.procedures.specs.Step.{step}
+use Rattle.nfs_spec.specs.Model.Tree.{Tree}
+use Rattle.nfs_spec.specs.Procedures.Step.{step}
 use Rattle.layout.specs.declared.geometry.Geometry.{Geometry}
 use Rattle.layout.specs.Stands.{Stands}
 use Rattle.txn.specs.Object.{ObjectBytes}

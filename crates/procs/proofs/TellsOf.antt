@@ -4,9 +4,9 @@ use Rattle.disk.specs.Crash.{Image}
 use Rattle.nfs_types.specs.declared.call.Call.{Call}
 use Rattle.nfs_types.specs.declared.ctx.Ctx.{Ctx}
 use Rattle.nfs_types.specs.declared.reply.Reply.{Reply}
-use Rattle.model.specs.Tree.{Tree}
-use Rattle.procedures.specs.Step.{numbered_step}
-use Rattle.procedures.proofs.Numbers.{new_number}
+use Rattle.nfs_spec.specs.Model.Tree.{Tree}
+use Rattle.nfs_spec.specs.Procedures.Step.{numbered_step}
+use Rattle.nfs_spec.proofs.ProceduresLemmas.Numbers.{new_number}
 use Rattle.layout.proofs.Holding.{holds_of}
 use Rattle.inode.specs.declared.snap.Snap.{Snap}
 use Rattle.inode.specs.declared.stop.Stop.{Stop}

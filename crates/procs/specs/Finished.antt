@@ -1,10 +1,10 @@
 -- What comes of a call.
 use Rattle.std.specs.Prelude.{◌≡◌, ◌≤◌, ℕ, List, length, true, All}
-use Rattle.limits.specs.declared.TheConstants.{CHANGED_BLOCKS}
+use Rattle.base.specs.declared.TheConstants.{CHANGED_BLOCKS}
 use Rattle.nfs_types.specs.declared.call.Call.{Call}
 use Rattle.nfs_types.specs.declared.ctx.Ctx.{Ctx}
 use Rattle.nfs_types.specs.declared.reply.Reply.{Reply}
-use Rattle.model.specs.Calls.{begins_transaction}
+use Rattle.nfs_spec.specs.Model.Calls.{begins_transaction}
 use Rattle.txn.specs.Answering.{OfSome}
 use Rattle.txn.specs.Group.{blocks_of}
 use Rattle.txn.specs.Object.{ObjectBytes}

@@ -2,7 +2,7 @@
 use Rattle.std.specs.Prelude.{◌≡◌, false}
 use Rattle.nfs_types.specs.declared.call.Call.{Call}
 use Rattle.nfs_types.specs.declared.ctx.Ctx.{Ctx}
-use Rattle.limits.specs.declared.TheConstants.{CHANGED_BLOCKS}
+use Rattle.base.specs.declared.TheConstants.{CHANGED_BLOCKS}
 use Rattle.layout.specs.declared.geometry.Geometry.{Geometry}
 use Rattle.procs.specs.declared.next.Plan.{Plan}
 use Rattle.procs.specs.declared.next.Plan.TheVariants as plan

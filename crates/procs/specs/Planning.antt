@@ -2,8 +2,8 @@
 use Rattle.std.specs.Prelude.{◌≡◌, Option, Some}
 use Rattle.nfs_types.specs.declared.call.Call.{Call}
 use Rattle.inode.specs.declared.snap.Snap.{Snap}
-use Rattle.name_search.specs.declared.names.Names.{Names}
-use Rattle.name_search.specs.Known.{IsKnown, IsOfCall}
+use Rattle.dir.specs.declared.search.names.Names.{Names}
+use Rattle.dir.specs.Search.Known.{IsKnown, IsOfCall}
 
 -- what is known of them is so by what was read
 pub record IsKnownBy (snap : Snap) (names : Option Names) : Type 0 where

@@ -3,7 +3,7 @@ use Rattle.std.specs.Prelude.{if◌then◌else◌}
 use Rattle.nfs_types.specs.declared.call.Call.{Call}
 use Rattle.objects.specs.declared.mode.Mode.{Mode}
 use Rattle.objects.specs.declared.mode.Mode.TheVariants as modes
-use Rattle.procs_steps.specs.Kinds.{changes}
+use Rattle.procs_dispatch.specs.Kinds.{changes}
 
 -- alone where the call changes files, and else beside others
 abbrev pub reading_mode : Call → Mode

@@ -1,7 +1,7 @@
 -- When the layout refuses what a call's first handle names, or something that was read for the call.
 use Rattle.std.specs.Prelude.{◌≡◌, ◌≢◌, ℕ, ◌<◌, ◌⊎◌, false, List, [], Option, Some, None, Ok, Err, length}
 use Rattle.std.specs.List.{list_all}
-use Rattle.limits.specs.declared.TheConstants.{BLOCK_BYTES, HANDLE_BYTES, INDIRECT_INDEXES}
+use Rattle.base.specs.declared.TheConstants.{BLOCK_BYTES, HANDLE_BYTES, INDIRECT_INDEXES}
 use Rattle.nfs_types.specs.declared.call.Call.{Call}
 use Rattle.nfs_types.specs.declared.call.Call.TheVariants as call
 use Rattle.nfs_types.specs.declared.handle.Handle.{Handle}
@@ -13,14 +13,14 @@ use Rattle.layout.specs.declared.inode.Inode.{Inode}
 use Rattle.layout.specs.Decode.{inode_at}
 use Rattle.layout.specs.Fields.{numbers_at}
 use Rattle.layout.specs.InodeForm.{is_data_block_or_none}
-use Rattle.model.specs.Find.{number_in, stamp_in}
-use Rattle.model.specs.Refused.{refused}
+use Rattle.nfs_spec.specs.Model.Find.{number_in, stamp_in}
+use Rattle.nfs_spec.specs.Model.Refused.{refused}
 use Rattle.procs.specs.declared.next.Plan.{Plan}
 use Rattle.procs.specs.declared.next.Plan.TheVariants as plan
 use Rattle.inode.specs.declared.snap.Snap.{Snap}
 use Rattle.procs.specs.Outcome.{Outcome}
 use Rattle.inode.specs.Read.{Saw}
-use Rattle.inspection.specs.Refused.{IsRefused}
+use Rattle.procs_inspection.specs.Refused.{IsRefused}
 
 -- the inode has an indirect block, and this names what is no data block
 pub record NamesNoData (g : Geometry) (blocks : Image) (inode : Inode) : Type 0 where

@@ -4,7 +4,7 @@ use Rattle.nfs_types.specs.Fits.{CallFits}
 use Rattle.nfs_types.specs.declared.call.Call.{Call}
 use Rattle.nfs_types.specs.declared.ctx.Credential.{Credential}
 use Rattle.nfs_types.specs.declared.ctx.Moment.{Moment}
-use Rattle.model.specs.Sound.{SoundTime}
+use Rattle.nfs_spec.specs.Model.Sound.{SoundTime}
 
 -- a call that can be spelled (RFC 1813, RFC 5531): of whom, when, at less than a second of nanoseconds, and which
 pub record SoundCall (credential : Credential) (moment : Moment) (call : Call) : Type 0 where

@@ -2,9 +2,9 @@
 //! the procedure is run again once all of it was read.
 ghost use Rattle.std.specs.Prelude.{◌≡◌, ◌≤◌, IfErr, IfSome};
 ghost use Rattle.inode.specs.declared.stop.Stop.TheVariants.{NoMemory};
-ghost use Rattle.limits.specs.declared.TheConstants.{FILE_INDEXES};
+ghost use Rattle.base.specs.declared.TheConstants.{FILE_INDEXES};
 ghost use Rattle.inode.specs.Over.{MayStop};
-ghost use Rattle.procedures.specs.Listing.{entry_room};
+ghost use Rattle.nfs_spec.specs.Procedures.Listing.{entry_room};
 
 use crate::entering::Entering;
 use crate::freeing::Freeing;
@@ -14,18 +14,17 @@ use crate::pointers::{Pointers, ask_data, pointers_of};
 use crate::reading::first_handle;
 use crate::shrinking::{cut_at, cut_for, named, unnamed};
 use crate::writing::Writing;
-use block_files::BlockFiles;
-use dir::next_name;
-use files::Files;
-use inode::{Snap, Stop, ask_block, held};
-use layout::{Inode, InodeKind};
-use limits::{
+use base::{
     BLOCK_BYTES, ENTRY_BYTES, ENTRY_PLUS_BYTES, LARGEST_FILE, LISTING_BYTES, LISTING_FRAME,
     TRANSFER_BYTES,
 };
-use name_search::Names;
+use dir::{Names, next_name};
+use inode::{Snap, Stop, ask_block, held};
+use layout::{Inode, InodeKind};
+use nfs_spec::{ITSELF_COOKIE, PARENT_COOKIE};
 use nfs_types::{Call, DirectoryName, Handle};
-use procedures::{ITSELF_COOKIE, PARENT_COOKIE};
+use procs_blocks::BlockFiles;
+use procs_files::Files;
 use std::alloc::{AllocError, Global};
 
 /// Nothing; the blocks of a file that a READ asks for; what a WRITE asks for; what a name asks for that a directory

@@ -1,6 +1,6 @@
 //! What a planner goes by beside a run, and a plan that is begun anew.
 ghost use Rattle.std.specs.Prelude.{◌≡◌, true};
-ghost use Rattle.model.specs.Calls.{begins_transaction};
+ghost use Rattle.nfs_spec.specs.Model.Calls.{begins_transaction};
 ghost use Rattle.inode.specs.declared.snap.Snap.{Snap};
 ghost use Rattle.procs.specs.Planned.{IsPlanFor, IsPlanOf, IsStepPlan};
 ghost use Rattle.procs.specs.Planning.{AreOf, IsKnownBy};
@@ -9,8 +9,8 @@ ghost use Rattle.procs.specs.SoundCalls.{SoundCall};
 
 use crate::next::Plan;
 use crate::work::run;
+use dir::Names;
 use inode::{Snap, Stop};
-use name_search::Names;
 use nfs_types::{Call, Ctx};
 use std::alloc::Global;
 

@@ -1,17 +1,17 @@
 //! Calls that change files, over the blocks of an image.
 ghost use Rattle.std.specs.Prelude.{◌≡◌, ◌^◌, ◌<◌, true, IfErr, IfOk};
 ghost use Rattle.inode.specs.Snap.{IsNew};
-ghost use Rattle.procs_steps.specs.Kinds.{changes};
+ghost use Rattle.procs_dispatch.specs.Kinds.{changes};
 ghost use Rattle.procs.specs.Asks.{IsAsked};
 ghost use Rattle.procs.specs.Finished.{EndsFrom};
 ghost use Rattle.procs.specs.Outcome.{IsMadeFor};
 ghost use Rattle.procs.specs.Steps.{IsStepOf, NoneStandFor};
 
 use crate::draft::Draft;
-use block_files::DraftFiles;
 use inode::{Snap, Stop};
 use nfs_types::{Call, Ctx};
-use procs_steps::change;
+use procs_blocks::DraftFiles;
+use procs_dispatch::change;
 use std::alloc::Global;
 
 // Numbers that are told in 64 bits.
@@ -33,7 +33,7 @@ pub(crate) fn change_call(alloc: Global, ctx: &Ctx, call: &Call, snap: &Snap) ->
     ensures io { IfErr result (λ stop. NoneStandFor ctx.now call.now snap.now stop) }
 {
     are_told(ctx.boot, ctx.transaction);
-    let mut files = DraftFiles::new(alloc, drafts::Draft::begin(alloc, snap)?);
+    let mut files = DraftFiles::new(alloc, inode::Draft::begin(alloc, snap)?);
     match change(alloc, &mut files, ctx, call) {
         Ok(Some(reply)) => {
             let written = files.into_draft().into_written();

@@ -1,6 +1,6 @@
 //! What comes of a call, for good.
 ghost use Rattle.std.specs.Prelude.{◌≡◌, ◌≤◌, length};
-ghost use Rattle.limits.specs.declared.TheConstants.{CHANGED_BLOCKS};
+ghost use Rattle.base.specs.declared.TheConstants.{CHANGED_BLOCKS};
 ghost use Rattle.txn.specs.Group.{blocks_of};
 ghost use Rattle.layout.specs.Geometry.{IsLawful};
 ghost use Rattle.procs.specs.Finished.{IsAnsweredPlan, IsFinished};

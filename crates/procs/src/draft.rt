@@ -1,6 +1,6 @@
 //! What was worked out for a call.
 ghost use Rattle.std.specs.Prelude.{◌≡◌, ◌≤◌, length, IfOk};
-ghost use Rattle.limits.specs.declared.TheConstants.{CHANGED_BLOCKS};
+ghost use Rattle.base.specs.declared.TheConstants.{CHANGED_BLOCKS};
 ghost use Rattle.txn.specs.Group.{blocks_of};
 
 use inode::Snap;
@@ -30,7 +30,7 @@ pub(crate) struct DraftParts {
 
 impl Model for Draft {
     ghost use Rattle.std.specs.Prelude.{◌≤◌, length};
-    ghost use Rattle.limits.specs.declared.TheConstants.{CHANGED_BLOCKS};
+    ghost use Rattle.base.specs.declared.TheConstants.{CHANGED_BLOCKS};
     ghost use Rattle.txn.specs.Group.{blocks_of};
     ghost use Rattle.procs.specs.Outcome.{Outcome};
 

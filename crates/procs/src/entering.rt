@@ -5,13 +5,13 @@ ghost use Rattle.std.specs.Prelude.{◌≡◌, ◌^◌, ◌≤◌, IfErr};
 ghost use Rattle.inode.specs.Over.{MayStop};
 
 use crate::free::{FreeBlocks, FreeNumber, Room};
-use block_files::BlockFiles;
 use dir::free_slot;
-use files::{Files, Head};
 use inode::{Snap, Stop, held};
 use layout::{Inode, InodeKind};
 use nfs_types::Handle;
-use procs_changes::entry_adds;
+use procs_blocks::BlockFiles;
+use procs_files::{Files, Head};
+use procs_names::entry_adds;
 use std::alloc::Global;
 
 /// A directory; the number of a new file, where one is made, and how many blocks it has; how many free blocks are

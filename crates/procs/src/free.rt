@@ -5,11 +5,11 @@ ghost use Rattle.layout.specs.declared.grid.TheConstants.{PIECE_BITS, PIECE_BYTE
 ghost use Rattle.inode.specs.Over.{MayStop};
 
 use crate::pieces::{piece_bytes, pieces_of_blocks};
+use base::FIRST_HOME_BLOCK;
 use disk::BlockNo;
 use inode::{Snap, Stop};
 use layout::{PIECE_BITS, PIECES_PER_BLOCK};
 use layout_records::clear_in;
-use limits::FIRST_HOME_BLOCK;
 
 /// How many pieces of the bitmap of blocks were counted, from where free blocks are looked for, and how many of their
 /// bits are clear.

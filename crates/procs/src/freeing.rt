@@ -2,15 +2,15 @@
 //! loses its last name (sections 3.3.12 to 3.3.14). It goes by the file's pointer blocks and not by its size. These are
 //! positions, of which nothing is claimed.
 ghost use Rattle.std.specs.Prelude.{◌≡◌, ◌≤◌, length, IfErr};
-ghost use Rattle.limits.specs.declared.TheConstants.{BLOCK_BYTES, FILE_INDEXES};
+ghost use Rattle.base.specs.declared.TheConstants.{BLOCK_BYTES, FILE_INDEXES};
 ghost use Rattle.inode.specs.Over.{MayStop};
 
 use crate::pieces::{ask_block_bit, ask_number_bit};
 use crate::pointers::Pointers;
+use base::{BLOCK_BYTES, DIRECT_INDEXES, FIRST_DOUBLE_INDEX, INDIRECT_INDEXES, LARGEST_FILE};
 use dir::is_empty;
 use inode::{Snap, Stop, block_number, data_block, held};
 use layout::{Inode, InodeKind, Numbers};
-use limits::{BLOCK_BYTES, DIRECT_INDEXES, FIRST_DOUBLE_INDEX, INDIRECT_INDEXES, LARGEST_FILE};
 use std::alloc::Global;
 
 /// A file, and how many of its indexes stay; whether a part of the last of these is written over with zeros; the number

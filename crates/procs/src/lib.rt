@@ -21,6 +21,7 @@ mod rules;
 mod searched;
 mod shrinking;
 mod telling;
+mod vouchers;
 mod work;
 mod writing;
 
@@ -36,3 +37,4 @@ pub use next::Plan;
 pub use planner::Planner;
 pub use refused::refused_reply;
 pub use rules::{begins_transaction, is_answered_stable, reading_mode};
+pub use vouchers::Voucher;

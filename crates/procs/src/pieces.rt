@@ -1,14 +1,14 @@
 //! The pieces of the bitmaps: FSSTAT asks for all of them (RFC 1813, section 3.3.18).
 ghost use Rattle.std.specs.Prelude.{◌≡◌, ◌+◌, ◌-◌, ◌*◌, ◌/◌, ◌<◌, length, IfErr, IfOk};
-ghost use Rattle.limits.specs.declared.TheConstants.{FIRST_HOME_BLOCK};
+ghost use Rattle.base.specs.declared.TheConstants.{FIRST_HOME_BLOCK};
 ghost use Rattle.layout.specs.Geometry.{inode_bitmap_at, table_at};
 ghost use Rattle.layout.specs.declared.grid.TheConstants.{PIECE_BYTES, PIECES_PER_BLOCK};
 ghost use Rattle.inode.specs.Over.{MayStop};
 
+use base::FIRST_HOME_BLOCK;
 use inode::{Snap, Stop, bytes_at};
 use layout::{PIECE_BITS, PIECES_PER_BLOCK};
 use layout_records::piece_addr;
-use limits::FIRST_HOME_BLOCK;
 
 /// How many pieces of the two bitmaps were asked for: that of inodes lies behind that of blocks.
 #[derive(Drop)]

@@ -8,10 +8,10 @@ use crate::anew::{is_same, names_of};
 use crate::next::Plan;
 use crate::searched::go_on_behind;
 use crate::work::run;
+use dir::Names;
 use disk::BlockNo;
 use inode::{Snap, Stop};
 use layout::{Geometry, PIECE_BITS};
-use name_search::Names;
 use nfs_types::{Call, Ctx};
 use objects::{Addr, Mode, SharedBytes};
 use std::alloc::{AllocError, Global};
@@ -30,20 +30,20 @@ pub struct Planner {
 
 impl Planner {
     ghost use Rattle.std.specs.Prelude.{◌++◌, ◌∷◌, ◌≤◌, ◌*◌, ℕ, [], None, Some, Ok, true, length, IfSome, OnOk};
-    ghost use Rattle.limits.specs.declared.TheConstants.{HANDLE_BYTES, SLOTS_PER_BLOCK};
+    ghost use Rattle.base.specs.declared.TheConstants.{HANDLE_BYTES, SLOTS_PER_BLOCK};
     ghost use Rattle.disk.specs.Crash.{Image};
     ghost use Rattle.nfs_types.specs.declared.call.Call.{Call};
     ghost use Rattle.nfs_types.specs.declared.call.DirectoryName.{DirectoryName};
-    ghost use Rattle.model.specs.Calls.{begins_transaction};
-    ghost use Rattle.model.specs.Find.{number_in};
+    ghost use Rattle.nfs_spec.specs.Model.Calls.{begins_transaction};
+    ghost use Rattle.nfs_spec.specs.Model.Find.{number_in};
     ghost use Rattle.layout.specs.declared.inode.Inode.{Inode};
     ghost use Rattle.layout.specs.declared.version.FormatVersion.TheVariants.{Second};
     ghost use Rattle.layout.specs.Decode.{inode_at, span_of};
     ghost use Rattle.inode.specs.declared.snap.Snap.{Snap};
     ghost use Rattle.inode.specs.Read.{Saw};
     ghost use Rattle.inode.specs.Snap.{HasRoom, with_mode, with_read};
-    ghost use Rattle.name_search.specs.Known.{IsKnown, IsOfCall};
-    ghost use Rattle.name_search.specs.Places.{first_place, second_place};
+    ghost use Rattle.dir.specs.Search.Known.{IsKnown, IsOfCall};
+    ghost use Rattle.dir.specs.Search.Places.{first_place, second_place};
     ghost use Rattle.procs.specs.Planned.{IsPlanFor, IsPlanOf, IsStepPlan};
     ghost use Rattle.procs.specs.Planning.{AreOf};
     ghost use Rattle.procs.specs.Refused.{IsIoWhereRefused};

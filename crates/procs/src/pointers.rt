@@ -1,12 +1,12 @@
 //! The pointer blocks of a file, which are asked for one behind the other. These are positions, of which nothing is
 //! claimed.
 ghost use Rattle.std.specs.Prelude.{◌≡◌, length, IfErr};
-ghost use Rattle.limits.specs.declared.TheConstants.{BLOCK_BYTES};
+ghost use Rattle.base.specs.declared.TheConstants.{BLOCK_BYTES};
 ghost use Rattle.inode.specs.Over.{MayStop};
 
+use base::INDIRECT_INDEXES;
 use inode::{Snap, Stop, data_block, held};
 use layout::{Inode, Numbers};
-use limits::INDIRECT_INDEXES;
 
 /// The pointer blocks of a file. So many inner blocks were asked for, of those that its double indirect block names.
 #[derive(Drop)]

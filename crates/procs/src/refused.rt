@@ -1,7 +1,7 @@
 //! Replies that tell nothing but why a call was refused.
 ghost use Rattle.std.specs.Prelude.{◌≡◌};
-ghost use Rattle.model.specs.Attributes.{untold};
-ghost use Rattle.model.specs.Refused.{refused};
+ghost use Rattle.nfs_spec.specs.Model.Attributes.{untold};
+ghost use Rattle.nfs_spec.specs.Model.Refused.{refused};
 
 use nfs_types::{Call, Reply, Status, WeakCacheData};
 

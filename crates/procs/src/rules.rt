@@ -1,6 +1,6 @@
 //! What is known of a call before its plan.
 ghost use Rattle.std.specs.Prelude.{◌≡◌};
-ghost use Rattle.model.specs.Calls.{begins_transaction, is_answered_stable, is_unstable};
+ghost use Rattle.nfs_spec.specs.Model.Calls.{begins_transaction, is_answered_stable, is_unstable};
 ghost use Rattle.procs.specs.ReadingMode.{reading_mode};
 
 use nfs_types::{Call, Stability};

@@ -6,11 +6,11 @@ ghost use Rattle.inode.specs.Over.{MayStop};
 
 use crate::ahead::{Ahead, entering, freed};
 use crate::shrinking::{named, unnamed};
-use files::is_own_name;
+use base::LARGEST_FILE;
+use dir::Names;
 use inode::{Snap, Stop};
-use limits::LARGEST_FILE;
-use name_search::Names;
 use nfs_types::{Call, CreateHow, DirectoryName, NewAttributes, SetTime};
+use procs_files::is_own_name;
 use std::alloc::Global;
 
 // Whether it is no time of the caller's own.

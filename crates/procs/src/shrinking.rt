@@ -3,10 +3,10 @@ ghost use Rattle.std.specs.Prelude.{◌≡◌, IfErr};
 ghost use Rattle.inode.specs.Over.{MayStop};
 
 use crate::freeing::Freeing;
-use files::is_own_name;
+use dir::Names;
 use inode::{Snap, Stop, held};
-use name_search::Names;
 use nfs_types::{CreateHow, DirectoryName, Handle};
+use procs_files::is_own_name;
 
 /// What the file of a handle asks for that gets a size, if one is given and is smaller.
 pub(crate) fn cut_at(

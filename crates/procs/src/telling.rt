@@ -1,19 +1,19 @@
 //! Calls that only tell something, over the blocks of an image.
 ghost use Rattle.std.specs.Prelude.{◌≡◌, true, [], IfErr, IfOk};
 ghost use Rattle.inode.specs.Snap.{IsNew};
-ghost use Rattle.name_search.specs.Known.{IsKnown};
-ghost use Rattle.procs_steps.specs.Kinds.{tells};
+ghost use Rattle.dir.specs.Search.Known.{IsKnown};
+ghost use Rattle.procs_dispatch.specs.Kinds.{tells};
 ghost use Rattle.procs.specs.Asks.{IsAsked};
 ghost use Rattle.procs.specs.Finished.{EndsFrom};
 ghost use Rattle.procs.specs.Outcome.{IsDoneFor, IsMadeFor};
 ghost use Rattle.procs.specs.Steps.{IsStepOf, NoneStandFor};
 
 use crate::draft::Draft;
-use block_files::BlockFiles;
+use dir::Names;
 use inode::{Snap, Stop};
-use name_search::Names;
 use nfs_types::{Call, Ctx, Reply};
-use procs_steps::tell;
+use procs_blocks::BlockFiles;
+use procs_dispatch::tell;
 use std::alloc::{AllocError, Global};
 
 /// What is done without a write.

@@ -1,9 +1,9 @@
 //! Plans: what a call needs next, or what comes of it.
 ghost use Rattle.std.specs.Prelude.{◌≡◌, true, IfErr, IfOk};
-ghost use Rattle.model.specs.Calls.{begins_transaction};
+ghost use Rattle.nfs_spec.specs.Model.Calls.{begins_transaction};
 ghost use Rattle.inode.specs.Read.{NoneStand};
 ghost use Rattle.inode.specs.Snap.{IsNew};
-ghost use Rattle.name_search.specs.Known.{IsKnown};
+ghost use Rattle.dir.specs.Search.Known.{IsKnown};
 ghost use Rattle.procs.specs.Asks.{IsAsked};
 ghost use Rattle.procs.specs.Finished.{EndsFrom};
 ghost use Rattle.procs.specs.Outcome.{IsMadeFor};
@@ -19,10 +19,10 @@ use crate::next::Plan;
 use crate::reading::{first_handle, read_file};
 use crate::refused::refused_reply;
 use crate::telling::{tell_call, told};
+use dir::Names;
 use inode::{Snap, Stop};
-use inspection::{is_refused, what_is_refused_is_in_no_tree};
-use name_search::Names;
 use nfs_types::{Call, Ctx, Status};
+use procs_inspection::{is_refused, what_is_refused_is_in_no_tree};
 use std::alloc::Global;
 
 // What comes of a call that is served, or what stands in its way, by the one body of its procedure.

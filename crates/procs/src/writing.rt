@@ -2,16 +2,16 @@
 //! the others that it writes, to claim them, and free ones for what isn't mapped. These are positions, of which nothing
 //! is claimed.
 ghost use Rattle.std.specs.Prelude.{◌≡◌, ◌+◌, ◌<◌, ◌≤◌, true, IfErr, IfOk};
-ghost use Rattle.limits.specs.declared.TheConstants.{FILE_INDEXES, LARGEST_FILE};
+ghost use Rattle.base.specs.declared.TheConstants.{FILE_INDEXES, LARGEST_FILE};
 ghost use Rattle.layout.specs.Places.{is_data};
 ghost use Rattle.inode.specs.Over.{MayStop};
 
 use crate::free::{FreeBlocks, Room};
+use base::{BLOCK_BYTES, DIRECT_INDEXES, FIRST_DOUBLE_INDEX, INDIRECT_INDEXES, LARGEST_FILE};
 use disk::BlockNo;
-use file_writes::unmapped;
 use inode::{Snap, Stop, block_number, data_block, held, inner_number};
+use inode_data::unmapped;
 use layout::{Inode, InodeKind};
-use limits::{BLOCK_BYTES, DIRECT_INDEXES, FIRST_DOUBLE_INDEX, INDIRECT_INDEXES, LARGEST_FILE};
 use nfs_types::Handle;
 use objects::Addr;
 

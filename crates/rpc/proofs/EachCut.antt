@@ -8,7 +8,7 @@ use Rattle.std.specs.Int.{w32, from_be_bytes}
 use Rattle.std.specs.List.{AllByRecursion}
 use Rattle.std.proofs.lemmas.Bool.{cases_lt, le-ltb}
 use Rattle.std.proofs.lemmas.List.{take-append-drop, length-take, get_or-drop}
-use Rattle.limits.specs.declared.TheConstants.{RECORD_BYTES}
+use Rattle.base.specs.declared.TheConstants.{RECORD_BYTES}
 use Rattle.nfs_types.specs.Fits.{AreBytes}
 use Rattle.xdr.specs.Reading.{number_at}
 use Rattle.xdr.proofs.Coded.{words}

@@ -3,7 +3,7 @@
 use Rattle.std.proofs.Common.{◌≡◌, ℕ, ◌+◌, ◌^◌, ◌<◌, ◌≤◌, Bool, false, List, [], ◌∷◌, ◌++◌}
 use Rattle.std.proofs.Common.{length, sym, ap, ◌∙◌, append_assoc, arith}
 use Rattle.std.specs.Prelude.{flat_map}
-use Rattle.limits.specs.declared.TheConstants.{RECORD_BYTES}
+use Rattle.base.specs.declared.TheConstants.{RECORD_BYTES}
 use Rattle.rpc.specs.Records.{mark, fragment, joined, IsPart, held_of}
 use Rattle.rpc.specs.Records.IsPart.{BeforeMark, InFragment}
 use Rattle.rpc.proofs.RecordLaws.{cons_parts, cons_length, has_mark, has_a_mark, strip, too_few, marks_alike}

@@ -7,7 +7,7 @@ use Rattle.std.specs.Int.{w32}
 use Rattle.std.specs.List.{AllByRecursion}
 use Rattle.std.proofs.lemmas.List.{take_at, drop_at}
 use Rattle.std.proofs.lemmas.List.Concat.{flat_map-cons}
-use Rattle.limits.specs.declared.TheConstants.{RECORD_BYTES}
+use Rattle.base.specs.declared.TheConstants.{RECORD_BYTES}
 use Rattle.xdr.specs.Items.{word}
 use Rattle.xdr.specs.Reading.{number_at}
 use Rattle.rpc.specs.Records.{mark, fragment, joined, IsRecord, records, IsTooLong, HasBegun, IsPart, IsRest}

@@ -5,7 +5,7 @@ use Rattle.std.proofs.lemmas.Bool.{le-ltb}
 use Rattle.std.proofs.lemmas.List.{append-nil}
 use Rattle.std.specs.Prelude.{nat_lt}
 use Rattle.std.specs.Int.{w32, from_be_bytes}
-use Rattle.limits.specs.declared.TheConstants.{MOST_GIDS}
+use Rattle.base.specs.declared.TheConstants.{MOST_GIDS}
 use Rattle.xdr.specs.declared.fault.XdrFault.{XdrFault}
 use Rattle.xdr.specs.declared.fault.XdrFault.TheVariants.{Short}
 use Rattle.xdr.specs.Reading.{number_at}

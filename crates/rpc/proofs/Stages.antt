@@ -8,7 +8,7 @@ use Rattle.std.specs.Prelude.{◌==◌}
 use Rattle.std.proofs.lemmas.Bool.{ne_eqb}
 use Rattle.std.proofs.lemmas.List.{append-nil, take-append-drop, length-take, drop_all}
 use Rattle.std.proofs.lemmas.List.Concat.{flat_map-cons, flat_map-append}
-use Rattle.limits.specs.declared.TheConstants.{RECORD_BYTES}
+use Rattle.base.specs.declared.TheConstants.{RECORD_BYTES}
 use Rattle.rpc.specs.declared.stage.Stage.{Stage}
 use Rattle.rpc.specs.declared.stage.Stage.TheVariants.{Fresh, Between, Inside}
 use Rattle.rpc.specs.Records.{mark, fragment, joined, IsRecord, IsPart, IsTooLong, held_of}

@@ -2,7 +2,7 @@
 use Rattle.std.specs.Prelude.{◌≡◌, ℕ, zero, suc, List, [], ◌∷◌, length, Result, Ok, Err, nat_lt, ◌==◌}
 use Rattle.std.specs.Prelude.{if◌then◌else◌}
 use Rattle.std.specs.Int.{w32}
-use Rattle.limits.specs.declared.TheConstants.{MACHINE_NAME_BYTES, MOST_GIDS, NOBODY}
+use Rattle.base.specs.declared.TheConstants.{MACHINE_NAME_BYTES, MOST_GIDS, NOBODY}
 use Rattle.nfs_types.specs.declared.ctx.Credential.{Credential}
 use Rattle.xdr.specs.declared.fault.XdrFault.{XdrFault}
 use Rattle.xdr.specs.declared.fault.XdrFault.TheVariants.{Length}

@@ -3,7 +3,7 @@ use Rattle.std.specs.Prelude.{◌≡◌, ℕ, ◌+◌, ◌*◌, ◌<◌, ◌≤�
 use Rattle.std.specs.Prelude.{flat_map, Result, Ok, Err}
 use Rattle.std.specs.declared.snapshot.Snapshot.{Snapshot}
 use Rattle.bytes.specs.Filled.{Filled}
-use Rattle.limits.specs.declared.TheConstants.{RECORD_BYTES}
+use Rattle.base.specs.declared.TheConstants.{RECORD_BYTES}
 use Rattle.rpc.specs.declared.stage.Stage.{Stage}
 use Rattle.rpc.specs.declared.stage.Stage.TheVariants.{Fresh, Between, Inside}
 use Rattle.rpc.specs.declared.stage.Advance.{Advance}

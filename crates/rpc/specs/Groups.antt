@@ -1,7 +1,7 @@
 -- Groups as they are spelled (RFC 5531, appendix A).
 use Rattle.std.specs.Prelude.{◌≡◌, ℕ, ◌*◌, ◌≤◌, List, [], ◌∷◌, length}
 use Rattle.std.specs.Int.{w32, from_be_bytes}
-use Rattle.limits.specs.declared.TheConstants.{MOST_GIDS}
+use Rattle.base.specs.declared.TheConstants.{MOST_GIDS}
 
 -- the numbers that bytes spell, four bytes each
 unfoldable pub numbers_in : List ℕ → List ℕ

@@ -1,7 +1,7 @@
 -- The header of a call, read from left to right (RFC 5531, section 9).
 use Rattle.std.specs.Prelude.{ℕ, List, Result, Ok}
 use Rattle.std.specs.Int.{w32}
-use Rattle.limits.specs.declared.TheConstants.{MOST_AUTH_BYTES}
+use Rattle.base.specs.declared.TheConstants.{MOST_AUTH_BYTES}
 use Rattle.xdr.specs.declared.fault.XdrFault.{XdrFault}
 use Rattle.rpc.specs.declared.header.Opening.{Opening}
 use Rattle.rpc.specs.declared.header.Header.{Header}

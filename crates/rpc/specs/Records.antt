@@ -2,7 +2,7 @@
 use Rattle.std.specs.Prelude.{◌≡◌, ℕ, ◌+◌, ◌<◌, ◌≤◌, ◌^◌, ◌⊎◌, Bool, true, false, List, [], ◌∷◌, ◌++◌, length}
 use Rattle.std.specs.Prelude.{flat_map}
 use Rattle.std.specs.List.{AllByRecursion}
-use Rattle.limits.specs.declared.TheConstants.{RECORD_BYTES}
+use Rattle.base.specs.declared.TheConstants.{RECORD_BYTES}
 use Rattle.xdr.specs.Items.{word}
 
 -- the mark of a fragment: its length, with the highest bit set in the last fragment of a record

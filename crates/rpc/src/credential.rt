@@ -6,7 +6,7 @@ ghost use Rattle.rpc.specs.Credentials.{numbers_at, gids_at, caller_at, credenti
 ghost use Rattle.rpc.specs.Credentials.{Names, named, system};
 
 use crate::{AUTH_NONE, AUTH_SYS, Refusal};
-use limits::{MACHINE_NAME_BYTES, MOST_GIDS, NOBODY};
+use base::{MACHINE_NAME_BYTES, MOST_GIDS, NOBODY};
 use nfs_types::{Credential, NumberList};
 use std::alloc::{AllocError, Global};
 use std::marker::Model;

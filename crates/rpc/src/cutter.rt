@@ -9,9 +9,9 @@ ghost use Rattle.rpc.specs.Cutting.{Advances, IsCut, IsOutside, Looks, held_by, 
 use crate::LAST_FRAGMENT;
 use crate::fault::RpcFault;
 use crate::stage::{Advance, Stage};
+use base::RECORD_BYTES;
 use bytes::{Bytes, BytesMut};
 use http_server::Log;
-use limits::RECORD_BYTES;
 use std::alloc::{AllocError, Global};
 use std::snapshot::Snapshot;
 

@@ -3,7 +3,7 @@ ghost use Rattle.std.specs.Prelude.{◌≡◌};
 ghost use Rattle.xdr.specs.Reading.{Reads};
 ghost use Rattle.rpc.specs.Headers.{opening_at, header_at, heading};
 
-use limits::MOST_AUTH_BYTES;
+use base::MOST_AUTH_BYTES;
 use xdr::{Reader, XdrFault};
 
 /// The transaction's number, the type of the message, and the version of RPC.

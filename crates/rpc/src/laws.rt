@@ -1,7 +1,7 @@
 //! Laws of the cutting of records. Nothing runs here: each contract is what the definitions entail.
 ghost use Rattle.std.specs.Prelude.{◌≡◌, ◌+◌, ◌≤◌, ◌++◌, ◌∷◌, [], false, ℕ, List};
 ghost use Rattle.nfs_types.specs.Fits.{AreBytes};
-ghost use Rattle.limits.specs.declared.TheConstants.{RECORD_BYTES};
+ghost use Rattle.base.specs.declared.TheConstants.{RECORD_BYTES};
 ghost use Rattle.rpc.specs.Records.{records, CutsOff, HasBegun, IsPart, IsRecord, IsRest, IsTooLong};
 ghost use Rattle.rpc.specs.Records.{fragment, held_of};
 

@@ -6,15 +6,15 @@ use Rattle.std.proofs.Crossing.{crosses}
 use Rattle.std.specs.declared.sync.ledger.Ledger
 use Rattle.http_server.proofs.log.Log.TheSendSync as logs
 use Rattle.session_wire.proofs.message.ReplyBody.TheSendSync as body
-use Rattle.pool_answers.specs.contracts.answer.Answer
-use Rattle.pool_answers.specs.contracts.answer.Answer.TheInside as answer
-use Rattle.pool_answers.specs.contracts.backlog.Backlog
-use Rattle.pool_answers.specs.contracts.backlog.Backlog.TheInside as backlog
-use Rattle.server_replies.specs.contracts.connection.Connection
-use Rattle.server_replies.specs.contracts.outbox.Outbox
-use Rattle.server_replies.specs.contracts.outbox.Outbox.TheInside as outbox
-use Rattle.server_replies.specs.contracts.replies.Replies
-use Rattle.server_replies.specs.contracts.replies.Replies.TheInside as replies
+use Rattle.pool_requests.specs.contracts.answers.answer.Answer
+use Rattle.pool_requests.specs.contracts.answers.answer.Answer.TheInside as answer
+use Rattle.pool_requests.specs.contracts.answers.backlog.Backlog
+use Rattle.pool_requests.specs.contracts.answers.backlog.Backlog.TheInside as backlog
+use Rattle.server_connection.specs.contracts.connection.Connection
+use Rattle.server_connection.specs.contracts.outbox.Outbox
+use Rattle.server_connection.specs.contracts.outbox.Outbox.TheInside as outbox
+use Rattle.server_connection.specs.contracts.replies.Replies
+use Rattle.server_connection.specs.contracts.replies.Replies.TheInside as replies
 
 module _ (L : RattleType) (l : Ledger.Ghosts L.Denot) where
   pub answer_send : IsSend (Answer.the_row L l)

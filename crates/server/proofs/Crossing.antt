@@ -44,7 +44,7 @@ use Rattle.pool.specs.contracts.work.Work
 use Rattle.pool.specs.contracts.work.Work.TheInside as work
 use Rattle.pool.specs.declared.Whole
 use Rattle.store_workers.specs.contracts.workers.Worker
-use Rattle.server_replies.specs.contracts.connection.Connection
+use Rattle.server_connection.specs.contracts.connection.Connection
 use Rattle.server.specs.contracts.state.ServerState
 use Rattle.server.specs.contracts.state.Synchronization
 use Rattle.server.specs.contracts.jobs.Jobs

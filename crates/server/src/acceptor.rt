@@ -3,13 +3,13 @@ ghost use Rattle.std.specs.Thread.{IsSend, IsSync};
 
 use crate::reader::read_all;
 use crate::state::ServerState;
-use disk::{Port, Source};
-use limits::{
+use base::{
     ACCEPT_SLEEP_MILLISECONDS, IDLE_SECONDS, MOST_CONNECTIONS, SILENT_SECONDS, WRITE_SECONDS,
 };
+use disk::{Port, Source};
 use pool::{ConnectionKey, Connections, Whole};
-use server_parts::{Silent, steady_second};
-use server_replies::{Connection, Incoming};
+use server_connection::{Connection, Incoming};
+use server_sync::{Silent, steady_second};
 use std::alloc::Global;
 use std::net::TcpListener;
 use std::sync::ledger::Ledger;

@@ -1,7 +1,7 @@
 //! Calls of one connection that are driven one after another.
-use limits::BATCH_CALLS;
+use base::BATCH_CALLS;
 use pool::{Answer, Job};
-use server_parts::{Parked, SeatKey};
+use server_sync::{Parked, SeatKey};
 use std::alloc::{AllocError, Global};
 use std::collections::VecDeque;
 use std::sync::ledger::Ledger;

@@ -1,12 +1,12 @@
 //! Driving a seat: locked steps and reads by turns.
 use crate::batch::Batch;
 use crate::state::{ServerState, is_crowded};
-use disk::{Port, Source};
-use limits::{
+use base::{
     BATCH_CALLS, FIRST_SLEEP_MICROSECONDS, FULL_MILLISECONDS, LONGEST_SLEEP_MICROSECONDS, YIELDS,
 };
+use disk::{Port, Source};
 use pool::{Answer, Job, Look, NoGate, Seat, Told, Turn, Whole, worker_io};
-use server_parts::{Parked, SeatKey};
+use server_sync::{Parked, SeatKey};
 use std::sync::Wait;
 use std::sync::ledger::Ledger;
 use std::thread;

@@ -1,9 +1,9 @@
 //! The thread that brings settled changes home.
 use crate::state::ServerState;
+use base::INSTALL_MILLISECONDS;
 use disk::Port;
-use limits::INSTALL_MILLISECONDS;
 use pool::{Gate, Point, Turn, Whole, installer_io};
-use server_parts::Notice;
+use server_sync::Notice;
 use std::sync::Wait;
 use std::sync::atomic::{AtomicU64, Ordering};
 use std::sync::ledger::Ledger;

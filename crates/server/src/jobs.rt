@@ -1,6 +1,6 @@
 //! The queue of calls that found no seat free.
+use base::MOST_JOBS;
 use crossbeam_channel::{Receiver, Sender, bounded};
-use limits::MOST_JOBS;
 use pool::Job;
 use std::alloc::{AllocError, Global};
 use std::sync::Wait;

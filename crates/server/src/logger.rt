@@ -1,9 +1,9 @@
 //! The thread that settles changes.
 use crate::state::ServerState;
+use base::{CHANGED_BLOCKS, LOG_SLOTS};
 use disk::Port;
-use limits::{CHANGED_BLOCKS, LOG_SLOTS};
 use pool::{Gate, IoSeat, Point, Turn, Whole, logger_io};
-use server_parts::Notice;
+use server_sync::Notice;
 use std::sync::Wait;
 use std::sync::atomic::{AtomicU64, Ordering};
 use std::sync::ledger::Ledger;

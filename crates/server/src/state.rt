@@ -1,13 +1,13 @@
 //! What the threads share.
-ghost use Rattle.model.specs.Sound.{SoundTime};
+ghost use Rattle.nfs_spec.specs.Model.Sound.{SoundTime};
 
 use crate::jobs::Jobs;
+use base::{CROWDING_COMMITS, URGENT_COMMITS};
 use disk::Port;
-use limits::{CROWDING_COMMITS, URGENT_COMMITS};
 use nfs_types::Moment;
 use pool::{Answer, Connections, IoSeat, Look, Pool, Put, ReplyBytes, Seat, Shared, Whole};
-use server_parts::{FreeSeats, Moments, Notifier, Parking, Rounds, Seats, moment_of};
-use server_replies::Connection;
+use server_connection::Connection;
+use server_sync::{FreeSeats, Moments, Notifier, Parking, Rounds, Seats, moment_of};
 use std::alloc::{AllocError, Global};
 use std::sync::atomic::AtomicU64;
 use std::sync::ledger::Ledger;

@@ -7,9 +7,9 @@ use Rattle.disk.specs.Blocks.{AreBlocks}
 use Rattle.disk.specs.Crash.{Image, IsCrashImage}
 use Rattle.disk.specs.Device.{Device}
 use Rattle.disk.specs.declared.device.Failed.{Failed}
-use Rattle.model.specs.Entry.{Entry}
-use Rattle.model.specs.Sound.{Sound, SoundTime}
-use Rattle.model.specs.Tree.{Tree}
+use Rattle.nfs_spec.specs.Model.Entry.{Entry}
+use Rattle.nfs_spec.specs.Model.Sound.{Sound, SoundTime}
+use Rattle.nfs_spec.specs.Model.Tree.{Tree}
 use Rattle.nfs_types.specs.declared.ctx.Ctx.{Ctx}
 use Rattle.nfs_types.specs.declared.ctx.Moment.{Moment}
 use Rattle.nfs_types.specs.declared.program.ProgramCall.TheVariants as calls
@@ -17,8 +17,8 @@ use Rattle.session_wire.specs.declared.message.Judged.{Judged}
 use Rattle.session_wire.specs.declared.message.Judged.TheVariants as verdicts
 use Rattle.session_wire.specs.Judging.{judged}
 use Rattle.txn_law.specs.Core.{CoreState}
-use Rattle.wal_law.specs.Calls.{Pending, idle}
-use Rattle.wal_law.specs.Log.{settled_place}
+use Rattle.circ.specs.Log.Calls.{Pending, idle}
+use Rattle.circ.specs.Log.Log.{settled_place}
 use Rattle.store_promise.specs.GoodImage.{IsGoodImage}
 use Rattle.store_promise.specs.OpenSince.{HasKeptFiles, IsOpenSince, KeepsFiles, LeavesBeginning}
 use Rattle.store_promise.specs.Openings.{IsLater}

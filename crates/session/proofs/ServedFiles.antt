@@ -6,10 +6,10 @@ use Rattle.std.proofs.lemmas.Bool.{cases_Bool, cases_lt, true≢false}
 use Rattle.std.proofs.lemmas.List.{length-append}
 use Rattle.disk.specs.Device.{Device}
 use Rattle.disk.specs.Failures.{failures_from}
-use Rattle.model.specs.Calls.{begins_transaction}
-use Rattle.model.specs.Entry.{Entry}
-use Rattle.model.specs.Refused.{refused}
-use Rattle.model.specs.Tree.{Tree}
+use Rattle.nfs_spec.specs.Model.Calls.{begins_transaction}
+use Rattle.nfs_spec.specs.Model.Entry.{Entry}
+use Rattle.nfs_spec.specs.Model.Refused.{refused}
+use Rattle.nfs_spec.specs.Model.Tree.{Tree}
 use Rattle.nfs_types.specs.declared.call.Call as types
 use Rattle.nfs_types.specs.declared.ctx.Credential.{Credential}
 use Rattle.nfs_types.specs.declared.ctx.Ctx.{Ctx}
@@ -18,7 +18,7 @@ use Rattle.nfs_types.specs.declared.mount.MountCall.{MountCall}
 use Rattle.nfs_types.specs.declared.program.ProgramCall.TheVariants as calls
 use Rattle.nfs_types.specs.declared.status.Status.TheVariants as status
 use Rattle.nfs_types.specs.declared.reply.Reply.TheVariants.{Null}
-use Rattle.procedures.specs.Step as procedures
+use Rattle.nfs_spec.specs.Procedures.Step as procedures
 use Rattle.session_wire.specs.declared.message.Judged.{Judged}
 use Rattle.session_wire.specs.declared.message.Judged.TheVariants.{Closed, Refused, Call}
 use Rattle.session_wire.specs.Judging.{judged}
@@ -29,8 +29,8 @@ use Rattle.store_promise.specs.declared.answers.Verdict.TheVariants as verdicts
 use Rattle.store_promise.specs.declared.events.Cause.{Cause}
 use Rattle.store_promise.specs.declared.events.Cause.TheVariants as cause
 use Rattle.txn_law.specs.Group.{blocks_of}
-use Rattle.wal_law.specs.Log.{tail_after, tail_blocks}
-use Rattle.wal_law.proofs.Tail.{few_new}
+use Rattle.circ.specs.Log.Log.{tail_after, tail_blocks}
+use Rattle.circ.proofs.LogLemmas.Tail.{few_new}
 use Rattle.store_promise.specs.History.{ctx_of}
 use Rattle.store_promise.specs.Openings.{IsLater}
 use Rattle.store_promise.specs.Verdicts.{refusal}

@@ -4,15 +4,15 @@ use Rattle.std.proofs.Common.{length, map, Option, Some, None, IfSome, Ok, Err, 
 use Rattle.std.proofs.Common.{rules}
 use Rattle.std.proofs.lemmas.Bool.Decides.{nat_tests}
 use Rattle.std.specs.Option.{option_map}
-use Rattle.limits.specs.declared.TheConstants.{ENTRY_BYTES, ENTRY_PLUS_BYTES, LISTING_BYTES, LISTING_FRAME}
+use Rattle.base.specs.declared.TheConstants.{ENTRY_BYTES, ENTRY_PLUS_BYTES, LISTING_BYTES, LISTING_FRAME}
 use Rattle.nfs_types.specs.declared.entries.ListedEntry.{ListedEntry}
 use Rattle.nfs_types.specs.declared.entries.ListedEntryPlus.{ListedEntryPlus}
 use Rattle.nfs_types.specs.declared.verifier.Verifier.{Verifier}
-use Rattle.model.specs.Node.{Node}
-use Rattle.model.specs.Tree.{Tree, node_at}
-use Rattle.procedures.specs.Listing.{entry_bytes, entry_room, fitting, listing_verifier, padded}
-use Rattle.procedures.specs.ReadDirPlus.{entry_plus_bytes, fitting_both, plus}
-use Rattle.procedures.specs.Told.{attributes_at, handle_of}
+use Rattle.nfs_spec.specs.Model.Node.{Node}
+use Rattle.nfs_spec.specs.Model.Tree.{Tree, node_at}
+use Rattle.nfs_spec.specs.Procedures.Listing.{entry_bytes, entry_room, fitting, listing_verifier, padded}
+use Rattle.nfs_spec.specs.Procedures.ReadDirPlus.{entry_plus_bytes, fitting_both, plus}
+use Rattle.nfs_spec.specs.Procedures.Told.{attributes_at, handle_of}
 use Rattle.xdr.specs.Codes.{Code, chain, chain_bytes, double, flag, ◌then◌, optional, some_too_long}
 use Rattle.xdr.specs.Items as items
 use Rattle.nfs_codec.specs.Items.{handle, optional_attributes, optional_handle, text, verifier}

@@ -1,7 +1,7 @@
 -- What is told of a file that was made, found or written is short.
 use Rattle.std.proofs.Common.{◌≡◌, ℕ, ◌+◌, Bool, true, false, cond, List, Option, Some, None, Result, Ok, Err, IfOk}
 use Rattle.std.proofs.Common.{refl, arith, rules, length-append}
-use Rattle.limits.specs.declared.TheConstants.{EXCLUSIVE_MODE, NEW_FILE_MODE}
+use Rattle.base.specs.declared.TheConstants.{EXCLUSIVE_MODE, NEW_FILE_MODE}
 use Rattle.nfs_types.specs.declared.attributes.NewAttributes.{NewAttributes}
 use Rattle.nfs_types.specs.declared.call.CreateHow.{CreateHow}
 use Rattle.nfs_types.specs.declared.call.CreateHow.TheVariants.{Unchecked, Guarded, Exclusive}
@@ -13,17 +13,17 @@ use Rattle.nfs_types.specs.declared.reply.Written.{Written}
 use Rattle.nfs_types.specs.declared.status.Status.{Status}
 use Rattle.nfs_types.specs.declared.status.Status.TheVariants as status
 use Rattle.nfs_types.specs.Verifier.{boot_verifier}
-use Rattle.model.specs.Node.{DirectoryEntry, Node}
-use Rattle.model.specs.SetAttr.{is_regular, refusal, with_attributes}
-use Rattle.model.specs.Tree.{Tree}
-use Rattle.procedures.specs.Changes.{if_entry, if_room, lacks_room}
-use Rattle.procedures.specs.Create.{becomes, no_bytes, create_at, create_new, create_over, is_made_with, only_size, resize}
-use Rattle.procedures.specs.FirstTests.{unless}
-use Rattle.procedures.specs.Fresh as making
-use Rattle.procedures.specs.Fresh.{nothing_given}
-use Rattle.procedures.specs.Places.{least_free_slot}
-use Rattle.procedures.specs.Told.{Effect, handle_of}
-use Rattle.procedures.specs.Write as writing
+use Rattle.nfs_spec.specs.Model.Node.{DirectoryEntry, Node}
+use Rattle.nfs_spec.specs.Model.SetAttr.{is_regular, refusal, with_attributes}
+use Rattle.nfs_spec.specs.Model.Tree.{Tree}
+use Rattle.nfs_spec.specs.Procedures.Changes.{if_entry, if_room, lacks_room}
+use Rattle.nfs_spec.specs.Procedures.Create.{becomes, no_bytes, create_at, create_new, create_over, is_made_with, only_size, resize}
+use Rattle.nfs_spec.specs.Procedures.FirstTests.{unless}
+use Rattle.nfs_spec.specs.Procedures.Fresh as making
+use Rattle.nfs_spec.specs.Procedures.Fresh.{nothing_given}
+use Rattle.nfs_spec.specs.Procedures.Places.{least_free_slot}
+use Rattle.nfs_spec.specs.Procedures.Told.{Effect, handle_of}
+use Rattle.nfs_spec.specs.Procedures.Write as writing
 use Rattle.xdr.specs.Codes.{word, ◌then◌, optional}
 use Rattle.nfs_codec.specs.Items.{handle, optional_attributes, optional_handle, stability, verifier}
 use Rattle.nfs_results.specs.Results.{created, written}

@@ -7,29 +7,29 @@ use Rattle.nfs_results.specs.Results.{alone, behind, before}
 use Rattle.std.proofs.Common.{IfOk, Result, Ok, Err, ◌∙◌, arith, length-append, refl, rules, subst, sym, true≢false}
 use Rattle.std.specs.FinMap as map
 use Rattle.std.specs.Option.{ok_or, option_map}
-use Rattle.limits.specs.declared.TheConstants.{LISTING_BYTES, NEW_DIRECTORY_MODE, NEW_LINK_MODE, TARGET_BYTES, TRANSFER_BYTES}
-use Rattle.model.specs.Attributes.{untold}
-use Rattle.model.specs.Calls.{begins_transaction}
-use Rattle.model.specs.Find.{find_file}
-use Rattle.model.specs.Node.{Body, Directory, Link, Node, Regular}
-use Rattle.model.specs.Refused.{refused as refused_reply}
-use Rattle.model.specs.Sound.{Sound, SoundBody}
-use Rattle.model.specs.Tree.{Tree, node_at}
-use Rattle.model.proofs.Answered.{found-stands}
-use Rattle.procedures.specs.FirstTests.{found_then, unless}
-use Rattle.procedures.specs.Commit as committing
-use Rattle.procedures.specs.Fresh as making
-use Rattle.procedures.specs.Listing.{entry_bytes, entry_room, fitting, is_end, listed_behind, listing_verifier}
-use Rattle.procedures.specs.Lookup as lookups
-use Rattle.procedures.specs.Read as reads
-use Rattle.procedures.specs.ReadDir.{listing_refusal}
-use Rattle.procedures.specs.ReadDirPlus.{fitting_both, plus}
-use Rattle.procedures.specs.ReadLink.{target_of}
-use Rattle.procedures.specs.Places.{named_file}
-use Rattle.procedures.specs.Step.{numbered_step, step}
-use Rattle.procedures.specs.Write as writing
+use Rattle.base.specs.declared.TheConstants.{LISTING_BYTES, NEW_DIRECTORY_MODE, NEW_LINK_MODE, TARGET_BYTES, TRANSFER_BYTES}
+use Rattle.nfs_spec.specs.Model.Attributes.{untold}
+use Rattle.nfs_spec.specs.Model.Calls.{begins_transaction}
+use Rattle.nfs_spec.specs.Model.Find.{find_file}
+use Rattle.nfs_spec.specs.Model.Node.{Body, Directory, Link, Node, Regular}
+use Rattle.nfs_spec.specs.Model.Refused.{refused as refused_reply}
+use Rattle.nfs_spec.specs.Model.Sound.{Sound, SoundBody}
+use Rattle.nfs_spec.specs.Model.Tree.{Tree, node_at}
+use Rattle.nfs_spec.proofs.ModelLemmas.Answered.{found-stands}
+use Rattle.nfs_spec.specs.Procedures.FirstTests.{found_then, unless}
+use Rattle.nfs_spec.specs.Procedures.Commit as committing
+use Rattle.nfs_spec.specs.Procedures.Fresh as making
+use Rattle.nfs_spec.specs.Procedures.Listing.{entry_bytes, entry_room, fitting, is_end, listed_behind, listing_verifier}
+use Rattle.nfs_spec.specs.Procedures.Lookup as lookups
+use Rattle.nfs_spec.specs.Procedures.Read as reads
+use Rattle.nfs_spec.specs.Procedures.ReadDir.{listing_refusal}
+use Rattle.nfs_spec.specs.Procedures.ReadDirPlus.{fitting_both, plus}
+use Rattle.nfs_spec.specs.Procedures.ReadLink.{target_of}
+use Rattle.nfs_spec.specs.Procedures.Places.{named_file}
+use Rattle.nfs_spec.specs.Procedures.Step.{numbered_step, step}
+use Rattle.nfs_spec.specs.Procedures.Write as writing
 use Rattle.nfs_types.specs.declared.reply.Written.{Written}
-use Rattle.procedures.specs.Told.{Effect, answer_of, handle_of}
+use Rattle.nfs_spec.specs.Procedures.Told.{Effect, answer_of, handle_of}
 use Rattle.nfs_types.specs.Verifier.{boot_verifier}
 use Rattle.nfs_types.specs.declared.attributes.WeakCacheData.{WeakCacheData}
 use Rattle.nfs_types.specs.declared.call.Call as types
@@ -64,7 +64,7 @@ use Rattle.store_promise.specs.declared.events.Cause.{Cause}
 use Rattle.store_promise.specs.declared.events.Cause.TheVariants as cause
 use Rattle.store.specs.Calling.{ComesTo, Outset, Tells}
 use Rattle.store_images.specs.Opening.{Opened}
-use Rattle.model.specs.Entry.{Entry}
+use Rattle.nfs_spec.specs.Model.Entry.{Entry}
 use Rattle.session.specs.Replying.{IsSpelled}
 use Rattle.session.specs.Serving.{reply_for}
 use Rattle.session.proofs.ShortCodes.{IsShort, all_attributes, alones, any_outcome, attributes_told, befores}

@@ -4,10 +4,10 @@ use Rattle.std.specs.Prelude.{option_to_list}
 use Rattle.std.proofs.Common.{inl, inr}
 use Rattle.std.specs.Prelude.{Result, Ok, Err}
 use Rattle.disk.specs.Crash.{Image, IsCrashImage}
-use Rattle.model.specs.Entry.{Entry}
-use Rattle.model.specs.Calls.{is_answered_stable}
-use Rattle.model.specs.Sound.{SoundTime}
-use Rattle.model.specs.Tree.{Tree}
+use Rattle.nfs_spec.specs.Model.Entry.{Entry}
+use Rattle.nfs_spec.specs.Model.Calls.{is_answered_stable}
+use Rattle.nfs_spec.specs.Model.Sound.{SoundTime}
+use Rattle.nfs_spec.specs.Model.Tree.{Tree}
 use Rattle.nfs_types.specs.declared.call.Call as types
 use Rattle.nfs_types.specs.declared.ctx.Credential.{Credential}
 use Rattle.nfs_types.specs.declared.ctx.Moment.{Moment}
@@ -17,7 +17,7 @@ use Rattle.session_wire.specs.declared.message.Judged.TheVariants.{Closed, Refus
 use Rattle.session_wire.specs.Judging.{judged}
 use Rattle.session_wire.specs.Replies.{reply_bytes}
 use Rattle.session_wire.specs.Served as stream
-use Rattle.wal_law.specs.Log.{settled_place}
+use Rattle.circ.specs.Log.Log.{settled_place}
 use Rattle.txn_law.specs.Core.{CoreState}
 use Rattle.store_promise.specs.GoodImage.{IsGoodImage}
 use Rattle.store_promise.specs.OpenSince.{KeepsFiles, LeavesBeginning}

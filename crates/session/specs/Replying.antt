@@ -1,8 +1,8 @@
 -- What one message is answered (RFC 5531, section 9).
 use Rattle.std.specs.Prelude.{◌≡◌, ◌⊎◌, ℕ, ◌^◌, ◌<◌, List}
-use Rattle.model.specs.Sound.{SoundTime}
+use Rattle.nfs_spec.specs.Model.Sound.{SoundTime}
 use Rattle.nfs_types.specs.Fits.{ProgramCallFits}
-use Rattle.model.specs.Mount.{mount_reply}
+use Rattle.nfs_spec.specs.Model.Mount.{mount_reply}
 use Rattle.nfs_types.specs.declared.ctx.Credential.{Credential}
 use Rattle.nfs_types.specs.declared.ctx.Moment.{Moment}
 use Rattle.nfs_types.specs.declared.mount.MountCall.{MountCall}

@@ -1,7 +1,7 @@
 -- How a store stands between two messages of the stream that it serves.
 use Rattle.std.specs.Prelude.{ℕ, ◌+◌}
 use Rattle.disk.specs.Device.{Device}
-use Rattle.model.specs.Tree.{Tree}
+use Rattle.nfs_spec.specs.Model.Tree.{Tree}
 use Rattle.nfs_types.specs.declared.ctx.Moment.{Moment}
 use Rattle.session_wire.specs.Served.{Serving, Standing}
 use Rattle.store_images.specs.Further.{end_of}

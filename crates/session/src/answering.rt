@@ -1,6 +1,6 @@
 //! Answering one record.
 ghost use Rattle.std.specs.Prelude.{◌≡◌, ℕ, ◌<◌, get_or};
-ghost use Rattle.model.specs.Sound.{SoundTime};
+ghost use Rattle.nfs_spec.specs.Model.Sound.{SoundTime};
 ghost use Rattle.store_images.specs.Opening.{store_of};
 ghost use Rattle.store_images.specs.Settling.{IsIdle};
 ghost use Rattle.session.specs.Serving.{reply_for};

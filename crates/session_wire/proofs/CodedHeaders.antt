@@ -8,7 +8,7 @@ use Rattle.std.specs.List.{AllByRecursion}
 use Rattle.std.proofs.lemmas.Bool.{ltb-false, le-ltb, eqb-true}
 use Rattle.std.proofs.lemmas.List.{append-nil, nil_from_length, length-replicate}
 use Rattle.std.proofs.lemmas.List.Concat.{flat_map-cons}
-use Rattle.limits.specs.declared.TheConstants.{MOST_AUTH_BYTES, MACHINE_NAME_BYTES, MOST_GIDS}
+use Rattle.base.specs.declared.TheConstants.{MOST_AUTH_BYTES, MACHINE_NAME_BYTES, MOST_GIDS}
 use Rattle.nfs_types.specs.declared.ctx.Credential.{Credential}
 use Rattle.rpc.specs.declared.constants.TheConstants.{AUTH_NONE, AUTH_SYS}
 use Rattle.rpc.specs.declared.header.Opening.{Opening}

@@ -4,7 +4,7 @@ use Rattle.std.proofs.Common.{◌≡◌, ◌⊎◌, inl, inr, ℕ, ◌^◌, ◌<
 use Rattle.std.proofs.Common.{Option, Some, None, refl, arith}
 use Rattle.std.specs.Prelude.{◌||◌, ◌↔◌}
 use Rattle.std.proofs.lemmas.Bool.{le-ltb}
-use Rattle.limits.specs.declared.TheConstants.{MOST_HANDLE_BYTES, RECORD_BYTES}
+use Rattle.base.specs.declared.TheConstants.{MOST_HANDLE_BYTES, RECORD_BYTES}
 use Rattle.nfs_types.specs.declared.mount.MountReply.TheVariants as mount_replies
 use Rattle.nfs_types.specs.declared.program.ProgramReply.{ProgramReply}
 use Rattle.nfs_types.specs.declared.program.ProgramReply.TheVariants as program_replies

@@ -9,10 +9,10 @@ use Rattle.nfs_types.specs.declared.ctx.Ctx.{Ctx}
 use Rattle.nfs_types.specs.declared.program.ProgramCall.{ProgramCall}
 use Rattle.nfs_types.specs.declared.program.ProgramCall.TheVariants as program_calls
 use Rattle.nfs_types.specs.Fits.{CallFits, ProgramCallFits}
-use Rattle.model.specs.Calls.{begins_transaction, plain_reply}
-use Rattle.model.specs.Sound.{Sound, SoundCtx}
-use Rattle.procedures.proofs.Served.{some_step}
-use Rattle.procedures.proofs.SoundSteps.{step_sound}
+use Rattle.nfs_spec.specs.Model.Calls.{begins_transaction, plain_reply}
+use Rattle.nfs_spec.specs.Model.Sound.{Sound, SoundCtx}
+use Rattle.nfs_spec.proofs.ProceduresLemmas.Served.{some_step}
+use Rattle.nfs_spec.proofs.ProceduresLemmas.SoundSteps.{step_sound}
 use Rattle.session_wire.specs.declared.message.Judged.{Judged}
 use Rattle.session_wire.specs.declared.message.Judged.TheVariants.{Closed, Refused, Call}
 use Rattle.session_wire.specs.declared.message.MessageCredential.{MessageCredential}

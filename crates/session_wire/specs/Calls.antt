@@ -1,8 +1,8 @@
 -- How call messages are spelled (RFC 5531, sections 8.2 and 9, appendix A).
 use Rattle.std.specs.Prelude.{◌≡◌, ◌<◌, ◌≤◌, ◌^◌, ℕ, List, [], ◌++◌, length, flat_map}
 use Rattle.std.specs.List.{AllByRecursion}
-use Rattle.limits.specs.declared.TheConstants.{MOST_AUTH_BYTES, MACHINE_NAME_BYTES}
-use Rattle.limits.specs.declared.TheConstants.{MOST_GIDS}
+use Rattle.base.specs.declared.TheConstants.{MOST_AUTH_BYTES, MACHINE_NAME_BYTES}
+use Rattle.base.specs.declared.TheConstants.{MOST_GIDS}
 use Rattle.nfs_types.specs.declared.ctx.Credential.{Credential}
 use Rattle.nfs_types.specs.Fits.{ProgramCallFits}
 use Rattle.rpc.specs.declared.constants.TheConstants.{CALL, RPC_VERSION, NFS_VERSION}

@@ -2,7 +2,7 @@
 use Rattle.std.specs.Prelude.{◌≡◌, ℕ, ◌+◌, ◌^◌, ◌<◌, ◌≤◌, ◌⊎◌, Bool, true, false, List, [], ◌∷◌, ◌++◌}
 use Rattle.std.specs.Prelude.{length}
 use Rattle.std.specs.List.{AllByRecursion}
-use Rattle.limits.specs.declared.TheConstants.{CHANGED_BLOCKS}
+use Rattle.base.specs.declared.TheConstants.{CHANGED_BLOCKS}
 use Rattle.nfs_types.specs.declared.call.Call as types
 use Rattle.nfs_types.specs.declared.ctx.Credential.{Credential}
 use Rattle.nfs_types.specs.declared.program.ProgramCall.{ProgramCall}
@@ -13,11 +13,11 @@ use Rattle.nfs_types.specs.declared.ctx.Moment.{Moment}
 use Rattle.nfs_types.specs.declared.reply.Reply.{Reply}
 use Rattle.nfs_types.specs.declared.status.Status.TheVariants as status
 use Rattle.nfs_types.specs.Fits.{AreBytes}
-use Rattle.model.specs.Calls.{begins_transaction, is_answered_stable, plain_reply}
-use Rattle.model.specs.Refused as model
-use Rattle.model.specs.Sound.{Sound, SoundTime}
-use Rattle.procedures.specs.Step.{step}
-use Rattle.model.specs.Tree.{Tree}
+use Rattle.nfs_spec.specs.Model.Calls.{begins_transaction, is_answered_stable, plain_reply}
+use Rattle.nfs_spec.specs.Model.Refused as model
+use Rattle.nfs_spec.specs.Model.Sound.{Sound, SoundTime}
+use Rattle.nfs_spec.specs.Procedures.Step.{step}
+use Rattle.nfs_spec.specs.Model.Tree.{Tree}
 use Rattle.session_wire.specs.declared.message.Judged.{Judged}
 use Rattle.session_wire.specs.declared.message.Judged.TheVariants.{Closed, Refused, Call}
 use Rattle.rpc.specs.declared.refusal.Refusal.TheVariants.{SystemError}

@@ -1,8 +1,8 @@
 //! Answering MOUNT (RFC 1813, section 5.2): a function of the call alone.
 ghost use Rattle.std.specs.Prelude.{◌≡◌, IfOk};
-ghost use Rattle.model.specs.Mount.{is_root_path, mount_reply as reply_of, mounted_at, root_mounted};
+ghost use Rattle.nfs_spec.specs.Model.Mount.{is_root_path, mount_reply as reply_of, mounted_at, root_mounted};
 
-use limits::ROOT;
+use base::ROOT;
 use nfs_types::{Handle, MountCall, MountReply, Mounted, NumberList, Stamp, Status};
 use rpc::AUTH_SYS;
 use std::alloc::{AllocError, Global};

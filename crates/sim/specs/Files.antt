@@ -4,14 +4,14 @@ use Rattle.std.specs.Prelude.{Vec, codes}
 use Rattle.std.specs.declared.alloc.Global.{Global}
 use Rattle.disk.specs.Memory.{memory_device}
 use Rattle.disk.specs.declared.mem_disk.MemDisk.{MemDisk}
-use Rattle.image_lines.specs.declared.line.Line.{Line}
-use Rattle.image_lines.specs.Printed.{lines_text}
-use Rattle.image_lines.specs.Shown.{IsShown}
-use Rattle.model.specs.Tree.{Tree}
+use Rattle.image_contents.specs.declared.lines.line.Line.{Line}
+use Rattle.image_contents.specs.Lines.Printed.{lines_text}
+use Rattle.image_contents.specs.Lines.Shown.{IsShown}
+use Rattle.nfs_spec.specs.Model.Tree.{Tree}
 use Rattle.store_promise.specs.GoodImage.{IsGoodImage}
 use Rattle.store_promise.specs.declared.fault.OpenFault.{OpenFault}
 use Rattle.store_promise.specs.declared.fault.OpenFault.TheVariants as opening
-use Rattle.wal_law.specs.Recovery.{HasOnlyRead, IsUnspoiled, image_of}
+use Rattle.circ.specs.Log.Recovery.{HasOnlyRead, IsUnspoiled, image_of}
 
 -- what a look at the files gives, where one was asked for
 abbrev pub Looked : Type 0

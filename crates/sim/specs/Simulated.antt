@@ -6,15 +6,15 @@ use Rattle.disk.specs.Memory.{blocks_of, memory_device, past_of, to_fail}
 use Rattle.disk.specs.declared.mem_disk.MemDisk.{MemDisk}
 use Rattle.layout.specs.declared.geometry.Geometry.{Geometry}
 use Rattle.layout.specs.Geometry.{IsLawful}
-use Rattle.limits.specs.declared.TheConstants.{BLOCK_BYTES, NANOSECONDS}
-use Rattle.model.specs.Tree.{Tree}
+use Rattle.base.specs.declared.TheConstants.{BLOCK_BYTES, NANOSECONDS}
+use Rattle.nfs_spec.specs.Model.Tree.{Tree}
 use Rattle.nfs_types.specs.declared.ctx.Moment.{Moment}
 use Rattle.store_images.specs.declared.formatting.FormatFault.{FormatFault}
 use Rattle.store_promise.specs.Headline.{IsPromised}
 use Rattle.store_promise.specs.Openings.{IsFormatted}
 use Rattle.store_promise.specs.Transcript.{Report}
 use Rattle.store_promise.specs.declared.fault.OpenFault.{OpenFault}
-use Rattle.store_runs.specs.FormattedRun.{IsNewDevice, IsNotMade}
+use Rattle.store.specs.Runs.FormattedRun.{IsNewDevice, IsNotMade}
 use Rattle.sim.specs.Crashing.{IsLeft, IsPoked}
 use Rattle.sim.specs.Files.{HasLooked, Looked, looked_lines}
 use Rattle.sim.specs.Lines.{boot_line, format_refused_line, open_refused_line}

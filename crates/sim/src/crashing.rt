@@ -1,6 +1,6 @@
 //! What a crash leaves, and bytes that are changed behind it.
 ghost use Rattle.std.specs.Prelude.{◌≡◌, ◌<◌, ◌≤◌, ◌+◌, length, IfOk, OnOk};
-ghost use Rattle.limits.specs.declared.TheConstants.{BLOCK_BYTES};
+ghost use Rattle.base.specs.declared.TheConstants.{BLOCK_BYTES};
 ghost use Rattle.disk.specs.Memory.{memory_device};
 ghost use Rattle.sim.specs.Crashing.{IsLeft, IsPoked, digits_of};
 

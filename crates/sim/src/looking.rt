@@ -5,7 +5,7 @@ ghost use Rattle.sim.specs.Files.{HasLooked, looked_lines, show_refused_line};
 
 use crate::fault::SimFault;
 use disk::MemDisk;
-use image_lines::print_lines;
+use image_contents::print_lines;
 use std::alloc::Global;
 use std::io::Write;
 use store::{Line, OpenFault, show};

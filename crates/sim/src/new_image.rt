@@ -1,11 +1,11 @@
 //! The image of a script.
 ghost use Rattle.std.specs.Prelude.{◌≡◌, IfErr, IfOk};
-ghost use Rattle.model.specs.Sound.{SoundTime};
-ghost use Rattle.store_runs.specs.FormattedRun.{IsNotMade};
+ghost use Rattle.nfs_spec.specs.Model.Sound.{SoundTime};
+ghost use Rattle.store.specs.Runs.FormattedRun.{IsNotMade};
 ghost use Rattle.sim.specs.Simulated.{IsImage};
 
+use base::{LEAST_BLOCKS, MOST_BLOCKS};
 use disk::MemDisk;
-use limits::{LEAST_BLOCKS, MOST_BLOCKS};
 use nfs_types::Moment;
 use std::alloc::Global;
 use store::{FormatFault, format};

@@ -2,7 +2,7 @@
 ghost use Rattle.std.specs.Prelude.{◌≡◌, [], IfOk, OnOk};
 ghost use Rattle.sim.specs.Simulated.{Does, Ends, HasPoked, IsMade, IsPlayed, IsPokedWhere, IsStopped, Prints};
 ghost use Rattle.sim.specs.Simulated.{acted, is_within, moment_after, next_moment, opened, shown};
-ghost use Rattle.model.specs.Sound.{SoundTime};
+ghost use Rattle.nfs_spec.specs.Model.Sound.{SoundTime};
 
 use crate::crashing::{crashed, poke};
 use crate::fault::SimFault;
@@ -11,8 +11,8 @@ use crate::new_image::image;
 use crate::playing::play;
 use crate::segment::Segment;
 use crate::stage::Stage;
+use base::{BLOCK_BYTES, NANOSECONDS};
 use disk::{BlockNo, CrashDisk, MemDisk};
-use limits::{BLOCK_BYTES, NANOSECONDS};
 use nfs_types::Moment;
 use sim_words::{Action, Choice, Command};
 use std::alloc::{AllocError, Global};

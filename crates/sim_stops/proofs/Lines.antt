@@ -1,8 +1,8 @@
 -- Lines are the same where their comparison says so.
 use Rattle.std.proofs.Common.{◌≡◌, true, rules, subst}
 use Rattle.std.specs.Bool.{Decides}
-use Rattle.image_lines.specs.declared.line.Line.{Line}
-use Rattle.image_lines.specs.contracts.line.LinePartialEq.TheImpl.{eq-value}
+use Rattle.image_contents.specs.declared.lines.line.Line.{Line}
+use Rattle.image_contents.specs.contracts.lines.line.LinePartialEq.TheImpl.{eq-value}
 
 whole : (a b : Line) → eq-value.it a b ≡ true → a ≡ b
 whole a b same = search rules

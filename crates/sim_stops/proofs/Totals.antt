@@ -3,7 +3,7 @@ use Rattle.std.proofs.Common.{◌≡◌, ◌∙◌, ℕ, ◌+◌, ◌-◌, ◌<�
 use Rattle.std.proofs.Common.{Bool, true, false, length-append, ltb-false, ltb-true, nat_lt}
 use Rattle.std.proofs.lemmas.List.Elements.{All-nil, All-push}
 use Rattle.std.specs.declared.alloc.Global.{Global}
-use Rattle.image_lines.specs.declared.line.Line.{Line}
+use Rattle.image_contents.specs.declared.lines.line.Line.{Line}
 use Rattle.sim_stops.specs.Tried.{AreTriedStops, IsTriedStop, total_from}
 use Rattle.sim_stops.specs.declared.script.Asked.{Asked}
 

@@ -1,9 +1,9 @@
 -- Up to which place a run has answered its procedures as stable.
 use Rattle.std.specs.Prelude.{ℕ, zero, suc, Bool, List, [], ◌∷◌, Option, None, Some, max, slice_get, if◌then◌else◌}
-use Rattle.model.specs.Calls.{is_answered_stable}
+use Rattle.nfs_spec.specs.Model.Calls.{is_answered_stable}
 use Rattle.store_promise.specs.declared.transcript.Answer.{Answer}
 use Rattle.store_promise.specs.declared.transcript.Committed.{Committed}
-use Rattle.wal_law.specs.declared.outcomes.Seq.{Seq}
+use Rattle.circ.specs.declared.log.outcomes.Seq.{Seq}
 
 -- a place whose entry is answered only once it is stable (RFC 1813, section 4.8), or 0
 abbrev pub place_with : ℕ → Option Committed → ℕ

@@ -3,8 +3,8 @@ use Rattle.std.specs.Prelude.{◌≡◌, ℕ, List, [], length, Ok, Vec}
 use Rattle.std.specs.declared.alloc.Global.{Global}
 use Rattle.disk.specs.Memory.{memory_device}
 use Rattle.disk.specs.declared.mem_disk.MemDisk.{MemDisk}
-use Rattle.image_lines.specs.declared.line.Line.{Line}
-use Rattle.model.specs.Tree.{Tree}
+use Rattle.image_contents.specs.declared.lines.line.Line.{Line}
+use Rattle.nfs_spec.specs.Model.Tree.{Tree}
 use Rattle.store_promise.specs.Headline.{IsPromised}
 use Rattle.store_promise.specs.Transcript.{Report, report_of}
 use Rattle.store_promise.specs.declared.events.Event.{Event}

@@ -4,7 +4,7 @@ use Rattle.std.specs.declared.alloc.Global.{Global}
 use Rattle.disk.specs.Choice.{chosen}
 use Rattle.disk.specs.Memory.{blocks_of}
 use Rattle.disk.specs.declared.mem_disk.MemDisk.{MemDisk}
-use Rattle.image_lines.specs.declared.line.Line.{Line}
+use Rattle.image_contents.specs.declared.lines.line.Line.{Line}
 use Rattle.store_promise.specs.declared.transcript.Run.{Run}
 use Rattle.sim_stops.specs.CrashChoices.{choice_of, choices_of, counts_in}
 use Rattle.sim_stops.specs.Promised.{promised_of}

@@ -1,7 +1,7 @@
 -- The files that an image may have.
 use Rattle.std.specs.Prelude.{◌≡◌, ℕ, ◌≤◌, List, Option, Some, None, Vec, option_map, slice_get}
 use Rattle.std.specs.declared.alloc.Global.{Global}
-use Rattle.image_lines.specs.declared.line.Line.{Line}
+use Rattle.image_contents.specs.declared.lines.line.Line.{Line}
 
 -- the files behind so many entries
 abbrev pub files_behind : List (Vec Line Global) → ℕ → Option (List Line)

@@ -1,8 +1,8 @@
 //! The files of images, and those behind each beginning of a history.
 
 use crate::fault::StopsFault;
+use base::NANOSECONDS;
 use disk::{BlockNo, CrashDisk, MemDisk};
-use limits::NANOSECONDS;
 use std::alloc::Global;
 use store::{Committed, Line, can_be_spelled, replay, show};
 

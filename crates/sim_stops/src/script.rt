@@ -1,11 +1,11 @@
 //! A script whose stops are tried: its image, and what happens to that.
 ghost use Rattle.std.specs.Prelude.{IfOk};
-ghost use Rattle.model.specs.Sound.{SoundTime};
+ghost use Rattle.nfs_spec.specs.Model.Sound.{SoundTime};
 ghost use Rattle.sim.specs.Simulated.{IsImage};
 
 use crate::fault::StopsFault;
+use base::NANOSECONDS;
 use disk::MemDisk;
-use limits::NANOSECONDS;
 use nfs_types::Moment;
 use sim::{Segment, image};
 use sim_words::{Command, stop_commands};

@@ -2,7 +2,7 @@
 use Rattle.std.proofs.Common.{◌≡◌, ◌≤◌, ◌∙◌, ℕ, Bool, List, Some, None, if◌then◌else◌, inl, inr, length, refl, sym, ap}
 use Rattle.std.proofs.lemmas.Bool.{le-ltb}
 use Rattle.std.specs.Prelude.{◌⊎◌}
-use Rattle.limits.specs.declared.TheConstants.{RECORD_BYTES}
+use Rattle.base.specs.declared.TheConstants.{RECORD_BYTES}
 use Rattle.nfs_types.specs.declared.ctx.Credential.{Credential}
 use Rattle.nfs_types.specs.declared.program.ProgramCall.{ProgramCall}
 use Rattle.rpc.specs.declared.refusal.Refusal.{Refusal}

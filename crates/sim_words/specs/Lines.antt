@@ -1,7 +1,7 @@
 -- What the words of a line ask for.
 use Rattle.std.specs.Prelude.{ℕ, zero, suc, List, [], ◌∷◌, ◌++◌, Option, Some, None, codes, nat_lt, if◌then◌else◌}
 use Rattle.std.specs.Str.{bytes_eq}
-use Rattle.limits.specs.declared.TheConstants.{NANOSECONDS}
+use Rattle.base.specs.declared.TheConstants.{NANOSECONDS}
 use Rattle.nfs_types.specs.declared.ctx.Moment.{Moment}
 use Rattle.sim_words.specs.declared.command.Action.{Action}
 use Rattle.sim_words.specs.declared.command.Action.TheVariants as act

@@ -1,6 +1,6 @@
 -- Which command may stand where.
 use Rattle.std.specs.Prelude.{ℕ, ◌+◌, Bool, true, false, ◌&&◌, nat_lt, nat_le, List, length, Option, Some, None, if◌then◌else◌}
-use Rattle.limits.specs.declared.TheConstants.{BLOCK_BYTES}
+use Rattle.base.specs.declared.TheConstants.{BLOCK_BYTES}
 use Rattle.sim_words.specs.declared.command.Action.{Action}
 use Rattle.sim_words.specs.declared.command.Action.TheVariants as act
 use Rattle.sim_words.specs.declared.command.Command.{Command}

@@ -8,8 +8,8 @@ use crate::fault::LineFault;
 use crate::message::message_of;
 use crate::numbers::{bytes_of, number_of};
 use crate::words::{Words, is};
+use base::NANOSECONDS;
 use bytes::Bytes;
-use limits::NANOSECONDS;
 use nfs_types::{Moment, NumberList, Octets};
 use std::alloc::Global;
 

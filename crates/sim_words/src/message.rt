@@ -4,8 +4,8 @@ ghost use Rattle.sim_words.specs.Messages.{message_of, message_with};
 ghost use Rattle.sim_words.specs.Reading.{Gives};
 
 use crate::fault::LineFault;
+use base::RECORD_BYTES;
 use bytes::Bytes;
-use limits::RECORD_BYTES;
 use nfs_types::{Call, Credential, ProgramCall};
 use rpc::Refusal;
 use session_wire::{Judged, judge};

@@ -4,7 +4,7 @@ ghost use Rattle.sim_words.specs.Places.{after, after_image, after_show, lies_in
 ghost use Rattle.sim_words.specs.Places.{after_action, after_poke, fails};
 
 use crate::command::{Action, Command};
-use limits::BLOCK_BYTES;
+use base::BLOCK_BYTES;
 
 /// Where the next command of a script stands, and how many blocks the image has.
 #[derive(Clone, Copy)]

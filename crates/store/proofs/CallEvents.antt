@@ -7,19 +7,19 @@ use Rattle.std.proofs.Common.{◌++◌, option_to_list}
 use Rattle.std.specs.Prelude.{IsSomeAnd}
 use Rattle.std.proofs.lemmas.List.{append-nil}
 use Rattle.std.proofs.lemmas.List.Elements.{All-nil}
-use Rattle.limits.specs.declared.TheConstants.{MOST_KEPT_COMMITS}
+use Rattle.base.specs.declared.TheConstants.{MOST_KEPT_COMMITS}
 use Rattle.disk.specs.Blocks.{AreBlocks}
 use Rattle.disk.specs.Crash.{Image, IsCrashImage}
 use Rattle.disk.specs.Device.{Content, CountsFailure, Device, OneLater}
 use Rattle.disk.specs.declared.device.Failed.{Failed}
 use Rattle.layout.specs.Geometry.{IsLawful}
-use Rattle.model.specs.Entry.{Entry}
-use Rattle.model.specs.Calls.{begins_transaction}
-use Rattle.model.specs.Tree.{Tree}
+use Rattle.nfs_spec.specs.Model.Entry.{Entry}
+use Rattle.nfs_spec.specs.Model.Calls.{begins_transaction}
+use Rattle.nfs_spec.specs.Model.Tree.{Tree}
 use Rattle.txn_law.specs.Core.{CoreState, IsOut}
 use Rattle.txn_law.specs.Fetch.{Fetch}
-use Rattle.wal_law.specs.Calls.{Pending, idle as nothing_out}
-use Rattle.wal_law.specs.Log.{settled_place}
+use Rattle.circ.specs.Log.Calls.{Pending, idle as nothing_out}
+use Rattle.circ.specs.Log.Log.{settled_place}
 use Rattle.procs.specs.SoundCalls.{SoundCall}
 use Rattle.store_promise.specs.OpenSince.{HasKeptFiles, IsOpenSince, KeepsFiles, LeavesBeginning}
 use Rattle.store_promise.specs.Progress.{Begun, Progress, Stage, At, Idle, Called, Planning, Reading, Read}
@@ -31,7 +31,7 @@ use Rattle.store_promise.specs.declared.answers.CallAnswer.{CallAnswer}
 use Rattle.store_promise.specs.declared.answers.Verdict.{Verdict}
 use Rattle.store_promise.specs.declared.events.Step.{Step}
 use Rattle.store_promise.specs.declared.events.Step.TheVariants as step
-use Rattle.store_runs.specs.AtWork.{IsCoreAtWork, fetches_in, fetches_of}
+use Rattle.store.specs.Runs.AtWork.{IsCoreAtWork, fetches_in, fetches_of}
 use Rattle.store.specs.Calling.{IsBegunFor, GoesTo, HasAnswered, HasStepped, HasWaited, IsCalling, IsOpenAt, IsOpenWith}
 use Rattle.store.specs.Calling.{IsAfter, IsSoFar}
 use Rattle.store.specs.Calling.{LeavesFiles, Outset, StandsWith, Tells}
@@ -57,7 +57,7 @@ use Rattle.store_workers.specs.declared.workers.parts.Work.{Work}
 use Rattle.store.proofs.CallStages.{begun_then, broken_after, comes_then, so_far_still, tells_still}
 use Rattle.store.proofs.CallSteps.{open_of, runs_of, setting_of}
 use Rattle.store.proofs.DrivenAlone.{starts_alone}
-use Rattle.store_runs.proofs.GoingOn.{still_at_work}
+use Rattle.store.proofs.RunsLemmas.GoingOn.{still_at_work}
 use Rattle.store_workers.proofs.HowFar.{some_of}
 use Rattle.store_promise.proofs.Later.{past_more, past_none, past_one}
 use Rattle.store_images.proofs.Later.{some_image}

@@ -5,15 +5,15 @@ use Rattle.std.proofs.Common.{Bool, true, false, ◌||◌, if◌then◌else◌, 
 use Rattle.std.proofs.Common.{Result, Ok, Err}
 use Rattle.std.proofs.Common.{List, [], ◌∷◌, ◌++◌, length, map, option_to_list, zero, suc, slice_get}
 use Rattle.std.proofs.lemmas.Bool.Decides.{nat_tests}
-use Rattle.limits.specs.declared.TheConstants.{MOST_KEPT_COMMITS}
+use Rattle.base.specs.declared.TheConstants.{MOST_KEPT_COMMITS}
 use Rattle.disk.specs.declared.block.BlockNo.{BlockNo}
-use Rattle.model.specs.Entry.{Entry}
-use Rattle.model.specs.Calls.{begins_transaction, is_answered_stable}
-use Rattle.model.specs.Tree.{Tree}
+use Rattle.nfs_spec.specs.Model.Entry.{Entry}
+use Rattle.nfs_spec.specs.Model.Calls.{begins_transaction, is_answered_stable}
+use Rattle.nfs_spec.specs.Model.Tree.{Tree}
 use Rattle.txn.specs.declared.outcomes.BeginFault.{BeginFault}
 use Rattle.txn.specs.declared.outcomes.BeginFault.TheVariants as begin_fault
-use Rattle.wal_law.specs.Log.{settled_place}
-use Rattle.wal_law.specs.declared.outcomes.Seq.{Seq}
+use Rattle.circ.specs.Log.Log.{settled_place}
+use Rattle.circ.specs.declared.log.outcomes.Seq.{Seq}
 use Rattle.store_promise.specs.LogTold.{settled_told}
 use Rattle.store_promise.specs.Progress.{Begun, Job, Progress, Stage, At, Idle, Called, Planning, Reading, Read}
 use Rattle.store_promise.specs.Progress.{Refused, Again, Waiting, Taken, Wished, after_called, after_claimed}
@@ -42,7 +42,7 @@ use Rattle.store_promise.specs.declared.events.Wish.{Wish}
 use Rattle.store_promise.specs.declared.events.Wish.TheVariants as wish
 use Rattle.store_promise.specs.declared.transcript.Answer.{Answer}
 use Rattle.store_promise.specs.declared.transcript.Committed.{Committed}
-use Rattle.store_runs.specs.AtWork.{has_committed}
+use Rattle.store.specs.Runs.AtWork.{has_committed}
 use Rattle.store.specs.Calling.{ComesTo, FindsNoNumber, FindsNoRoom, HasCause, IsAfter, IsBegunFor, IsMadeFor}
 use Rattle.store.specs.Calling.{IsOfNull, IsRefusal, IsSoFar}
 use Rattle.store.specs.Calling.{Outset, StandsWith, Tells}

@@ -10,18 +10,18 @@ use Rattle.disk.specs.Device.{Content, Device}
 use Rattle.disk.specs.declared.block.BlockNo.{BlockNo}
 use Rattle.objects.specs.declared.addr.Addr.{Addr}
 use Rattle.objects.specs.declared.mode.Mode.{Mode}
-use Rattle.model.specs.Entry.{Entry}
-use Rattle.model.specs.Calls.{begins_transaction, is_answered_stable}
-use Rattle.procedures.specs.Step as procedures
-use Rattle.model.specs.Tree.{Tree}
+use Rattle.nfs_spec.specs.Model.Entry.{Entry}
+use Rattle.nfs_spec.specs.Model.Calls.{begins_transaction, is_answered_stable}
+use Rattle.nfs_spec.specs.Procedures.Step as procedures
+use Rattle.nfs_spec.specs.Model.Tree.{Tree}
 use Rattle.layout.specs.declared.geometry.Geometry.{Geometry}
 use Rattle.txn_law.specs.Fetch.{Fetch}
 use Rattle.txn_law.specs.Group.{blocks_of}
-use Rattle.wal_law.specs.Calls.{idle}
-use Rattle.wal_law.specs.Grows.{GrowsBy}
-use Rattle.wal_law.specs.Log.{Log, added_blocks, installed_place, place_before, settled_place}
-use Rattle.wal_law.specs.declared.change.LogChange.{LogChange}
-use Rattle.wal_law.specs.declared.outcomes.Seq.{Seq}
+use Rattle.circ.specs.Log.Calls.{idle}
+use Rattle.circ.specs.Log.Grows.{GrowsBy}
+use Rattle.circ.specs.Log.Log.{Log, added_blocks, installed_place, place_before, settled_place}
+use Rattle.circ.specs.declared.log.change.LogChange.{LogChange}
+use Rattle.circ.specs.declared.log.outcomes.Seq.{Seq}
 use Rattle.store_promise.specs.LogTold.{added_told}
 use Rattle.store_promise.specs.History.{ctx_of}
 use Rattle.store_promise.specs.OpenSince.{HasKeptFiles, StandsBeside, blocks_after, file_blocks}
@@ -42,7 +42,7 @@ use Rattle.store_promise.specs.declared.events.Step.TheVariants as step
 use Rattle.store_promise.specs.declared.transcript.Answer.{Answer}
 use Rattle.store_promise.proofs.Later.{past_none}
 use Rattle.store_promise.proofs.ToldLog.{settled_is}
-use Rattle.store_runs.specs.AtWork.{GoesOnWith, IsCoreAtWork, entry_by, fetches_of, has_committed, with_core}
+use Rattle.store.specs.Runs.AtWork.{GoesOnWith, IsCoreAtWork, entry_by, fetches_of, has_committed, with_core}
 use Rattle.store.specs.Calling.{ComesTo, HasCause, HasStepped, IsAfter, IsCalling, IsMadeFor, IsOpenAt, IsSoFar}
 use Rattle.store.specs.Calling.{Outset}
 use Rattle.store.specs.Calling.{StandsWith, Tells}
@@ -63,13 +63,13 @@ use Rattle.store_workers.specs.declared.workers.parts.Job.{Job as WorkJob}
 use Rattle.store_workers.specs.declared.workers.parts.Phase as phases
 use Rattle.store_workers.specs.declared.workers.parts.Phase.TheVariants as Phase
 use Rattle.store_workers.specs.declared.workers.parts.State.{State}
-use Rattle.store_runs.proofs.AtWorkStays.{some_of}
+use Rattle.store.proofs.RunsLemmas.AtWorkStays.{some_of}
 use Rattle.store.proofs.RefusedChanges.{finds, is_spent, no_room}
 use Rattle.store.proofs.CallStages.{IsStepFrom, begun_then as number_then, comes_then, made_so_far}
 use Rattle.store.proofs.CallStages.{made_tells}
 use Rattle.store.proofs.CallStages.{next_ok, noted, same_entries, stands_then}
 use Rattle.store.proofs.CallStages.{so_far_then, tells_of, told_by}
-use Rattle.store_runs.proofs.GoingWork.{has_replies}
+use Rattle.store.proofs.RunsLemmas.GoingWork.{has_replies}
 use Rattle.store_images.proofs.StillOpen.{further_then}
 
 -- ---- an open store as a run that goes on

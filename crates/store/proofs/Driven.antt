@@ -12,15 +12,15 @@ use Rattle.std.proofs.lemmas.Nat.{mul-le}
 use Rattle.disk.specs.Device.{Device}
 use Rattle.disk.specs.declared.block.BlockNo.{BlockNo}
 use Rattle.disk.specs.declared.device.Failed.{Failed}
-use Rattle.limits.specs.declared.TheConstants.{CHANGED_BLOCKS}
+use Rattle.base.specs.declared.TheConstants.{CHANGED_BLOCKS}
 use Rattle.objects.specs.declared.addr.Addr.{Addr}
 use Rattle.objects.specs.declared.mode.Mode.{Mode}
-use Rattle.model.specs.Calls.{is_answered_stable}
+use Rattle.nfs_spec.specs.Model.Calls.{is_answered_stable}
 use Rattle.nfs_types.specs.declared.call.Call.{Call}
 use Rattle.nfs_types.specs.declared.ctx.Ctx.{Ctx}
 use Rattle.nfs_types.specs.declared.reply.Reply.{Reply}
-use Rattle.wal_law.specs.Log.{Log, settled_place}
-use Rattle.wal_law.specs.declared.outcomes.Seq.{Seq}
+use Rattle.circ.specs.Log.Log.{Log, settled_place}
+use Rattle.circ.specs.declared.log.outcomes.Seq.{Seq}
 use Rattle.procs.specs.MostAsked.{most_asked, most_claimed, times_asked}
 use Rattle.procs.specs.Outcome.{Outcome}
 use Rattle.procs.specs.Planned.{IsPlanFor}

@@ -5,7 +5,7 @@ use Rattle.std.specs.Prelude.{IsSomeAnd}
 use Rattle.disk.specs.Device.{Device}
 use Rattle.nfs_types.specs.declared.call.Call.{Call}
 use Rattle.nfs_types.specs.declared.ctx.Ctx.{Ctx}
-use Rattle.wal_law.specs.Log.{IsLawful}
+use Rattle.circ.specs.Log.Log.{IsLawful}
 use Rattle.txn.specs.Core.{CoreState}
 use Rattle.txn.specs.Fetch.{Fetch}
 use Rattle.txn.specs.Tidy.{AreTidy}

@@ -7,3 +7,4 @@ pub mod Driven
 pub mod DrivenAlone
 pub mod LogRoom
 pub mod RefusedChanges
+pub mod RunsLemmas

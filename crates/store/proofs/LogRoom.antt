@@ -4,13 +4,13 @@ use Rattle.std.proofs.Common.{◌||◌, nat_le, List, [], ◌∷◌, length, dro
 use Rattle.std.proofs.lemmas.Bool.Decides.{nat_tests}
 use Rattle.std.proofs.lemmas.List.{length-drop}
 use Rattle.std.proofs.lemmas.List.Elements.{All-head}
-use Rattle.limits.specs.declared.TheConstants.{CHANGED_BLOCKS, LOG_SLOTS}
-use Rattle.wal_law.specs.Log.{IsCommitted, IsLawful, IsRising, Log, added_blocks, first_place, place_before}
-use Rattle.wal_law.specs.Log.{settled_place, tail_blocks, tail_count}
-use Rattle.wal_law.proofs.Tail.{few_new}
-use Rattle.wal_law.specs.declared.change.LogChange.{LogChange}
-use Rattle.wal_law.specs.declared.outcomes.Room.TheVariants as room
-use Rattle.wal_law.proofs.Places.{rising-drop}
+use Rattle.base.specs.declared.TheConstants.{CHANGED_BLOCKS, LOG_SLOTS}
+use Rattle.circ.specs.Log.Log.{IsCommitted, IsLawful, IsRising, Log, added_blocks, first_place, place_before}
+use Rattle.circ.specs.Log.Log.{settled_place, tail_blocks, tail_count}
+use Rattle.circ.proofs.LogLemmas.Tail.{few_new}
+use Rattle.circ.specs.declared.log.change.LogChange.{LogChange}
+use Rattle.circ.specs.declared.log.outcomes.Room.TheVariants as room
+use Rattle.circ.proofs.LogLemmas.Places.{rising-drop}
 use Rattle.txn.specs.Commit.{Planned}
 use Rattle.txn.specs.Core.{CoreState}
 use Rattle.txn.specs.Group.{blocks_of}

@@ -5,11 +5,11 @@ use Rattle.std.specs.Prelude.{unwrap_or}
 use Rattle.std.proofs.lemmas.List.{append-nil}
 use Rattle.std.proofs.lemmas.List.Elements.{All-contains}
 use Rattle.disk.specs.Crash.{Image}
-use Rattle.model.specs.Entry.{Entry}
-use Rattle.model.specs.Tree.{Tree}
+use Rattle.nfs_spec.specs.Model.Entry.{Entry}
+use Rattle.nfs_spec.specs.Model.Tree.{Tree}
 use Rattle.nfs_types.specs.declared.call.Call.{Call}
 use Rattle.nfs_types.specs.declared.ctx.Ctx.{Ctx}
-use Rattle.procedures.specs.Step as procedures
+use Rattle.nfs_spec.specs.Procedures.Step as procedures
 use Rattle.layout.specs.declared.geometry.Geometry.{Geometry}
 use Rattle.layout.specs.Stands.{Stands}
 use Rattle.inode.specs.Read.{AreAsRead}
@@ -24,9 +24,9 @@ use Rattle.txn_law.specs.Commit.{IsReadBy}
 use Rattle.txn_law.specs.Fetch.{Fetch}
 use Rattle.txn_law.specs.Group.{blocks_of}
 use Rattle.txn_law.specs.Window.{with_objects}
-use Rattle.wal_law.specs.Calls.{idle}
-use Rattle.wal_law.specs.Log.{added_blocks}
-use Rattle.wal_law.specs.declared.outcomes.Room.TheVariants as room
+use Rattle.circ.specs.Log.Calls.{idle}
+use Rattle.circ.specs.Log.Log.{added_blocks}
+use Rattle.circ.specs.declared.log.outcomes.Room.TheVariants as room
 use Rattle.store_promise.specs.History.{ctx_of}
 use Rattle.store_promise.specs.OpenSince.{IsOpenSince, file_blocks}
 use Rattle.store_promise.specs.Progress.{Begun, Job, At}
@@ -44,7 +44,7 @@ use Rattle.store_workers.specs.declared.workers.parts.Phase as phases
 use Rattle.store_workers.specs.declared.workers.parts.Phase.TheVariants as Phase
 use Rattle.store_workers.specs.declared.workers.parts.State.{State}
 use Rattle.store_workers.proofs.WorkCases.{Cases, by_cases}
-use Rattle.store_runs.proofs.AtWorkStays.{some_of}
+use Rattle.store.proofs.RunsLemmas.AtWorkStays.{some_of}
 use Rattle.store.specs.Calling.{ComesTo, FindsNoRoom, IsAfter, IsCalling, IsPlannedFor, IsSoFar, Outset}
 use Rattle.store.specs.Calling.{StandsWith}
 use Rattle.store_images.specs.Opening.{Opened}

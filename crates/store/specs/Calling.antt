@@ -2,14 +2,14 @@
 use Rattle.std.specs.Prelude.{◌≡◌, ℕ, ◌+◌, ◌^◌, ◌<◌, ◌≤◌, ◌⊎◌, true, false, Option, Some, None, IfSome, is_some}
 use Rattle.std.specs.Prelude.{Bool, List, [], ◌++◌, All, length, option_to_list}
 use Rattle.std.proofs.Common.{inl, inr}
-use Rattle.limits.specs.declared.TheConstants.{CHANGED_BLOCKS, MOST_KEPT_COMMITS}
+use Rattle.base.specs.declared.TheConstants.{CHANGED_BLOCKS, MOST_KEPT_COMMITS}
 use Rattle.disk.specs.Crash.{Image, IsCrashImage}
 use Rattle.disk.specs.Device.{Device}
-use Rattle.model.specs.Entry.{Entry}
-use Rattle.model.specs.Calls.{begins_transaction, is_answered_stable}
-use Rattle.model.specs.Refused.{refused}
-use Rattle.procedures.specs.Step as procedures
-use Rattle.model.specs.Tree.{Tree}
+use Rattle.nfs_spec.specs.Model.Entry.{Entry}
+use Rattle.nfs_spec.specs.Model.Calls.{begins_transaction, is_answered_stable}
+use Rattle.nfs_spec.specs.Model.Refused.{refused}
+use Rattle.nfs_spec.specs.Procedures.Step as procedures
+use Rattle.nfs_spec.specs.Model.Tree.{Tree}
 use Rattle.nfs_types.specs.declared.call.Call.{Call}
 use Rattle.nfs_types.specs.declared.ctx.Credential.{Credential}
 use Rattle.nfs_types.specs.declared.ctx.Moment.{Moment}
@@ -22,9 +22,9 @@ use Rattle.txn_law.specs.Core.{CoreState}
 use Rattle.txn_law.specs.Fetch.{Fetch}
 use Rattle.txn_law.specs.Group.{blocks_of}
 use Rattle.txn_law.specs.Window.{with_objects}
-use Rattle.wal_law.specs.Calls.{idle}
-use Rattle.wal_law.specs.Log.{added_blocks, settled_place}
-use Rattle.wal_law.specs.Room.{HasPlaces}
+use Rattle.circ.specs.Log.Calls.{idle}
+use Rattle.circ.specs.Log.Log.{added_blocks, settled_place}
+use Rattle.circ.specs.Log.Room.{HasPlaces}
 use Rattle.store_promise.specs.History.{ctx_of}
 use Rattle.store_promise.specs.OpenSince.{HasKeptFiles, IsOpenSince, KeepsFiles, LeavesBeginning, file_blocks}
 use Rattle.store_promise.specs.Openings.{IsLater, LeavesImages}
@@ -41,7 +41,7 @@ use Rattle.store_promise.specs.declared.answers.Verdict.{Verdict}
 use Rattle.store_promise.specs.declared.answers.Verdict.TheVariants as verdict
 use Rattle.store_promise.specs.declared.events.Cause.{Cause}
 use Rattle.store_promise.specs.declared.events.Cause.TheVariants as cause
-use Rattle.store_runs.specs.AtWork.{IsCoreAtWork, fetches_of}
+use Rattle.store.specs.Runs.AtWork.{IsCoreAtWork, fetches_of}
 use Rattle.store_images.specs.Further.{IsFurther, LeavesOpen}
 use Rattle.store_images.specs.Opening.{Opened}
 use Rattle.store_images.specs.Settling.{HasBroken, HasFailed}

@@ -2,9 +2,9 @@
 use Rattle.std.specs.Prelude.{◌≡◌, ℕ, ◌+◌, ◌-◌, ◌*◌, ◌<◌, ◌≤◌, ◌⊎◌, Bool, true, false, ◌&&◌, ◌||◌}
 use Rattle.std.specs.Prelude.{nat_le}
 use Rattle.std.specs.Prelude.{if◌then◌else◌, Option, Some, None, is_some, length, zero, suc}
-use Rattle.limits.specs.declared.TheConstants.{CHANGED_BLOCKS, LOG_SLOTS}
+use Rattle.base.specs.declared.TheConstants.{CHANGED_BLOCKS, LOG_SLOTS}
 use Rattle.disk.specs.declared.block.BlockNo.{BlockNo}
-use Rattle.wal_law.specs.Log.{Log, settled_place, tail_count}
+use Rattle.circ.specs.Log.Log.{Log, settled_place, tail_count}
 use Rattle.procs.specs.MostAsked.{most_asked, most_claimed, times_asked}
 use Rattle.txn.specs.Core.{CoreState}
 use Rattle.txn.specs.Leaves.{in_memory}

@@ -2,13 +2,13 @@
 //! settling that it waits for, keep it going.
 ghost use Rattle.std.specs.Prelude.{◌≡◌, ℕ, Bool, true, Ok, Option, List, []};
 ghost use Rattle.disk.specs.Device.{Device};
-ghost use Rattle.model.specs.Entry.{Entry};
-ghost use Rattle.model.specs.Calls.{begins_transaction};
-ghost use Rattle.model.specs.Tree.{Tree};
+ghost use Rattle.nfs_spec.specs.Model.Entry.{Entry};
+ghost use Rattle.nfs_spec.specs.Model.Calls.{begins_transaction};
+ghost use Rattle.nfs_spec.specs.Model.Tree.{Tree};
 ghost use Rattle.txn_law.specs.Core.{CoreState};
 ghost use Rattle.txn_law.specs.HomeRead.{HasContents};
 ghost use Rattle.txn_law.specs.Tidy.{AreTidy};
-ghost use Rattle.wal_law.specs.Log.{IsLawful};
+ghost use Rattle.circ.specs.Log.Log.{IsLawful};
 ghost use Rattle.procs.specs.SoundCalls.{SoundCall};
 ghost use Rattle.store_promise.specs.declared.events.Step.{Step};
 ghost use Rattle.store.specs.Calling.{HasStepped, HasWaited, IsCalling, IsOpenWith, Outset};
@@ -29,7 +29,7 @@ pub fn an_opened_store_is_open()
     ensures { (before : Device) (store : Opened) (tree : Tree) (first : ℕ) → Opens before (Ok store) tree first
         → IsOpenWith store tree [] tree }
 {
-    run_law::a_run_begins();
+    store_law::a_run_begins();
 }
 
 /// What a settling leaves of a store that is open for some entries is open for the same.
@@ -62,10 +62,10 @@ pub(crate) fn a_step_keeps_a_call_going()
 {
     layout::counts_make_one_geometry();
     store_promise::an_open_store_keeps_its_files();
-    store_runs::a_core_at_work_stays_so();
-    store_runs::a_worker_leaves_the_run_going();
-    store_runs::a_workers_step_is_told();
-    store_runs::a_workers_step_may_be_made();
+    crate::runs::a_core_at_work_stays_so();
+    crate::runs::a_worker_leaves_the_run_going();
+    crate::runs::a_workers_step_is_told();
+    crate::runs::a_workers_step_may_be_made();
     store_workers::a_worker_tells_its_steps();
 }
 
@@ -77,7 +77,7 @@ pub(crate) fn a_read_keeps_a_call_going()
         → IsCalling o (record now { device = device }) new }
 {
     store_promise::an_open_store_keeps_its_files();
-    store_runs::a_read_leaves_the_run_going();
+    crate::runs::a_read_leaves_the_run_going();
     store_workers::a_worker_tells_its_read();
 }
 

@@ -1,7 +1,7 @@
 //! One call to its answer, by one thread.
 ghost use Rattle.std.specs.Prelude.{◌≡◌, ◌≤◌, ◌⊎◌, length, true};
-ghost use Rattle.limits.specs.declared.TheConstants.{MOST_KEPT_COMMITS};
-ghost use Rattle.model.specs.Sound.{SoundTime};
+ghost use Rattle.base.specs.declared.TheConstants.{MOST_KEPT_COMMITS};
+ghost use Rattle.nfs_spec.specs.Model.Sound.{SoundTime};
 ghost use Rattle.nfs_types.specs.Fits.{CallFits};
 ghost use Rattle.store_workers.specs.Alone.{IsAlone, IsOutAlone, is_full};
 ghost use Rattle.store.specs.Calling.{Answers, HasAnswered, HasStepped, IsCalling, Outset, asked_of};

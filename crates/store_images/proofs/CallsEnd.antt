@@ -1,11 +1,11 @@
 -- A call of a side leaves the position behind the last change, and nothing of its side out.
 use Rattle.std.proofs.Common.{arith, ◌≡◌, ◌∙◌, refl, sym, ap, ℕ, ◌+◌, Bool, true, false, if◌then◌else◌, nat_eq, nat_lt}
 use Rattle.std.proofs.lemmas.List.{length-drop}
-use Rattle.wal_law.specs.Installer.{IsNextInstCall, is_inst_out, next_home, with_inst_back, with_inst_out}
-use Rattle.wal_law.specs.Installer.{with_installed}
-use Rattle.wal_law.specs.Io.{Io}
-use Rattle.wal_law.specs.Log.{IsLawful, Log}
-use Rattle.wal_law.specs.Logger.{IsNextLogCall, is_log_out, with_log_back, with_log_out}
+use Rattle.circ.specs.Log.Installer.{IsNextInstCall, is_inst_out, next_home, with_inst_back, with_inst_out}
+use Rattle.circ.specs.Log.Installer.{with_installed}
+use Rattle.circ.specs.Log.Io.{Io}
+use Rattle.circ.specs.Log.Log.{IsLawful, Log}
+use Rattle.circ.specs.Log.Logger.{IsNextLogCall, is_log_out, with_log_back, with_log_out}
 use Rattle.store_images.specs.Further.{end_of}
 use Rattle.store_images.proofs.CallsLeft.{given_back}
 use Rattle.store_images.proofs.OutCalls.{inst_is_out, its_is_out}

@@ -5,22 +5,22 @@ use Rattle.std.proofs.Common.{◌&&◌, ◌||◌, nat_eq, nat_lt, nat_le, if◌t
 use Rattle.std.proofs.Common.{zero, suc}
 use Rattle.std.proofs.lemmas.Bool.Decides.{nat_tests}
 use Rattle.std.proofs.lemmas.List.{length-drop}
-use Rattle.limits.specs.declared.TheConstants.{LOG_SLOTS}
+use Rattle.base.specs.declared.TheConstants.{LOG_SLOTS}
 use Rattle.disk.specs.Device.{CountsFailure, Device, OneLater}
 use Rattle.disk.specs.declared.device.Failed.{Failed}
 use Rattle.wal.specs.Io.{HasMade, Io}
-use Rattle.wal_law.specs.Log.{Log, IsLawful, place_before, settled_place}
-use Rattle.wal_law.specs.declared.change.LogChange.{LogChange}
+use Rattle.circ.specs.Log.Log.{Log, IsLawful, place_before, settled_place}
+use Rattle.circ.specs.declared.log.change.LogChange.{LogChange}
 use Rattle.txn_law.specs.Core.{CoreState}
 use Rattle.txn_law.specs.CoreLaw.{IsLawfulCore}
 use Rattle.txn_law.specs.Object.{ObjectBytes}
-use Rattle.wal_law.specs.Logger.{IsNextLogCall, group_size, has_group, is_log_out, may_log, with_log_back}
-use Rattle.wal_law.specs.Logger.{with_log_made, with_log_out}
-use Rattle.wal_law.specs.Installer.{IsNextInstCall, is_inst_out, may_install, next_home}
-use Rattle.wal_law.specs.Installer.{with_inst_back, with_inst_made, with_inst_out, with_installed}
+use Rattle.circ.specs.Log.Logger.{IsNextLogCall, group_size, has_group, is_log_out, may_log, with_log_back}
+use Rattle.circ.specs.Log.Logger.{with_log_made, with_log_out}
+use Rattle.circ.specs.Log.Installer.{IsNextInstCall, is_inst_out, may_install, next_home}
+use Rattle.circ.specs.Log.Installer.{with_inst_back, with_inst_made, with_inst_out, with_installed}
 use Rattle.store_promise.proofs.Later.{past_one}
 use Rattle.store_images.proofs.Lost.{lost_now}
-use Rattle.log_seats.proofs.Made.{made_later, made_lost}
+use Rattle.wal_calls.proofs.CallersLemmas.Made.{made_later, made_lost}
 use Rattle.store_images.proofs.OutCalls.{inst_is_out, inst_out_sound, its_is_out}
 use Rattle.store_images.specs.Settling.{HasCalled, group_left, calls_left}
 

@@ -2,7 +2,7 @@
 use Rattle.std.proofs.Common.{arith, ◌≡◌, refl, sym, subst, ◌+◌, ◌≤◌, Bool, true, false, if◌then◌else◌}
 use Rattle.disk.specs.Device.{Device}
 use Rattle.txn_law.specs.Core.{CoreState}
-use Rattle.wal_law.specs.Log.{Log}
+use Rattle.circ.specs.Log.Log.{Log}
 use Rattle.store_images.specs.Settling.{HasCalled, SpendsCalls, calls_left, most_calls}
 
 -- each call is one of those that are left

@@ -6,32 +6,32 @@ use Rattle.std.specs.List.{Contains}
 use Rattle.std.proofs.lemmas.Bool.{le-leb, lt-leb, ltb-false, ltb-true}
 use Rattle.std.proofs.lemmas.Bool.Decides.{nat_tests}
 use Rattle.std.proofs.lemmas.List.{length-drop, take-append-drop}
-use Rattle.limits.specs.declared.TheConstants.{BLOCK_BYTES, FIRST_HOME_BLOCK, SUPER_BLOCK}
+use Rattle.base.specs.declared.TheConstants.{BLOCK_BYTES, FIRST_HOME_BLOCK, SUPER_BLOCK}
 use Rattle.disk.specs.Blocks.{AreBlocks, IsBlock}
 use Rattle.disk.specs.Crash.{Image, IsAtRest, IsCrashImage}
 use Rattle.disk.specs.Device.{Content, Device, OneLater, current, newest as newest_content}
 use Rattle.disk.specs.declared.device.Failed.{Failed}
-use Rattle.model.specs.Tree.{Tree}
+use Rattle.nfs_spec.specs.Model.Tree.{Tree}
 use Rattle.layout.specs.declared.geometry.Geometry.{Geometry}
 use Rattle.layout.specs.declared.super_block.Super.{Super}
 use Rattle.layout.specs.Homes.{homes_of, is_home}
 use Rattle.layout.specs.Stands.{Stands}
 use Rattle.layout.specs.SuperForm.{IsSuper}
-use Rattle.wal_law.specs.declared.change.LogChange.{LogChange}
-use Rattle.wal_law.specs.Calls.{AgreesBeside, InstCallComesBack, InstCallGoesOut, InstCallIsMade, home_after}
-use Rattle.wal_law.specs.Calls.{idle}
-use Rattle.wal_law.specs.Grows.{IsWholeChange}
-use Rattle.wal_law.specs.Installer.{next_home, with_installed, with_inst_back, with_inst_out}
-use Rattle.wal_law.specs.Io.{Io}
-use Rattle.wal_law.specs.Law.{IsAfter, IsBoundary, IsOutside, with_changes}
-use Rattle.wal_law.specs.Log.{Log, IsLawful, newest_of, or_else, opened}
-use Rattle.wal_law.specs.Overlay.{IsInRange, content_or, logged_in, over, start_in}
-use Rattle.wal_law.specs.Recovery.{HasOnlyRead, image_of}
-use Rattle.wal_law.proofs.Boundary.{crash_boundary}
-use Rattle.wal_law.proofs.Lawful.{length-changes_of}
-use Rattle.wal_law.proofs.Newest.{newest_of-append}
-use Rattle.wal_law.proofs.OnlyRead.{image_then}
-use Rattle.wal_law.proofs.Opening.{stands_found}
+use Rattle.circ.specs.declared.log.change.LogChange.{LogChange}
+use Rattle.circ.specs.Log.Calls.{AgreesBeside, InstCallComesBack, InstCallGoesOut, InstCallIsMade, home_after}
+use Rattle.circ.specs.Log.Calls.{idle}
+use Rattle.circ.specs.Log.Grows.{IsWholeChange}
+use Rattle.circ.specs.Log.Installer.{next_home, with_installed, with_inst_back, with_inst_out}
+use Rattle.circ.specs.Log.Io.{Io}
+use Rattle.circ.specs.Log.Law.{IsAfter, IsBoundary, IsOutside, with_changes}
+use Rattle.circ.specs.Log.Log.{Log, IsLawful, newest_of, or_else, opened}
+use Rattle.circ.specs.Log.Overlay.{IsInRange, content_or, logged_in, over, start_in}
+use Rattle.circ.specs.Log.Recovery.{HasOnlyRead, image_of}
+use Rattle.circ.proofs.LogLemmas.Boundary.{crash_boundary}
+use Rattle.circ.proofs.LogLemmas.Lawful.{length-changes_of}
+use Rattle.circ.proofs.LogLemmas.Newest.{newest_of-append}
+use Rattle.circ.proofs.LogLemmas.OnlyRead.{image_then}
+use Rattle.circ.proofs.LogLemmas.Opening.{stands_found}
 use Rattle.txn_law.specs.CoreWindow.{AreBlocks as AreWhole}
 use Rattle.txn_law.proofs.Homes.{whole_after}
 use Rattle.store_promise.specs.GoodImage.{IsGoodImage}

@@ -7,8 +7,8 @@ use Rattle.std.proofs.lemmas.Bool.{cases_lt, cases_order}
 use Rattle.std.proofs.lemmas.Bool.Decides.{nat_tests}
 use Rattle.std.specs.Prelude.{OnOk, if◌then◌else◌}
 use Rattle.std.proofs.lemmas.List.Elements.{All-contains, Contains-push_cases}
-use Rattle.limits.specs.declared.TheConstants.{BLOCK_BYTES, FIRST_HOME_BLOCK, LOG_HEADER_BLOCK, START_BLOCK}
-use Rattle.limits.specs.declared.TheConstants.{SUPER_BLOCK}
+use Rattle.base.specs.declared.TheConstants.{BLOCK_BYTES, FIRST_HOME_BLOCK, LOG_HEADER_BLOCK, START_BLOCK}
+use Rattle.base.specs.declared.TheConstants.{SUPER_BLOCK}
 use Rattle.nfs_types.specs.declared.ctx.Moment.{Moment}
 use Rattle.disk.specs.Blocks.{AreBlocks, IsBlock}
 use Rattle.disk.specs.Crash.{Image, IsAtRest, IsCrashImage}
@@ -23,7 +23,7 @@ use Rattle.layout.specs.Fresh.{IsFresh, fresh}
 use Rattle.layout.specs.Geometry.{data_at, inode_bitmap_at, table_at}
 use Rattle.layout.specs.SuperForm.{HasMagic}
 use Rattle.layout.proofs.FreshBytes.{is_fresh}
-use Rattle.wal_law.proofs.Contents.{one_member}
+use Rattle.circ.proofs.LogLemmas.Contents.{one_member}
 use Rattle.store_promise.specs.Openings.{HasFailedToFormat, IsFormatted, IsLeftByFormat}
 use Rattle.store_promise.specs.Openings.{IsMaking}
 use Rattle.store_images.specs.Formatting.{HasWrittenUpTo, IsBlank, IsMade, IsMadeBehind, LeavesSuper}

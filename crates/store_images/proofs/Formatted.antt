@@ -7,7 +7,7 @@ use Rattle.std.proofs.Common.{inl, inr, length-append}
 use Rattle.std.proofs.lemmas.Bool.{cases_order, false≢true}
 use Rattle.std.proofs.lemmas.Bool.Decides.{nat_tests}
 use Rattle.std.proofs.Math.Seq.{drop-append_seam}
-use Rattle.limits.specs.declared.TheConstants.{FIRST_HOME_BLOCK, LOG_HEADER_BLOCK, START_BLOCK, SUPER_BLOCK}
+use Rattle.base.specs.declared.TheConstants.{FIRST_HOME_BLOCK, LOG_HEADER_BLOCK, START_BLOCK, SUPER_BLOCK}
 use Rattle.nfs_types.specs.declared.ctx.Moment.{Moment}
 use Rattle.disk.specs.declared.block.Side.{Side}
 use Rattle.disk.specs.declared.block.Side.TheVariants.{Log, Home}

@@ -18,3 +18,4 @@ pub mod SettlingCalls
 pub mod Staying
 pub mod StillOpen
 pub mod Unused
+pub mod ReplaysLemmas

@@ -6,14 +6,14 @@ use Rattle.std.proofs.lemmas.List.{length-drop}
 use Rattle.disk.specs.Crash.{Image}
 use Rattle.disk.specs.Device.{Device}
 use Rattle.disk.specs.declared.device.Failed.{Failed}
-use Rattle.wal_law.specs.Calls.{AgreesBeside, IsInstallerAt, IsLoggerAt, Pending, idle, out}
-use Rattle.wal_law.specs.Calls.{InstCallComesBack, InstCallGoesOut, InstCallIsMade, LogCallComesBack}
-use Rattle.wal_law.specs.Calls.{LogCallGoesOut, LogCallIsMade, was_made}
-use Rattle.wal_law.specs.Installer.{IsNextInstCall, is_inst_out, may_install, next_home, with_inst_back}
-use Rattle.wal_law.specs.Installer.{with_inst_out, with_installed}
-use Rattle.wal_law.specs.Io.{Io}
-use Rattle.wal_law.specs.Log.{IsLawful, Log}
-use Rattle.wal_law.specs.Logger.{IsNextLogCall, is_log_out, may_log, with_log_back, with_log_out}
+use Rattle.circ.specs.Log.Calls.{AgreesBeside, IsInstallerAt, IsLoggerAt, Pending, idle, out}
+use Rattle.circ.specs.Log.Calls.{InstCallComesBack, InstCallGoesOut, InstCallIsMade, LogCallComesBack}
+use Rattle.circ.specs.Log.Calls.{LogCallGoesOut, LogCallIsMade, was_made}
+use Rattle.circ.specs.Log.Installer.{IsNextInstCall, is_inst_out, may_install, next_home, with_inst_back}
+use Rattle.circ.specs.Log.Installer.{with_inst_out, with_installed}
+use Rattle.circ.specs.Log.Io.{Io}
+use Rattle.circ.specs.Log.Log.{IsLawful, Log}
+use Rattle.circ.specs.Log.Logger.{IsNextLogCall, is_log_out, may_log, with_log_back, with_log_out}
 use Rattle.store_promise.specs.declared.events.Step.{Step}
 use Rattle.store_promise.specs.declared.events.Step.TheVariants as step
 use Rattle.store_promise.specs.LogTold.{LogTold, log_moved}

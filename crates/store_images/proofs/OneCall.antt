@@ -7,17 +7,17 @@ use Rattle.disk.specs.declared.block.Side.TheVariants as sides
 use Rattle.objects.specs.Object.{ObjectBytes}
 use Rattle.txn_law.specs.Core.{CoreState, with_inst_call, with_log_call}
 use Rattle.wal.specs.Sides.{call_is_made}
-use Rattle.wal_law.specs.Calls.{idle}
-use Rattle.wal_law.specs.Installer.{is_inst_out}
-use Rattle.wal_law.specs.Io.{Io, IsCallWithin}
-use Rattle.wal_law.specs.Log.{IsLawful, Log}
-use Rattle.wal_law.specs.Logger.{is_log_out}
-use Rattle.wal_law.specs.Effects.{HasGoneOn}
-use Rattle.wal_law.proofs.Effects.{seen_inst_done, seen_inst_out, seen_log_done, seen_log_out}
-use Rattle.log_seats.proofs.Made.{made_later}
-use Rattle.log_seats.specs.Making.{IsAnswered}
-use Rattle.log_seats.specs.OneCall.{MakesOne}
-use Rattle.log_seats.specs.Steps.{InstGoesOut, LogComesBack, LogGoesOut, comes_back, goes_out}
+use Rattle.circ.specs.Log.Calls.{idle}
+use Rattle.circ.specs.Log.Installer.{is_inst_out}
+use Rattle.circ.specs.Log.Io.{Io, IsCallWithin}
+use Rattle.circ.specs.Log.Log.{IsLawful, Log}
+use Rattle.circ.specs.Log.Logger.{is_log_out}
+use Rattle.circ.specs.Log.Effects.{HasGoneOn}
+use Rattle.circ.proofs.LogLemmas.Effects.{seen_inst_done, seen_inst_out, seen_log_done, seen_log_out}
+use Rattle.wal_calls.proofs.CallersLemmas.Made.{made_later}
+use Rattle.wal_calls.specs.Callers.Making.{IsAnswered}
+use Rattle.wal_calls.specs.Callers.OneCall.{MakesOne}
+use Rattle.wal_calls.specs.Callers.Steps.{InstGoesOut, LogComesBack, LogGoesOut, comes_back, goes_out}
 use Rattle.store_promise.specs.Running.{KeepsPlaces, KeepsTransactions, at_rest}
 use Rattle.store_promise.proofs.OpenSteps.{HasSameChanges, inst_out_same, log_given_same, log_out_same}
 use Rattle.store_images.specs.Further.{IsFurther}

@@ -4,12 +4,12 @@ use Rattle.std.proofs.Common.{List, [], ◌∷◌, Bool, true, false, ◌&&◌, 
 use Rattle.std.proofs.Common.{length, nat_eq}
 use Rattle.std.specs.List.{Contains}
 use Rattle.std.proofs.lemmas.Bool.Decides.{nat_tests}
-use Rattle.limits.specs.declared.TheConstants.{BLOCK_BYTES, LOG_HEADER_BLOCK, START_BLOCK}
-use Rattle.limits.specs.declared.TheConstants.{SUPER_BLOCK}
+use Rattle.base.specs.declared.TheConstants.{BLOCK_BYTES, LOG_HEADER_BLOCK, START_BLOCK}
+use Rattle.base.specs.declared.TheConstants.{SUPER_BLOCK}
 use Rattle.disk.specs.Blocks.{AreBlocks}
 use Rattle.disk.specs.Crash.{Image, IsAtRest, IsCrashImage}
 use Rattle.disk.specs.Device.{Content, Device, current, newest}
-use Rattle.model.specs.Tree.{Tree}
+use Rattle.nfs_spec.specs.Model.Tree.{Tree}
 use Rattle.layout.specs.declared.geometry.Geometry.{Geometry}
 use Rattle.layout.specs.declared.super_block.Super.{Super}
 use Rattle.layout.specs.declared.version.FormatVersion.TheVariants.{Second}
@@ -17,14 +17,14 @@ use Rattle.layout.specs.SuperForm.{IsSuper}
 use Rattle.layout.specs.Newest.{newest as newest_of}
 use Rattle.layout.proofs.NewestVersion.{stands_alike}
 use Rattle.layout.proofs.OneGeometry.{of_one_block}
-use Rattle.wal_law.specs.declared.change.LogChange.{LogChange}
-use Rattle.wal_law.specs.Calls.{AgreesBeside, idle}
-use Rattle.wal_law.specs.Installer.{may_install}
-use Rattle.wal_law.specs.Log.{IsLawful, Log}
-use Rattle.wal_law.specs.Overlay.{end_in, start_in}
-use Rattle.wal_law.specs.Recovery.{HasOnlyRead, IsUnspoiled, image_of}
-use Rattle.wal_law.proofs.Boundary.{crash_boundary}
-use Rattle.wal_law.proofs.HomeWrites.{home_settled}
+use Rattle.circ.specs.declared.log.change.LogChange.{LogChange}
+use Rattle.circ.specs.Log.Calls.{AgreesBeside, idle}
+use Rattle.circ.specs.Log.Installer.{may_install}
+use Rattle.circ.specs.Log.Log.{IsLawful, Log}
+use Rattle.circ.specs.Log.Overlay.{end_in, start_in}
+use Rattle.circ.specs.Log.Recovery.{HasOnlyRead, IsUnspoiled, image_of}
+use Rattle.circ.proofs.LogLemmas.Boundary.{crash_boundary}
+use Rattle.circ.proofs.LogLemmas.HomeWrites.{home_settled}
 use Rattle.txn_law.specs.Core.{CoreState}
 use Rattle.txn_law.specs.CoreLaw.{IsFresh}
 use Rattle.txn_law.specs.CoreWindow.{AreBlocks as AreWhole}

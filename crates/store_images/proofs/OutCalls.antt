@@ -2,10 +2,10 @@
 use Rattle.std.proofs.Common.{arith, ◌≡◌, ◌∙◌, ap, refl, ℕ, Bool, true, false, ◌&&◌, nat_eq, nat_lt}
 use Rattle.std.proofs.Common.{if◌then◌else◌}
 use Rattle.std.proofs.lemmas.Bool.Decides.{nat_tests}
-use Rattle.wal_law.specs.Installer.{IsNextInstCall, is_inst_out, next_home, with_inst_out}
-use Rattle.wal_law.specs.Io.{Io}
-use Rattle.wal_law.specs.Log.{Log, log_end}
-use Rattle.wal_law.specs.Logger.{IsNextLogCall, is_log_out}
+use Rattle.circ.specs.Log.Installer.{IsNextInstCall, is_inst_out, next_home, with_inst_out}
+use Rattle.circ.specs.Log.Io.{Io}
+use Rattle.circ.specs.Log.Log.{Log, log_end}
+use Rattle.circ.specs.Log.Logger.{IsNextLogCall, is_log_out}
 
 same_out : (is_out : Bool) (a b c d : ℕ) → is_out ≡ true → a ≡ b → c ≡ d
     → (is_out && (nat_eq a b && nat_eq c d)) ≡ true

@@ -5,17 +5,17 @@ use Rattle.std.proofs.Common.{List, ◌∷◌, ◌++◌, length}
 use Rattle.std.specs.Prelude.{IsErr, MatchResult}
 use Rattle.std.proofs.lemmas.Bool.Decides.{nat_tests}
 use Rattle.std.proofs.lemmas.List.{append-nil, length-append}
-use Rattle.limits.specs.declared.TheConstants.{BLOCK_BYTES, SUPER_BLOCK}
+use Rattle.base.specs.declared.TheConstants.{BLOCK_BYTES, SUPER_BLOCK}
 use Rattle.disk.specs.Crash.{Image, IsCrashImage}
 use Rattle.disk.specs.Device.{Content, Device, HasSettled, HasWritten}
 use Rattle.disk.specs.declared.block.Side.TheVariants.{Home}
 use Rattle.disk.specs.declared.device.Failed.{Failed}
-use Rattle.wal_law.specs.Law.{IsBoundary, IsOutside, with_changes, with_home}
-use Rattle.wal_law.specs.Log.{IsLawful, Log, newest, newest_of}
-use Rattle.wal_law.specs.Overlay.{content_or}
-use Rattle.wal_law.specs.Recovery.{image_of}
-use Rattle.wal_law.proofs.Contents.{keeps_settled}
-use Rattle.wal_law.proofs.HomeWrites.{home_written}
+use Rattle.circ.specs.Log.Law.{IsBoundary, IsOutside, with_changes, with_home}
+use Rattle.circ.specs.Log.Log.{IsLawful, Log, newest, newest_of}
+use Rattle.circ.specs.Log.Overlay.{content_or}
+use Rattle.circ.specs.Log.Recovery.{image_of}
+use Rattle.circ.proofs.LogLemmas.Contents.{keeps_settled}
+use Rattle.circ.proofs.LogLemmas.HomeWrites.{home_written}
 use Rattle.store_promise.specs.Openings.{AtEachStop}
 use Rattle.store_images.specs.BringingHome.{BringsHome, HasBlocksOf, HasBlocksWith, HasRaised, KeepsBlocks}
 use Rattle.store_images.proofs.ComingHome.{boundary_blocks}

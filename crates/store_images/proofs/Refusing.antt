@@ -2,15 +2,15 @@
 use Rattle.std.proofs.Common.{◌≡◌, ◌∙◌, sym, ap, subst, ℕ, ◌+◌, ◌<◌, ◌^◌, inl, inr, Ok, Err}
 use Rattle.std.proofs.Common.{Result}
 use Rattle.std.specs.Prelude.{IfErr}
-use Rattle.limits.specs.declared.TheConstants.{SUPER_BLOCK}
+use Rattle.base.specs.declared.TheConstants.{SUPER_BLOCK}
 use Rattle.disk.specs.Crash.{Image}
 use Rattle.disk.specs.Device.{Content, Device}
 use Rattle.layout.specs.declared.super_block.Super.{Super}
 use Rattle.layout.specs.SuperForm.{IsSuper}
-use Rattle.wal_law.specs.Log.{Log, opened}
-use Rattle.wal_law.specs.Overlay.{HasHomes, IsInRange, logged_in, start_in}
-use Rattle.wal_law.specs.Recovery.{HasOnlyRead, IsUnspoiled, image_of}
-use Rattle.wal_law.proofs.OnlyRead.{image_then, reads_then, unspoiled_then}
+use Rattle.circ.specs.Log.Log.{Log, opened}
+use Rattle.circ.specs.Log.Overlay.{HasHomes, IsInRange, logged_in, start_in}
+use Rattle.circ.specs.Log.Recovery.{HasOnlyRead, IsUnspoiled, image_of}
+use Rattle.circ.proofs.LogLemmas.OnlyRead.{image_then, reads_then, unspoiled_then}
 use Rattle.store_promise.specs.declared.fault.OpenFault.{OpenFault}
 use Rattle.store_promise.specs.declared.fault.OpenFault.TheVariants as fault
 use Rattle.store_promise.specs.Openings.{IsRefusedFor, ShowsNoCause}

@@ -4,15 +4,15 @@ use Rattle.std.proofs.Common.{◌+◌, ◌-◌, ◌*◌, ◌<◌, ◌≤◌, Boo
 use Rattle.std.proofs.Common.{if◌then◌else◌, length, drop}
 use Rattle.std.proofs.lemmas.Bool.Decides.{nat_tests}
 use Rattle.std.proofs.lemmas.List.{length-drop}
-use Rattle.limits.specs.declared.TheConstants.{LOG_SLOTS}
+use Rattle.base.specs.declared.TheConstants.{LOG_SLOTS}
 use Rattle.disk.specs.Device.{Device}
 use Rattle.wal.specs.Io.{Io}
-use Rattle.wal_law.specs.Log.{Log, IsLawful}
+use Rattle.circ.specs.Log.Log.{Log, IsLawful}
 use Rattle.txn_law.specs.Core.{CoreState}
-use Rattle.wal_law.specs.Logger.{IsNextLogCall, has_group, is_log_out, may_log, with_log_back}
-use Rattle.wal_law.specs.Logger.{with_log_made, with_log_out}
-use Rattle.wal_law.specs.Installer.{IsNextInstCall, is_inst_out, may_install, next_home}
-use Rattle.wal_law.specs.Installer.{with_inst_back, with_inst_made, with_inst_out, with_installed}
+use Rattle.circ.specs.Log.Logger.{IsNextLogCall, has_group, is_log_out, may_log, with_log_back}
+use Rattle.circ.specs.Log.Logger.{with_log_made, with_log_out}
+use Rattle.circ.specs.Log.Installer.{IsNextInstCall, is_inst_out, may_install, next_home}
+use Rattle.circ.specs.Log.Installer.{with_inst_back, with_inst_made, with_inst_out, with_installed}
 use Rattle.store_images.proofs.CallsLeft as CallsLeft
 use Rattle.store_images.proofs.CallsLeft.{given_back, made_left, last_left, may_is}
 use Rattle.store_images.proofs.OutCalls.{inst_is_out, inst_out_sound, its_is_out}

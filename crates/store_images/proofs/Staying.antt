@@ -3,12 +3,12 @@ use Rattle.std.proofs.Common.{arith, ◌≡◌, refl, sym, subst, ℕ, ◌≤◌
 use Rattle.std.proofs.lemmas.Bool.{cases_order}
 use Rattle.disk.specs.Crash.{Image, IsCrashImage}
 use Rattle.disk.specs.Device.{Device}
-use Rattle.model.specs.Entry.{Entry}
-use Rattle.model.specs.Tree.{Tree}
+use Rattle.nfs_spec.specs.Model.Entry.{Entry}
+use Rattle.nfs_spec.specs.Model.Tree.{Tree}
 use Rattle.txn_law.specs.Core.{CoreState}
 use Rattle.store_promise.specs.Openings.{IsLater}
-use Rattle.wal_law.specs.Calls.{Pending, idle}
-use Rattle.wal_law.specs.Log.{settled_place}
+use Rattle.circ.specs.Log.Calls.{Pending, idle}
+use Rattle.circ.specs.Log.Log.{settled_place}
 use Rattle.disk.specs.Blocks.{AreBlocks}
 use Rattle.store_promise.specs.OpenSince.{HasKeptFiles, IsOpenSince, KeepsFiles, LeavesBeginning}
 use Rattle.store_images.specs.SettlingStops.{AfterCall, GoesByCalls, KeepsPrefixes, StayOpen}

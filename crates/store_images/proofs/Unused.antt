@@ -8,9 +8,9 @@ use Rattle.objects.specs.Present.{content_in, is_pending, present_of}
 use Rattle.objects.specs.declared.present.Present.{Present}
 use Rattle.txn_law.specs.Core.{CoreState, past, with_inst_call}
 use Rattle.txn_law.specs.Leaves.{in_memory, is_fetching}
-use Rattle.wal_law.specs.Io.{Io}
-use Rattle.wal_law.specs.Log.{installed_place}
-use Rattle.log_seats.specs.Steps.{InstComesBack, InstGoesOut}
+use Rattle.circ.specs.Log.Io.{Io}
+use Rattle.circ.specs.Log.Log.{installed_place}
+use Rattle.wal_calls.specs.Callers.Steps.{InstComesBack, InstGoesOut}
 use Rattle.store_images.specs.BringingHome.{unused}
 
 same_number : (n : ℕ) → nat_eq n n ≡ true

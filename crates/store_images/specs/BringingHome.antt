@@ -1,6 +1,6 @@
 -- What an opening does to an image: what the log has comes home, and then the boot number rises.
 use Rattle.std.specs.Prelude.{⊤, ◌≡◌, ◌≢◌, ℕ, ◌+◌, ◌<◌, ◌⊎◌, Ok, length, []}
-use Rattle.limits.specs.declared.TheConstants.{SUPER_BLOCK}
+use Rattle.base.specs.declared.TheConstants.{SUPER_BLOCK}
 use Rattle.disk.specs.Crash.{Image}
 use Rattle.disk.specs.Device.{Content, Device, HasSettled, HasWritten}
 use Rattle.disk.specs.declared.block.Side.TheVariants.{Home}
@@ -8,11 +8,11 @@ use Rattle.layout.specs.declared.super_block.Super.{Super}
 use Rattle.layout.specs.declared.fault.LayoutFault.TheVariants as layout_fault
 use Rattle.layout.specs.Newest.{newest}
 use Rattle.layout.specs.SuperForm.{IsNoSuper, IsSuper, super_bytes}
-use Rattle.wal_law.specs.Calls.{AgreesBeside, idle}
-use Rattle.wal_law.specs.Law.{IsOutside, with_changes}
-use Rattle.wal_law.specs.Log.{Log, opened}
-use Rattle.wal_law.specs.Overlay.{HasHomes, IsInRange, logged_in, over, start_in}
-use Rattle.wal_law.specs.Recovery.{HasOnlyRead, image_of}
+use Rattle.circ.specs.Log.Calls.{AgreesBeside, idle}
+use Rattle.circ.specs.Log.Law.{IsOutside, with_changes}
+use Rattle.circ.specs.Log.Log.{Log, opened}
+use Rattle.circ.specs.Log.Overlay.{HasHomes, IsInRange, logged_in, over, start_in}
+use Rattle.circ.specs.Log.Recovery.{HasOnlyRead, image_of}
 use Rattle.txn_law.specs.Core.{CoreState}
 use Rattle.txn_law.specs.CoreWindow.{AreBlocks}
 use Rattle.store_promise.specs.declared.fault.OpenFault.{OpenFault}

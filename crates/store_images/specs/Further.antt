@@ -2,11 +2,11 @@
 use Rattle.std.specs.Prelude.{◌≡◌, ℕ, ◌+◌, ◌≤◌, true, List, length}
 use Rattle.disk.specs.Crash.{Image}
 use Rattle.disk.specs.Device.{Device}
-use Rattle.model.specs.Entry.{Entry}
-use Rattle.model.specs.Tree.{Tree}
+use Rattle.nfs_spec.specs.Model.Entry.{Entry}
+use Rattle.nfs_spec.specs.Model.Tree.{Tree}
 use Rattle.txn_law.specs.Core.{CoreState}
 use Rattle.txn_law.specs.Fetch.{Fetch}
-use Rattle.wal_law.specs.Log.{Log, settled_place}
+use Rattle.circ.specs.Log.Log.{Log, settled_place}
 use Rattle.store_promise.specs.Openings.{IsLater}
 use Rattle.store_promise.specs.Running.{IsRunningOver, KeepsTransactions, at_rest}
 use Rattle.store_promise.specs.Schedule.{Setting}

@@ -7,3 +7,4 @@ pub mod LogSide
 pub mod Opening
 pub mod Settling
 pub mod SettlingStops
+pub mod Replays

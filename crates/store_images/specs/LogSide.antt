@@ -4,9 +4,9 @@ use Rattle.disk.specs.Device.{Device}
 use Rattle.disk.specs.declared.block.Side.{Side}
 use Rattle.disk.specs.declared.block.Side.TheVariants as sides
 use Rattle.txn_law.specs.Core.{CoreState}
-use Rattle.wal_law.specs.Calls.{Pending, idle, out, was_made}
-use Rattle.wal_law.specs.Io.{Io}
-use Rattle.wal_law.specs.declared.calls.IoCall.{IoCall}
+use Rattle.circ.specs.Log.Calls.{Pending, idle, out, was_made}
+use Rattle.circ.specs.Log.Io.{Io}
+use Rattle.circ.specs.declared.log.calls.IoCall.{IoCall}
 use Rattle.store_promise.specs.declared.events.Step.{Step}
 use Rattle.store_promise.specs.declared.events.Step.TheVariants as step
 use Rattle.store_promise.specs.LogTold.{LogTold}

@@ -1,9 +1,9 @@
 -- What comes of opening a store.
 use Rattle.std.specs.Prelude.{◌≡◌, ℕ, ◌+◌, ◌≤◌, false, length, Result, Ok, Err}
-use Rattle.limits.specs.declared.TheConstants.{MOST_KEPT_COMMITS}
+use Rattle.base.specs.declared.TheConstants.{MOST_KEPT_COMMITS}
 use Rattle.disk.specs.Crash.{Image, IsAtRest, IsCrashImage}
 use Rattle.disk.specs.Device.{Device}
-use Rattle.model.specs.Tree.{Tree}
+use Rattle.nfs_spec.specs.Model.Tree.{Tree}
 use Rattle.wal.specs.Log.{settled_place}
 use Rattle.txn.specs.Core.{CoreState}
 use Rattle.layout.specs.Geometry.{IsLawful}

@@ -5,7 +5,7 @@ use Rattle.disk.specs.Device.{Device}
 use Rattle.disk.specs.declared.block.Side.{Side}
 use Rattle.disk.specs.declared.block.Side.TheVariants as sides
 use Rattle.wal.specs.Log.{Log, tail_count}
-use Rattle.wal_law.specs.Logger.{may_log}
+use Rattle.circ.specs.Log.Logger.{may_log}
 use Rattle.txn.specs.Core.{CoreState}
 use Rattle.store_promise.specs.Openings.{IsLater}
 use Rattle.store_images.specs.Fetches.{FetchesOnly}

@@ -2,10 +2,10 @@
 use Rattle.std.specs.Prelude.{◌≡◌, ℕ, ◌≤◌, List, [], ◌∷◌}
 use Rattle.disk.specs.Crash.{Image, IsCrashImage}
 use Rattle.disk.specs.Device.{Device, OneLater}
-use Rattle.model.specs.Entry.{Entry}
-use Rattle.model.specs.Tree.{Tree}
-use Rattle.wal_law.specs.Calls.{idle}
-use Rattle.wal_law.specs.Log.{settled_place}
+use Rattle.nfs_spec.specs.Model.Entry.{Entry}
+use Rattle.nfs_spec.specs.Model.Tree.{Tree}
+use Rattle.circ.specs.Log.Calls.{idle}
+use Rattle.circ.specs.Log.Log.{settled_place}
 use Rattle.txn_law.specs.Core.{CoreState}
 use Rattle.store_promise.specs.Openings.{IsLater, LeavesImages}
 use Rattle.store_promise.specs.OpenSince.{HasKeptFiles, IsOpenSince, KeepsFiles, LeavesBeginning}

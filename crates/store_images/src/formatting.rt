@@ -5,14 +5,14 @@ ghost use Rattle.disk.specs.Crash.{IsAtRest};
 ghost use Rattle.disk.specs.Device.{CountsFailure, Device, HasWritten};
 ghost use Rattle.layout.specs.Fresh.{fresh};
 ghost use Rattle.layout.specs.Geometry.{IsLawful, data_at};
-ghost use Rattle.limits.specs.declared.TheConstants.{BLOCK_BYTES, FIRST_HOME_BLOCK, SUPER_BLOCK};
-ghost use Rattle.model.specs.Sound.{SoundTime};
+ghost use Rattle.base.specs.declared.TheConstants.{BLOCK_BYTES, FIRST_HOME_BLOCK, SUPER_BLOCK};
+ghost use Rattle.nfs_spec.specs.Model.Sound.{SoundTime};
 ghost use Rattle.store_images.specs.Formatting.{HasFormatted, HasWrittenUpTo, IsBlank, IsMade, IsMadeBehind};
 ghost use Rattle.store_images.specs.Formatting.{LeavesByFormat, LeavesSuper, Stops};
 
+use base::{FIRST_HOME_BLOCK, LOG_HEADER_BLOCK, START_BLOCK, SUPER_BLOCK};
 use disk::{Block, BlockNo, CrashDisk, Failed, Side};
 use layout::{FormatVersion, FreshImage, Geometry, GeometryFault};
-use limits::{FIRST_HOME_BLOCK, LOG_HEADER_BLOCK, START_BLOCK, SUPER_BLOCK};
 use nfs_types::Moment;
 use std::alloc::{AllocError, Global};
 use thiserror::Error;

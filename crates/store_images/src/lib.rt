@@ -4,11 +4,13 @@
 mod formatting;
 mod opened;
 mod opening;
+mod replays;
 mod sides;
 mod taken_apart;
 
 pub use formatting::{FormatFault, format};
 pub use opened::{Store, close, keeps_too_many, settle};
 pub use opening::{open, read_super};
+pub use replays::replay;
 pub use sides::{a_call_of_a_side_leaves_the_store_open, the_calls_of_a_side_are_steps};
 pub use taken_apart::{TakenApart, parts};

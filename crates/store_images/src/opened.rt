@@ -1,7 +1,7 @@
 //! An open store: a disk with the core over it.
 ghost use Rattle.std.specs.Prelude.{◌≡◌, ◌+◌, ◌<◌, ◌≤◌, ◌↔◌, IsTrue, IsFalse, OnOk, OnErr, length};
 ghost use Rattle.std.specs.Prelude.{true, false};
-ghost use Rattle.limits.specs.declared.TheConstants.{MOST_KEPT_COMMITS};
+ghost use Rattle.base.specs.declared.TheConstants.{MOST_KEPT_COMMITS};
 ghost use Rattle.layout.specs.Geometry.{IsLawful};
 ghost use Rattle.store_images.specs.Counts.{SameFrame};
 ghost use Rattle.store_images.specs.Fetches.{KeepsFetches};
@@ -14,12 +14,12 @@ ghost use Rattle.store_images.specs.SettlingStops.{KeepsPrefixes, StayOpen};
 ghost use Rattle.wal.specs.Sides.{may_call};
 
 use crate::sides::{a_call_of_a_side_leaves_the_store_open, the_calls_of_a_side_are_steps};
+use base::MOST_KEPT_COMMITS;
 use disk::{CrashDisk, Failed, Side};
-use limits::MOST_KEPT_COMMITS;
-use log_seats::make_one;
 use procs::Done;
 use store_promise::{a_stop_leaves_a_beginning, an_open_store_keeps_its_files};
 use txn::Core;
+use wal_calls::make_one;
 
 /// A store that was opened.
 pub struct Store<D: CrashDisk> {

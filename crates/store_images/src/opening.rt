@@ -2,16 +2,16 @@
 ghost use Rattle.std.specs.Prelude.{◌≡◌, ◌+◌, ◌^◌, ◌<◌, IfErr, IfOk, IsFalse, IsTrue, MatchResult, OnOk, []};
 ghost use Rattle.std.specs.Prelude.{ℕ, ◌≤◌, length};
 ghost use Rattle.std.specs.Prelude.{◌⊎◌, Ok, Err, Some, None, true, false};
-ghost use Rattle.limits.specs.declared.TheConstants.{BLOCK_BYTES, FIRST_HOME_BLOCK, SUPER_BLOCK};
+ghost use Rattle.base.specs.declared.TheConstants.{BLOCK_BYTES, FIRST_HOME_BLOCK, SUPER_BLOCK};
 ghost use Rattle.disk.specs.Crash.{IsAtRest};
 ghost use Rattle.disk.specs.Device.{Content, Device};
 ghost use Rattle.layout.specs.Geometry.{IsLawful};
 ghost use Rattle.layout.specs.SuperForm.{IsSuper, super_bytes};
-ghost use Rattle.model.specs.Tree.{Tree};
+ghost use Rattle.nfs_spec.specs.Model.Tree.{Tree};
 ghost use Rattle.txn.specs.CoreLaw.{IsFresh};
-ghost use Rattle.wal_law.specs.Installer.{may_install};
-ghost use Rattle.wal_law.specs.Log.{IsLawful as IsLawfulLog, Log};
-ghost use Rattle.wal_law.specs.Recovery.{HasOnlyRead, IsUnspoiled, image_of};
+ghost use Rattle.circ.specs.Log.Installer.{may_install};
+ghost use Rattle.circ.specs.Log.Log.{IsLawful as IsLawfulLog, Log};
+ghost use Rattle.circ.specs.Log.Recovery.{HasOnlyRead, IsUnspoiled, image_of};
 ghost use Rattle.store_promise.specs.Openings.{IsAnsweredFor, IsLater, IsRefusedFor, ShowsNoCause};
 ghost use Rattle.store_images.specs.BringingHome.{BringsHome, CountsCause, HasNoSuper, HasRaised};
 ghost use Rattle.store_images.specs.BringingHome.{HasNoLog, IsFound, IsFoundLog, KeepsBlocks, LeavesImage, unused};
@@ -19,16 +19,16 @@ ghost use Rattle.store_images.specs.Opening.{HasOpened, HoldsTree, Opens, store_
 ghost use Rattle.store_images.specs.Settling.{HasCalled, IsIdle, IsQuiet};
 
 use crate::opened::Store;
+use base::SUPER_BLOCK;
 use circ::LogFault;
 use disk::{Block, BlockNo, CrashDisk, Failed, Side};
 use layout::{LayoutFault, Super};
-use limits::SUPER_BLOCK;
-use log_seats::make_one;
 use procs::Done;
 use std::alloc::{AllocError, Global};
 use store_promise::OpenFault;
 use txn::Core;
 use wal::Wal;
+use wal_calls::make_one;
 
 /// Opens a store: brings home what the log holds, and counts the opening. An image of an older version is brought to
 /// the newest in the same write as the boot number. An image is refused by the first of these that holds: an
@@ -118,7 +118,7 @@ fn recover<D: CrashDisk>(alloc: Global, disk: &mut D) -> Result<(Core<Done>, u64
 }
 
 // The super block and the log of an image that may be opened. It only reads.
-#[tactic(auto, using(wal_law::proofs::OnlyRead::reads_then))]
+#[tactic(auto, using(circ::proofs::LogLemmas::OnlyRead::reads_then))]
 fn find<D: CrashDisk>(
     alloc: Global,
     disk: &mut D,
@@ -175,7 +175,7 @@ fn find_log<D: CrashDisk>(alloc: Global, disk: &mut D, blocks: u32) -> Result<Wa
 }
 
 /// The super block of an image that may be opened, as far as it shows. It only reads.
-#[tactic(auto, using(wal_law::proofs::OnlyRead::read_alone, wal_law::proofs::OnlyRead::no_read, store_promise::proofs::Later::read_later))]
+#[tactic(auto, using(circ::proofs::LogLemmas::OnlyRead::read_alone, circ::proofs::LogLemmas::OnlyRead::no_read, store_promise::proofs::Later::read_later))]
 pub fn read_super<D: CrashDisk>(disk: &mut D, block: &mut Block) -> Result<Super, OpenFault>
     ensures reads { HasOnlyRead (D.device disk.old) (D.device disk.new) }
     ensures failure { MatchResult result (λ found. (D.device disk.new).failures ≡ (D.device disk.old).failures)
@@ -250,7 +250,7 @@ fn install<D: CrashDisk>(disk: &mut D, core: &mut Core<Done>) -> Result<(), Open
 }
 
 // Makes the installer's next call, where it has one.
-#[tactic(auto, using(log_seats::proofs::Made::made_size, log_seats::proofs::Made::made_later, log_seats::proofs::Made::made_clean))]
+#[tactic(auto, using(wal_calls::proofs::CallersLemmas::Made::made_size, wal_calls::proofs::CallersLemmas::Made::made_later, wal_calls::proofs::CallersLemmas::Made::made_clean))]
 fn install_one<D: CrashDisk>(disk: &mut D, core: &mut Core<Done>) -> bool
     requires size { (D.device disk.old).size ≡ core.old.log.blocks }
     requires bare { core.old ≡ unused core.old }

@@ -3,19 +3,19 @@ ghost use Rattle.std.specs.Prelude.{◌≡◌, ℕ, Bool, List, Some};
 ghost use Rattle.disk.specs.Crash.{Image};
 ghost use Rattle.disk.specs.Device.{Device};
 ghost use Rattle.disk.specs.declared.block.Side.{Side};
-ghost use Rattle.log_seats.specs.Making.{IsAnswered};
-ghost use Rattle.log_seats.specs.Steps.{comes_back, goes_out};
-ghost use Rattle.model.specs.Entry.{Entry};
-ghost use Rattle.model.specs.Tree.{Tree};
+ghost use Rattle.wal_calls.specs.Callers.Making.{IsAnswered};
+ghost use Rattle.wal_calls.specs.Callers.Steps.{comes_back, goes_out};
+ghost use Rattle.nfs_spec.specs.Model.Entry.{Entry};
+ghost use Rattle.nfs_spec.specs.Model.Tree.{Tree};
 ghost use Rattle.store_images.specs.LogSide.{MayMake, MayStep, gives_back, makes, pending_of, side_with, takes};
 ghost use Rattle.store_promise.specs.OpenSince.{IsOpenSince};
 ghost use Rattle.store_promise.specs.Running.{IsLogStep, home_next};
 ghost use Rattle.txn_law.specs.Core.{CoreState};
 ghost use Rattle.txn_law.specs.Tidy.{AreTidy};
 ghost use Rattle.wal.specs.Sides.{call_is_made};
-ghost use Rattle.wal_law.specs.Calls.{Pending, idle, out};
-ghost use Rattle.wal_law.specs.Io.{Io};
-ghost use Rattle.wal_law.specs.Log.{IsLawful};
+ghost use Rattle.circ.specs.Log.Calls.{Pending, idle, out};
+ghost use Rattle.circ.specs.Log.Io.{Io};
+ghost use Rattle.circ.specs.Log.Log.{IsLawful};
 
 /// A call of a side is taken, made and given back by three steps of a run, whatever the other side has out.
 pub fn the_calls_of_a_side_are_steps()

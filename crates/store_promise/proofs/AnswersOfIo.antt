@@ -12,12 +12,12 @@ use Rattle.nfs_types.specs.declared.reply.Reply.TheVariants.{Null}
 use Rattle.nfs_types.specs.declared.reply.Reply.TheVariants as reply
 use Rattle.nfs_types.specs.declared.status.Status.{Status}
 use Rattle.nfs_types.specs.declared.status.Status.TheVariants as status
-use Rattle.model.specs.Calls.{begins_transaction}
-use Rattle.model.specs.Refused.{refused}
-use Rattle.model.specs.Tree.{Tree}
-use Rattle.procedures.specs.After.{after}
-use Rattle.procedures.specs.Kinds.{fails_with, is_failure, tells_failure}
-use Rattle.procedures.specs.Step.{step as steps_by}
+use Rattle.nfs_spec.specs.Model.Calls.{begins_transaction}
+use Rattle.nfs_spec.specs.Model.Refused.{refused}
+use Rattle.nfs_spec.specs.Model.Tree.{Tree}
+use Rattle.nfs_spec.specs.Procedures.After.{after}
+use Rattle.nfs_spec.specs.Procedures.Kinds.{fails_with, is_failure, tells_failure}
+use Rattle.nfs_spec.specs.Procedures.Step.{step as steps_by}
 use Rattle.txn.specs.declared.outcomes.BeginFault.{BeginFault}
 use Rattle.txn.specs.declared.outcomes.BeginFault.TheVariants as fault
 use Rattle.store_promise.specs.declared.answers.Verdict.TheVariants as verdict

@@ -5,9 +5,9 @@ use Rattle.std.proofs.Common.{slice_get}
 use Rattle.std.proofs.lemmas.List.{length-drop}
 use Rattle.disk.specs.Device.{Content, Device, is_on, newest_alone}
 use Rattle.disk.specs.declared.block.Side.{Side}
-use Rattle.model.specs.Tree.{Tree}
-use Rattle.wal_law.specs.declared.calls.IoCall.{IoCall}
-use Rattle.wal_law.specs.declared.calls.IoCall.TheVariants.{Barrier}
+use Rattle.nfs_spec.specs.Model.Tree.{Tree}
+use Rattle.circ.specs.declared.log.calls.IoCall.{IoCall}
+use Rattle.circ.specs.declared.log.calls.IoCall.TheVariants.{Barrier}
 use Rattle.store_promise.specs.declared.events.Step.{Step}
 use Rattle.store_promise.specs.declared.events.Step.TheVariants as step
 use Rattle.store_promise.specs.DeviceCalls.{Contents, DoesCall, DoesCallOut, DoesStepBy, HasOneMore}

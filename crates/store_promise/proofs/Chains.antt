@@ -6,12 +6,12 @@ use Rattle.disk.specs.Crash.{Image}
 use Rattle.nfs_types.specs.declared.call.Call.{Call}
 use Rattle.nfs_types.specs.declared.ctx.Ctx.{Ctx}
 use Rattle.nfs_types.specs.declared.reply.Reply.{Reply}
-use Rattle.model.specs.Entry.{Entry}
-use Rattle.procedures.specs.After.{after}
-use Rattle.model.specs.Sound.{IsMadeBy}
-use Rattle.procedures.specs.Step.{step}
-use Rattle.model.specs.Tree.{Tree}
-use Rattle.procedures.proofs.Joined.{join}
+use Rattle.nfs_spec.specs.Model.Entry.{Entry}
+use Rattle.nfs_spec.specs.Procedures.After.{after}
+use Rattle.nfs_spec.specs.Model.Sound.{IsMadeBy}
+use Rattle.nfs_spec.specs.Procedures.Step.{step}
+use Rattle.nfs_spec.specs.Model.Tree.{Tree}
+use Rattle.nfs_spec.proofs.ProceduresLemmas.Joined.{join}
 use Rattle.layout.specs.declared.geometry.Geometry.{Geometry}
 use Rattle.layout.specs.Stands.{Stands}
 use Rattle.txn_law.specs.Window.{Footprint, after_commits, with_objects}

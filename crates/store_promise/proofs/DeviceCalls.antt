@@ -3,9 +3,9 @@ use Rattle.std.proofs.Common.{◌≡◌, ◌⊎◌, inl, inr, ◌∙◌, ap, sym
 use Rattle.std.proofs.Common.{List, [], ◌∷◌, ◌++◌, Option, Some, Result, Ok, Err, is_ok}
 use Rattle.disk.specs.Device.{Content, Device, current}
 use Rattle.disk.specs.declared.device.Failed.{Failed}
-use Rattle.wal_law.specs.Io.{HasMade, HasMadeCall, Io}
-use Rattle.wal_law.specs.declared.calls.IoCall.{IoCall}
-use Rattle.wal_law.specs.declared.calls.IoCall.TheVariants.{Write, Barrier}
+use Rattle.circ.specs.Log.Io.{HasMade, HasMadeCall, Io}
+use Rattle.circ.specs.declared.log.calls.IoCall.{IoCall}
+use Rattle.circ.specs.declared.log.calls.IoCall.TheVariants.{Write, Barrier}
 use Rattle.store_promise.specs.declared.events.Step.{Step}
 use Rattle.store_promise.specs.declared.events.Step.TheVariants as step
 use Rattle.store_promise.specs.DeviceCalls.{AreStill, Contents, DoesCall, DoesStep, Grows}

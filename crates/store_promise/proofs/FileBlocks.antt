@@ -5,16 +5,16 @@ use Rattle.std.proofs.Common.{Option, Some, None, replicate, nat_le, nat_lt, All
 use Rattle.std.proofs.lemmas.Bool.{eqb-true}
 use Rattle.std.proofs.lemmas.Bool.Decides.{nat_tests}
 use Rattle.std.proofs.lemmas.List.Elements.{All-contains}
-use Rattle.limits.specs.declared.TheConstants.{BLOCK_BYTES, FIRST_HOME_BLOCK}
+use Rattle.base.specs.declared.TheConstants.{BLOCK_BYTES, FIRST_HOME_BLOCK}
 use Rattle.disk.specs.Crash.{Image}
 use Rattle.disk.specs.Device.{Content, Device}
 use Rattle.disk.specs.declared.block.BlockNo.{BlockNo}
-use Rattle.model.specs.Entry.{Entry}
-use Rattle.model.specs.Tree.{Tree}
+use Rattle.nfs_spec.specs.Model.Entry.{Entry}
+use Rattle.nfs_spec.specs.Model.Tree.{Tree}
 use Rattle.layout.specs.Homes.{homes_of, is_home}
 use Rattle.layout.specs.Stands.{Stands}
-use Rattle.wal_law.specs.Calls.{Pending}
-use Rattle.wal_law.specs.Log.{IsHomeOn, installed_place}
+use Rattle.circ.specs.Log.Calls.{Pending}
+use Rattle.circ.specs.Log.Log.{IsHomeOn, installed_place}
 use Rattle.txn_law.specs.Commit.{IsReadBy}
 use Rattle.txn_law.specs.Core.{CoreState}
 use Rattle.txn_law.specs.CoreWindow.{held_of}

@@ -1,12 +1,12 @@
 -- Blocks that have at home what the first commits lead to have the homes of those.
 use Rattle.std.proofs.Common.{◌≡◌, ℕ, ◌-◌, ap, sym, ◌∙◌, subst, refl, arith}
 use Rattle.std.proofs.Common.{Bool, true, false, cond, List, None, length, take, drop, replicate, All}
-use Rattle.limits.specs.declared.TheConstants.{BLOCK_BYTES}
+use Rattle.base.specs.declared.TheConstants.{BLOCK_BYTES}
 use Rattle.disk.specs.Crash.{Image}
 use Rattle.layout.specs.Homes.{homes_of, is_home}
-use Rattle.wal_law.specs.declared.change.LogChange.{LogChange}
-use Rattle.wal_law.specs.Law.{IsOutside}
-use Rattle.wal_law.specs.Log.{IsLawful, installed_place, newest_of}
+use Rattle.circ.specs.declared.log.change.LogChange.{LogChange}
+use Rattle.circ.specs.Log.Law.{IsOutside}
+use Rattle.circ.specs.Log.Log.{IsLawful, installed_place, newest_of}
 use Rattle.txn_law.specs.Core.{CoreState}
 use Rattle.txn_law.specs.CoreWindow.{IsHomeOf}
 use Rattle.txn_law.specs.Window.{AreInLog, after_commits, at_first, opening}

@@ -2,7 +2,7 @@
 use Rattle.std.proofs.Common.{arith, ◌∙◌, refl}
 use Rattle.disk.specs.Device.{Device, OneLater}
 use Rattle.disk.proofs.Failures.{counts_none, counts_one, counts_then}
-use Rattle.wal_law.specs.Recovery.{HasOnlyRead}
+use Rattle.circ.specs.Log.Recovery.{HasOnlyRead}
 use Rattle.store_promise.specs.Openings.{IsLater}
 
 -- by no call,

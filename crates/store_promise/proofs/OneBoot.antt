@@ -1,8 +1,8 @@
 -- What a run commits is of its boot, each in a transaction of its own.
 use Rattle.std.proofs.Common.{◌≡◌, ◌∙◌, refl, ap, sym, ℕ, zero, suc, List, [], ◌∷◌, map, slice_get, Some}
-use Rattle.model.specs.Entry.{Entry}
+use Rattle.nfs_spec.specs.Model.Entry.{Entry}
 use Rattle.nfs_types.specs.declared.ctx.Ctx.{Ctx}
-use Rattle.procedures.specs.Histories.{AreOfBoot, IsOfOneBoot}
+use Rattle.nfs_spec.specs.Procedures.Histories.{AreOfBoot, IsOfOneBoot}
 use Rattle.store_promise.specs.declared.transcript.Committed.{Committed}
 use Rattle.store_promise.specs.History.{IsHistory}
 use Rattle.store_promise.specs.Schedule.{Schedule}

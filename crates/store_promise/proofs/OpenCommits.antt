@@ -11,23 +11,23 @@ use Rattle.disk.specs.declared.block.BlockNo.{BlockNo}
 use Rattle.nfs_types.specs.declared.call.Call.{Call}
 use Rattle.nfs_types.specs.declared.ctx.Ctx.{Ctx}
 use Rattle.nfs_types.specs.declared.reply.Reply.{Reply}
-use Rattle.model.specs.Entry.{Entry}
-use Rattle.procedures.specs.After.{after}
-use Rattle.model.specs.Sound.{IsMadeBy}
-use Rattle.procedures.specs.Step.{step}
-use Rattle.model.specs.Tree.{Tree}
-use Rattle.procedures.proofs.Joined.{push}
+use Rattle.nfs_spec.specs.Model.Entry.{Entry}
+use Rattle.nfs_spec.specs.Procedures.After.{after}
+use Rattle.nfs_spec.specs.Model.Sound.{IsMadeBy}
+use Rattle.nfs_spec.specs.Procedures.Step.{step}
+use Rattle.nfs_spec.specs.Model.Tree.{Tree}
+use Rattle.nfs_spec.proofs.ProceduresLemmas.Joined.{push}
 use Rattle.layout.specs.declared.geometry.Geometry.{Geometry}
 use Rattle.layout.specs.Homes.{homes_of}
 use Rattle.layout.specs.Stands.{Stands}
 use Rattle.inode.specs.Read.{AreAsRead}
 use Rattle.txn.specs.Outcomes.{TakesPlace}
-use Rattle.wal_law.specs.declared.change.LogChange.{LogChange}
-use Rattle.wal_law.specs.Calls.{Pending}
-use Rattle.wal_law.specs.Effects.{is_all_home}
-use Rattle.wal_law.specs.Law.{with_changes}
-use Rattle.wal_law.specs.Log.{blocks_of, installed_place, place_before}
-use Rattle.wal_law.proofs.Ends.{empty_list, place_le}
+use Rattle.circ.specs.declared.log.change.LogChange.{LogChange}
+use Rattle.circ.specs.Log.Calls.{Pending}
+use Rattle.circ.specs.Log.Effects.{is_all_home}
+use Rattle.circ.specs.Log.Law.{with_changes}
+use Rattle.circ.specs.Log.Log.{blocks_of, installed_place, place_before}
+use Rattle.circ.proofs.LogLemmas.Ends.{empty_list, place_le}
 use Rattle.txn_law.specs.Commit.{IsReadBy, Planned, with_record}
 use Rattle.txn_law.specs.Core.{CoreState}
 use Rattle.txn_law.specs.Group as group

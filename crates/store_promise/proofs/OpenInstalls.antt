@@ -6,25 +6,25 @@ use Rattle.std.proofs.Common.{length, take, drop, nat_le, nat_lt}
 use Rattle.std.proofs.lemmas.Bool.{ltb-true, ltb-false, le-leb, lt-leb}
 use Rattle.std.proofs.lemmas.List.{drop-drop, take-append-drop}
 use Rattle.std.proofs.Math.Seq.{take-add}
-use Rattle.limits.specs.declared.TheConstants.{SUPER_BLOCK}
+use Rattle.base.specs.declared.TheConstants.{SUPER_BLOCK}
 use Rattle.disk.specs.Crash.{Image}
 use Rattle.disk.specs.Device.{Content, Device}
-use Rattle.model.specs.Entry.{Entry}
-use Rattle.procedures.specs.After.{after}
-use Rattle.model.specs.Tree.{Tree}
+use Rattle.nfs_spec.specs.Model.Entry.{Entry}
+use Rattle.nfs_spec.specs.Procedures.After.{after}
+use Rattle.nfs_spec.specs.Model.Tree.{Tree}
 use Rattle.layout.specs.declared.geometry.Geometry.{Geometry}
 use Rattle.layout.specs.Homes.{homes_of}
 use Rattle.layout.specs.SuperForm.{IsSuper}
-use Rattle.wal_law.specs.declared.change.LogChange.{LogChange}
-use Rattle.wal_law.specs.Calls.{AgreesBeside, Pending, home_after, idle}
-use Rattle.wal_law.specs.Grows.{recovered}
-use Rattle.wal_law.specs.Effects.{HasGoneOn}
-use Rattle.wal_law.specs.Installer.{next_home, with_inst_back, with_installed}
-use Rattle.wal_law.specs.Law.{IsOutside, with_changes}
-use Rattle.wal_law.specs.Log.{IsLawful, Log, installed_place, place_before}
-use Rattle.wal_law.specs.Overlay.{content_or}
-use Rattle.wal_law.proofs.Effects.{seen_inst_done}
-use Rattle.wal_law.proofs.Ends.{place_le}
+use Rattle.circ.specs.declared.log.change.LogChange.{LogChange}
+use Rattle.circ.specs.Log.Calls.{AgreesBeside, Pending, home_after, idle}
+use Rattle.circ.specs.Log.Grows.{recovered}
+use Rattle.circ.specs.Log.Effects.{HasGoneOn}
+use Rattle.circ.specs.Log.Installer.{next_home, with_inst_back, with_installed}
+use Rattle.circ.specs.Log.Law.{IsOutside, with_changes}
+use Rattle.circ.specs.Log.Log.{IsLawful, Log, installed_place, place_before}
+use Rattle.circ.specs.Log.Overlay.{content_or}
+use Rattle.circ.proofs.LogLemmas.Effects.{seen_inst_done}
+use Rattle.circ.proofs.LogLemmas.Ends.{place_le}
 use Rattle.txn_law.specs.Core.{CoreState, past}
 use Rattle.txn_law.specs.CoreWindow.{held_of}
 use Rattle.txn_law.specs.HomeRead.{IsReadable}

@@ -4,23 +4,23 @@ use Rattle.std.proofs.Common.{Bool, true, false, cond, if◌then◌else◌, ◌&
 use Rattle.std.proofs.Common.{nat_le, nat_lt, take, drop}
 use Rattle.std.proofs.Common.{length, replicate}
 use Rattle.std.proofs.lemmas.Bool.Decides.{nat_tests}
-use Rattle.limits.specs.declared.TheConstants.{BLOCK_BYTES, FIRST_HOME_BLOCK, SUPER_BLOCK}
+use Rattle.base.specs.declared.TheConstants.{BLOCK_BYTES, FIRST_HOME_BLOCK, SUPER_BLOCK}
 use Rattle.disk.specs.Crash.{Image}
 use Rattle.disk.specs.Device.{Content, Device}
-use Rattle.procedures.specs.After.{after}
-use Rattle.model.specs.Sound.{IsMadeBy}
-use Rattle.model.specs.Tree.{Tree}
+use Rattle.nfs_spec.specs.Procedures.After.{after}
+use Rattle.nfs_spec.specs.Model.Sound.{IsMadeBy}
+use Rattle.nfs_spec.specs.Model.Tree.{Tree}
 use Rattle.layout.specs.declared.geometry.Geometry.{Geometry}
 use Rattle.layout.specs.declared.super_block.Super.{Super}
 use Rattle.layout.specs.Homes.{homes_of, is_home}
 use Rattle.layout.specs.Stands.{Stands}
 use Rattle.layout.specs.SuperForm.{IsSuper}
-use Rattle.wal_law.specs.declared.change.LogChange.{LogChange}
-use Rattle.wal_law.specs.Grows.{recovered}
-use Rattle.wal_law.specs.Law.{IsAfter, IsBoundary, IsOutside, with_changes, with_home}
-use Rattle.wal_law.specs.Calls as pending
-use Rattle.wal_law.specs.Log.{Log, installed_place, place_before}
-use Rattle.wal_law.specs.Overlay.{over}
+use Rattle.circ.specs.declared.log.change.LogChange.{LogChange}
+use Rattle.circ.specs.Log.Grows.{recovered}
+use Rattle.circ.specs.Log.Law.{IsAfter, IsBoundary, IsOutside, with_changes, with_home}
+use Rattle.circ.specs.Log.Calls as pending
+use Rattle.circ.specs.Log.Log.{Log, installed_place, place_before}
+use Rattle.circ.specs.Log.Overlay.{over}
 use Rattle.txn_law.specs.Core.{CoreState}
 use Rattle.txn_law.specs.CoreWindow.{AreBlocks, IsCoreWindow, held_of}
 use Rattle.objects.specs.declared.present.Present.{Present}

@@ -6,18 +6,18 @@ use Rattle.std.proofs.lemmas.Bool.{le-leb, leb-true, leb-false, lt-leb}
 use Rattle.std.proofs.lemmas.List.{take_all}
 use Rattle.disk.specs.Crash.{Image}
 use Rattle.disk.specs.Device.{Device}
-use Rattle.model.specs.Entry.{Entry}
-use Rattle.model.specs.Tree.{Tree}
+use Rattle.nfs_spec.specs.Model.Entry.{Entry}
+use Rattle.nfs_spec.specs.Model.Tree.{Tree}
 use Rattle.layout.specs.Homes.{homes_of}
 use Rattle.txn.specs.Outcomes.{TakesPlace}
 use Rattle.txn_law.specs.Commit.{Planned}
 use Rattle.txn_law.specs.Core.{CoreState, past}
 use Rattle.txn_law.specs.Window.{Footprint, after_commits, opening}
-use Rattle.wal_law.specs.Calls.{Pending, home_after}
-use Rattle.wal_law.specs.Installer.{with_inst_back}
-use Rattle.wal_law.specs.declared.change.LogChange.{LogChange}
-use Rattle.wal_law.specs.Log.{installed_place, place_before}
-use Rattle.wal_law.proofs.Ends.{place_le}
+use Rattle.circ.specs.Log.Calls.{Pending, home_after}
+use Rattle.circ.specs.Log.Installer.{with_inst_back}
+use Rattle.circ.specs.declared.log.change.LogChange.{LogChange}
+use Rattle.circ.specs.Log.Log.{installed_place, place_before}
+use Rattle.circ.proofs.LogLemmas.Ends.{place_le}
 use Rattle.store_promise.specs.OpenSince.{IsOpenSince, blocks_after, file_blocks}
 use Rattle.store_promise.specs.Running.{KeepsPlaces, with_blocks}
 use Rattle.store_promise.specs.Schedule.{Setting}

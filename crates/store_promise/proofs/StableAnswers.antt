@@ -4,7 +4,7 @@ use Rattle.std.proofs.Common.{Bool, List, arith}
 use Rattle.disk.specs.declared.block.BlockNo.{BlockNo}
 use Rattle.std.proofs.Common.{subst, slice_get, if◌then◌else◌}
 use Rattle.nfs_types.specs.declared.call.Call.{Call}
-use Rattle.model.specs.Calls.{is_answered_stable}
+use Rattle.nfs_spec.specs.Model.Calls.{is_answered_stable}
 use Rattle.store_promise.specs.declared.events.Committing.TheVariants as committing
 use Rattle.store_promise.specs.declared.events.Event.{Event}
 use Rattle.store_promise.specs.declared.events.Event.TheVariants as event

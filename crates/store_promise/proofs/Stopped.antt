@@ -3,23 +3,23 @@ use Rattle.std.proofs.Common.{◌≡◌, ℕ, zero, suc, ◌+◌, ◌-◌, ◌<�
 use Rattle.std.proofs.Common.{Bool, true, false, if◌then◌else◌, ◌&&◌, List, [], ◌∷◌, Some, None, length}
 use Rattle.std.proofs.Common.{take, drop, nat_eq, nat_le, nat_lt, All}
 use Rattle.std.proofs.lemmas.Bool.Decides.{nat_tests}
-use Rattle.limits.specs.declared.TheConstants.{FIRST_HOME_BLOCK}
-use Rattle.limits.specs.declared.TheConstants.{START_BLOCK}
+use Rattle.base.specs.declared.TheConstants.{FIRST_HOME_BLOCK}
+use Rattle.base.specs.declared.TheConstants.{START_BLOCK}
 use Rattle.disk.specs.Crash.{Image}
 use Rattle.disk.specs.Device.{Content}
 use Rattle.disk.specs.declared.block.BlockNo.{BlockNo}
 use Rattle.objects.specs.Spliced.{spliced}
-use Rattle.model.specs.Entry.{Entry}
-use Rattle.procedures.specs.After.{after}
-use Rattle.model.specs.Tree.{Tree}
+use Rattle.nfs_spec.specs.Model.Entry.{Entry}
+use Rattle.nfs_spec.specs.Procedures.After.{after}
+use Rattle.nfs_spec.specs.Model.Tree.{Tree}
 use Rattle.layout.specs.declared.geometry.Geometry.{Geometry}
 use Rattle.layout.specs.Homes.{is_home}
 use Rattle.layout.specs.Stands.{Stands}
-use Rattle.wal_law.specs.declared.change.LogChange.{LogChange}
-use Rattle.wal_law.specs.Effects.{newest_in}
-use Rattle.wal_law.specs.Law.{IsAfter, IsBoundary, IsOutside, pairs_of, with_changes}
-use Rattle.wal_law.specs.Log.{IsHomeOn, IsLawful, Log, newest_of, or_else}
-use Rattle.wal_law.specs.Overlay.{content_or, logged_in, over}
+use Rattle.circ.specs.declared.log.change.LogChange.{LogChange}
+use Rattle.circ.specs.Log.Effects.{newest_in}
+use Rattle.circ.specs.Log.Law.{IsAfter, IsBoundary, IsOutside, pairs_of, with_changes}
+use Rattle.circ.specs.Log.Log.{IsHomeOn, IsLawful, Log, newest_of, or_else}
+use Rattle.circ.specs.Log.Overlay.{content_or, logged_in, over}
 use Rattle.txn_law.specs.Object.{ObjectBytes}
 use Rattle.txn_law.specs.Window.{AreInLog, Footprint, IsInLog, after_commits}
 use Rattle.txn_law.specs.Window.{with_object, with_objects}

@@ -5,24 +5,24 @@ use Rattle.std.proofs.Common.{length, take, drop, nat_eq, nat_lt, nat_le, is_som
 use Rattle.std.proofs.lemmas.List.{drop_all, length-drop, length-take-le}
 use Rattle.std.proofs.lemmas.Bool.{cases_lt}
 use Rattle.std.proofs.lemmas.Bool.Decides.{nat_tests}
-use Rattle.limits.specs.declared.TheConstants.{LOG_HEADER_BLOCK, LOG_SLOTS}
+use Rattle.base.specs.declared.TheConstants.{LOG_HEADER_BLOCK, LOG_SLOTS}
 use Rattle.disk.specs.Device.{Content}
 use Rattle.disk.specs.declared.block.BlockNo.{BlockNo}
 use Rattle.disk.specs.declared.block.Side.TheVariants as side
-use Rattle.wal_law.specs.declared.calls.IoCall.TheVariants.{Write, Barrier}
-use Rattle.wal_law.specs.declared.change.LogChange.{LogChange}
-use Rattle.wal_law.specs.Calls.{Pending}
-use Rattle.wal_law.specs.Calls as pending
-use Rattle.wal_law.specs.Installer.{IsNextInstCall, may_install, next_home, passed_over, with_inst_back}
-use Rattle.wal_law.specs.Installer.{with_inst_out, with_installed}
-use Rattle.wal_law.specs.Io.{Io}
-use Rattle.wal_law.specs.Log.{IsHomeOn, IsLawful, Log, newest_of, place_before, settled_place}
-use Rattle.wal_law.specs.Log.{tail_blocks}
-use Rattle.wal_law.specs.Logger.{IsNextLogCall, group_size, has_group, may_log, slot_block, with_log_back}
-use Rattle.wal_law.specs.Logger.{with_log_out}
-use Rattle.wal_law.specs.Room.{HasPlaces}
-use Rattle.wal_law.proofs.Tail.{tail_length}
-use Rattle.wal_law.specs.Grows.{GrowsBy}
+use Rattle.circ.specs.declared.log.calls.IoCall.TheVariants.{Write, Barrier}
+use Rattle.circ.specs.declared.log.change.LogChange.{LogChange}
+use Rattle.circ.specs.Log.Calls.{Pending}
+use Rattle.circ.specs.Log.Calls as pending
+use Rattle.circ.specs.Log.Installer.{IsNextInstCall, may_install, next_home, passed_over, with_inst_back}
+use Rattle.circ.specs.Log.Installer.{with_inst_out, with_installed}
+use Rattle.circ.specs.Log.Io.{Io}
+use Rattle.circ.specs.Log.Log.{IsHomeOn, IsLawful, Log, newest_of, place_before, settled_place}
+use Rattle.circ.specs.Log.Log.{tail_blocks}
+use Rattle.circ.specs.Log.Logger.{IsNextLogCall, group_size, has_group, may_log, slot_block, with_log_back}
+use Rattle.circ.specs.Log.Logger.{with_log_out}
+use Rattle.circ.specs.Log.Room.{HasPlaces}
+use Rattle.circ.proofs.LogLemmas.Tail.{tail_length}
+use Rattle.circ.specs.Log.Grows.{GrowsBy}
 use Rattle.txn_law.specs.Steps.{StandsStill}
 use Rattle.store_promise.specs.LogTold.{LogTold, may_install_told, may_log_told, settled_told}
 use Rattle.store_promise.specs.NextCall.{IsNextOfInstalling, group_begins, group_told, next_log_call}

@@ -12,20 +12,20 @@ use Rattle.std.proofs.lemmas.Bool.Decides.{nat_tests}
 use Rattle.disk.specs.Device.{Content}
 use Rattle.disk.specs.declared.block.BlockNo.{BlockNo}
 use Rattle.disk.specs.declared.device.Failed.{Failed}
-use Rattle.wal_law.specs.declared.change.LogChange.{LogChange}
-use Rattle.wal_law.specs.Calls.{Pending}
-use Rattle.wal_law.specs.Calls as pending
-use Rattle.wal_law.specs.Io.{Io}
-use Rattle.limits.specs.declared.TheConstants.{START_BLOCK}
+use Rattle.circ.specs.declared.log.change.LogChange.{LogChange}
+use Rattle.circ.specs.Log.Calls.{Pending}
+use Rattle.circ.specs.Log.Calls as pending
+use Rattle.circ.specs.Log.Io.{Io}
+use Rattle.base.specs.declared.TheConstants.{START_BLOCK}
 use Rattle.disk.specs.declared.block.Side.TheVariants.{Home}
-use Rattle.wal_law.specs.declared.calls.IoCall.TheVariants.{Write, Barrier}
-use Rattle.wal_law.specs.Installer.{IsNextInstCall, next_home, passed_over, with_inst_out, with_inst_back}
-use Rattle.wal_law.specs.Installer.{with_installed}
-use Rattle.wal_law.specs.Log.{IsCommitted, IsHomeOn, IsLawful, Log, newest_of, place_before, tail_count}
-use Rattle.wal_law.specs.Log.{blocks_of, changed_blocks, new_blocks, tail_blocks}
-use Rattle.wal_law.proofs.Tail.{few_new, tail_length}
-use Rattle.wal_law.specs.Logger.{with_log_back, with_log_out}
-use Rattle.wal_law.specs.Grows.{GrowsBy}
+use Rattle.circ.specs.declared.log.calls.IoCall.TheVariants.{Write, Barrier}
+use Rattle.circ.specs.Log.Installer.{IsNextInstCall, next_home, passed_over, with_inst_out, with_inst_back}
+use Rattle.circ.specs.Log.Installer.{with_installed}
+use Rattle.circ.specs.Log.Log.{IsCommitted, IsHomeOn, IsLawful, Log, newest_of, place_before, tail_count}
+use Rattle.circ.specs.Log.Log.{blocks_of, changed_blocks, new_blocks, tail_blocks}
+use Rattle.circ.proofs.LogLemmas.Tail.{few_new, tail_length}
+use Rattle.circ.specs.Log.Logger.{with_log_back, with_log_out}
+use Rattle.circ.specs.Log.Grows.{GrowsBy}
 use Rattle.txn_law.specs.Steps.{StandsStill}
 use Rattle.std.proofs.lemmas.List.{drop-drop, drop-take}
 use Rattle.std.proofs.lemmas.List.Elements.{All-drop, All-head}

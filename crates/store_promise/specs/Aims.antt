@@ -2,7 +2,7 @@
 use Rattle.std.specs.Prelude.{◌≡◌, ℕ, ◌+◌, ◌*◌, ◌<◌, Bool, true, false, not, ◌&&◌, ◌||◌, if◌then◌else◌, nat_eq}
 use Rattle.std.specs.Prelude.{nat_lt, List, [], ◌∷◌, All, Contains}
 use Rattle.std.specs.List.{list_any}
-use Rattle.limits.specs.declared.TheConstants.{BLOCK_BYTES}
+use Rattle.base.specs.declared.TheConstants.{BLOCK_BYTES}
 use Rattle.inode.specs.Snap.{same_addr}
 use Rattle.objects.specs.Mode.{covers, is_exclusive, raised}
 use Rattle.store_promise.specs.declared.aims.Aim.{Aim}

@@ -3,8 +3,8 @@ use Rattle.std.specs.Prelude.{◌≡◌, ◌≢◌, ◌⊎◌, ℕ, ◌+◌, Boo
 use Rattle.std.specs.Prelude.{Option, Some, count_by, slice_get, take}
 use Rattle.disk.specs.Device.{Content, is_on, newest_alone}
 use Rattle.disk.specs.declared.block.Side.{Side}
-use Rattle.wal_law.specs.declared.calls.IoCall.{IoCall}
-use Rattle.wal_law.specs.declared.calls.IoCall.TheVariants.{Write, Barrier}
+use Rattle.circ.specs.declared.log.calls.IoCall.{IoCall}
+use Rattle.circ.specs.declared.log.calls.IoCall.TheVariants.{Write, Barrier}
 use Rattle.store_promise.specs.declared.events.Step.{Step}
 use Rattle.store_promise.specs.declared.events.Step.TheVariants as step
 use Rattle.store_promise.specs.FailedCalls.{one_if}

@@ -1,10 +1,10 @@
 -- Images that can be opened.
 use Rattle.std.specs.Prelude.{◌≡◌, ℕ, ◌≤◌, Some}
-use Rattle.limits.specs.declared.TheConstants.{SUPER_BLOCK}
+use Rattle.base.specs.declared.TheConstants.{SUPER_BLOCK}
 use Rattle.disk.specs.Crash.{Image}
-use Rattle.wal.specs.Overlay.{over, IsInRange, HasHomes}
-use Rattle.model.specs.Node.{Node}
-use Rattle.model.specs.Tree.{Tree, node_at}
+use Rattle.circ.specs.Log.Overlay.{over, IsInRange, HasHomes}
+use Rattle.nfs_spec.specs.Model.Node.{Node}
+use Rattle.nfs_spec.specs.Model.Tree.{Tree, node_at}
 use Rattle.layout.specs.declared.super_block.Super.{Super}
 use Rattle.layout.specs.Homes.{homes_of}
 use Rattle.layout.specs.Stands.{Stands}

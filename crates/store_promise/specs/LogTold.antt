@@ -2,11 +2,11 @@
 -- have in the memory log.
 use Rattle.std.specs.Prelude.{ℕ, ◌+◌, ◌-◌, Bool, true, false, not, ◌&&◌, ◌||◌, if◌then◌else◌, nat_eq, nat_lt}
 use Rattle.std.specs.Prelude.{nat_le, List, [], ◌++◌, length}
-use Rattle.limits.specs.declared.TheConstants.{LOG_SLOTS}
+use Rattle.base.specs.declared.TheConstants.{LOG_SLOTS}
 use Rattle.disk.specs.declared.block.BlockNo.{BlockNo}
-use Rattle.wal_law.specs.Log.{new_blocks}
-use Rattle.wal_law.specs.declared.calls.IoCall.{IoCall}
-use Rattle.wal_law.specs.declared.calls.IoCall.TheVariants.{Write, Barrier}
+use Rattle.circ.specs.Log.Log.{new_blocks}
+use Rattle.circ.specs.declared.log.calls.IoCall.{IoCall}
+use Rattle.circ.specs.declared.log.calls.IoCall.TheVariants.{Write, Barrier}
 use Rattle.store_promise.specs.declared.events.Committing.TheVariants as committing
 use Rattle.store_promise.specs.declared.events.Step.{Step}
 use Rattle.store_promise.specs.declared.events.Step.TheVariants as step

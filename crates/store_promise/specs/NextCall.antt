@@ -1,12 +1,12 @@
 -- Which device call the log, and the installer, has to take next, told from the steps alone.
 use Rattle.std.specs.Prelude.{◌≡◌, ℕ, ◌+◌, ◌-◌, ◌<◌, ◌⊎◌, if◌then◌else◌, nat_eq, nat_lt}
-use Rattle.limits.specs.declared.TheConstants.{LOG_HEADER_BLOCK, START_BLOCK}
+use Rattle.base.specs.declared.TheConstants.{LOG_HEADER_BLOCK, START_BLOCK}
 use Rattle.disk.specs.declared.block.BlockNo.{BlockNo}
 use Rattle.disk.specs.declared.block.Side.TheVariants as side
-use Rattle.wal_law.specs.declared.calls.IoCall.{IoCall}
-use Rattle.wal_law.specs.declared.calls.IoCall.TheVariants.{Write, Barrier}
-use Rattle.wal_law.specs.Log.{IsHomeOn}
-use Rattle.wal_law.specs.Logger.{slot_block}
+use Rattle.circ.specs.declared.log.calls.IoCall.{IoCall}
+use Rattle.circ.specs.declared.log.calls.IoCall.TheVariants.{Write, Barrier}
+use Rattle.circ.specs.Log.Log.{IsHomeOn}
+use Rattle.circ.specs.Log.Logger.{slot_block}
 use Rattle.store_promise.specs.LogTold.{LogTold, tail_told}
 
 -- the blocks of the log's group: where it has none, it takes the whole tail

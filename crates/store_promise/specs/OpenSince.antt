@@ -3,9 +3,9 @@
 use Rattle.std.specs.Prelude.{◌≡◌, ℕ, ◌-◌, ◌<◌, ◌≤◌, List, length, take, drop}
 use Rattle.disk.specs.Crash.{Image, IsCrashImage}
 use Rattle.disk.specs.Device.{Device}
-use Rattle.model.specs.Entry.{Entry}
-use Rattle.procedures.specs.After.{after}
-use Rattle.model.specs.Tree.{Tree}
+use Rattle.nfs_spec.specs.Model.Entry.{Entry}
+use Rattle.nfs_spec.specs.Procedures.After.{after}
+use Rattle.nfs_spec.specs.Model.Tree.{Tree}
 use Rattle.layout.specs.declared.geometry.Geometry.{Geometry}
 use Rattle.layout.specs.declared.version.FormatVersion.TheVariants.{Second}
 use Rattle.layout.specs.Homes.{homes_of}
@@ -13,9 +13,9 @@ use Rattle.layout.specs.Stands.{Stands}
 use Rattle.procs.specs.SoundCalls.{SoundCall}
 use Rattle.procs.specs.Outcome.{Outcome}
 use Rattle.procs.specs.Steps.{IsStepOf}
-use Rattle.wal_law.specs.Calls.{Pending}
-use Rattle.wal_law.specs.Overlay.{over}
-use Rattle.wal_law.specs.Log.{IsLawful, installed_place, settled_place}
+use Rattle.circ.specs.Log.Calls.{Pending}
+use Rattle.circ.specs.Log.Overlay.{over}
+use Rattle.circ.specs.Log.Log.{IsLawful, installed_place, settled_place}
 use Rattle.txn_law.specs.Commit.{Planned}
 use Rattle.txn_law.specs.Core.{CoreState}
 use Rattle.txn_law.specs.CoreWindow.{IsHomeOf}

@@ -1,21 +1,21 @@
 -- What holds of an open store at each moment: its device, its core, and the files that these are.
 use Rattle.std.specs.Prelude.{◌≡◌, ℕ, ◌-◌, ◌≤◌, false, List, [], ◌∷◌, take}
-use Rattle.limits.specs.declared.TheConstants.{SUPER_BLOCK}
+use Rattle.base.specs.declared.TheConstants.{SUPER_BLOCK}
 use Rattle.disk.specs.Crash.{Image}
 use Rattle.disk.specs.Device.{Device}
-use Rattle.model.specs.Entry.{Entry}
-use Rattle.procedures.specs.After.{after}
-use Rattle.model.specs.Sound.{IsMadeBy}
-use Rattle.procedures.specs.Step.{step}
-use Rattle.model.specs.Tree.{Tree}
+use Rattle.nfs_spec.specs.Model.Entry.{Entry}
+use Rattle.nfs_spec.specs.Procedures.After.{after}
+use Rattle.nfs_spec.specs.Model.Sound.{IsMadeBy}
+use Rattle.nfs_spec.specs.Procedures.Step.{step}
+use Rattle.nfs_spec.specs.Model.Tree.{Tree}
 use Rattle.layout.specs.declared.geometry.Geometry.{Geometry}
 use Rattle.layout.specs.declared.super_block.Super.{Super}
 use Rattle.layout.specs.declared.version.FormatVersion.TheVariants.{Second}
 use Rattle.layout.specs.Homes.{homes_of}
 use Rattle.layout.specs.Stands.{Stands}
 use Rattle.layout.specs.SuperForm.{IsSuper}
-use Rattle.wal_law.specs.Calls.{AgreesBeside, Pending, idle}
-use Rattle.wal_law.specs.Log.{IsLawful, Log, installed_place, settled_place}
+use Rattle.circ.specs.Log.Calls.{AgreesBeside, Pending, idle}
+use Rattle.circ.specs.Log.Log.{IsLawful, Log, installed_place, settled_place}
 use Rattle.txn_law.specs.Core.{CoreState}
 use Rattle.txn_law.specs.CoreWindow.{IsHomeOf}
 use Rattle.txn_law.specs.HomeRead.{IsReadable}

@@ -1,18 +1,18 @@
 -- What an opening, and the making of an image, do to a device.
 use Rattle.std.specs.Prelude.{◌≡◌, ◌≢◌, ℕ, ◌+◌, ◌^◌, ◌<◌, ◌≤◌, ◌⊎◌, Option, Some, None}
-use Rattle.limits.specs.declared.TheConstants.{SUPER_BLOCK}
+use Rattle.base.specs.declared.TheConstants.{SUPER_BLOCK}
 use Rattle.disk.specs.Crash.{Image, IsAtRest, IsCrashImage}
 use Rattle.disk.specs.Device.{Content, Device}
 use Rattle.disk.specs.Failures.{CountsFailures}
-use Rattle.model.specs.Tree.{Tree}
+use Rattle.nfs_spec.specs.Model.Tree.{Tree}
 use Rattle.nfs_types.specs.declared.ctx.Moment.{Moment}
 use Rattle.layout.specs.declared.geometry.Geometry.{Geometry}
 use Rattle.layout.specs.Fresh.{IsFresh}
 use Rattle.layout.specs.declared.fault.LayoutFault.TheVariants as layout_fault
 use Rattle.layout.specs.declared.super_block.Super.{Super}
 use Rattle.layout.specs.SuperForm.{HasMagic, IsNoSuper, IsSuper}
-use Rattle.wal.specs.Overlay.{start_in, end_in, IsInRange, HasHomes}
-use Rattle.wal_law.specs.Recovery.{HasOnlyRead, IsUnspoiled, image_of}
+use Rattle.circ.specs.Log.Overlay.{start_in, end_in, IsInRange, HasHomes}
+use Rattle.circ.specs.Log.Recovery.{HasOnlyRead, IsUnspoiled, image_of}
 use Rattle.store_promise.specs.declared.fault.OpenFault.{OpenFault}
 use Rattle.store_promise.specs.declared.fault.OpenFault.TheVariants as fault
 use Rattle.store_promise.specs.GoodImage.{IsGoodImage}

@@ -1,9 +1,9 @@
 -- What a stop is to leave: the files after a beginning of what was done.
 use Rattle.std.specs.Prelude.{ℕ, ◌≤◌, List, take}
 use Rattle.disk.specs.Crash.{Image}
-use Rattle.model.specs.Entry.{Entry}
-use Rattle.procedures.specs.After.{after}
-use Rattle.model.specs.Tree.{Tree}
+use Rattle.nfs_spec.specs.Model.Entry.{Entry}
+use Rattle.nfs_spec.specs.Procedures.After.{after}
+use Rattle.nfs_spec.specs.Model.Tree.{Tree}
 use Rattle.store_promise.specs.GoodImage.{IsGoodImage}
 
 -- An image of so many blocks is good, with a boot number that it may have, and with the tree after the first so

@@ -5,11 +5,11 @@ use Rattle.disk.specs.Crash.{Image}
 use Rattle.disk.specs.Device.{Content, Device}
 use Rattle.disk.specs.declared.block.BlockNo.{BlockNo}
 use Rattle.objects.specs.declared.addr.Addr.{Addr}
-use Rattle.model.specs.Entry.{Entry}
-use Rattle.model.specs.Tree.{Tree}
+use Rattle.nfs_spec.specs.Model.Entry.{Entry}
+use Rattle.nfs_spec.specs.Model.Tree.{Tree}
 use Rattle.layout.specs.declared.version.FormatVersion.TheVariants.{Second}
-use Rattle.wal_law.specs.Calls.{Pending, home_after, idle}
-use Rattle.wal_law.specs.Log.{Log, installed_place}
+use Rattle.circ.specs.Log.Calls.{Pending, home_after, idle}
+use Rattle.circ.specs.Log.Log.{Log, installed_place}
 use Rattle.txn_law.specs.Core.{CoreState}
 use Rattle.txn_law.specs.CoreWindow.{IsPending, KeepsReads}
 use Rattle.txn_law.specs.Fetch.{Fetch}

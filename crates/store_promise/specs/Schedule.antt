@@ -2,7 +2,7 @@
 use Rattle.std.specs.Prelude.{◌≡◌, ◌≢◌, ℕ, ◌+◌, ◌^◌, ◌<◌, ◌≤◌, Bool, true, false, ◌&&◌, if◌then◌else◌, nat_eq}
 use Rattle.std.specs.Prelude.{nat_le, List, [], ◌∷◌, All, take, Option, Some, None, Ok, Err, length, slice_get}
 use Rattle.std.specs.List.{zip, list_any}
-use Rattle.limits.specs.declared.TheConstants.{BLOCK_BYTES, CHANGED_BLOCKS, LOG_SLOTS}
+use Rattle.base.specs.declared.TheConstants.{BLOCK_BYTES, CHANGED_BLOCKS, LOG_SLOTS}
 use Rattle.disk.specs.Crash.{Image}
 use Rattle.disk.specs.declared.block.BlockNo.{BlockNo}
 use Rattle.objects.specs.Mode.{covers}
@@ -11,12 +11,12 @@ use Rattle.objects.specs.declared.mode.Mode.{Mode}
 use Rattle.objects.specs.declared.mode.Mode.TheVariants as modes
 use Rattle.nfs_types.specs.declared.call.Call.{Call}
 use Rattle.layout.specs.declared.geometry.Geometry.{Geometry}
-use Rattle.model.specs.Calls.{begins_transaction}
+use Rattle.nfs_spec.specs.Model.Calls.{begins_transaction}
 use Rattle.procs.specs.Asks.{Asks, Claims}
 use Rattle.inode.specs.Snap.{is_claimed, same_addr}
 use Rattle.txn.specs.declared.outcomes.BeginFault.TheVariants as fault
-use Rattle.wal_law.specs.Log.{AreOnce}
-use Rattle.wal_law.specs.declared.calls.IoCall.{IoCall}
+use Rattle.circ.specs.Log.Log.{AreOnce}
+use Rattle.circ.specs.declared.log.calls.IoCall.{IoCall}
 use Rattle.procs.specs.SoundCalls.{SoundCall}
 use Rattle.store_promise.specs.declared.aims.Aim.{Aim}
 use Rattle.store_promise.specs.declared.aims.Aim.TheVariants as aim

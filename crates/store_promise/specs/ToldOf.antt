@@ -1,11 +1,11 @@
 -- What is told of a log, as a function of the memory log and of the device calls that are out.
 use Rattle.std.specs.Prelude.{◌≡◌, ℕ, zero, suc, ◌+◌, ◌-◌, List, [], ◌∷◌, if◌then◌else◌, is_ok, is_some}
 use Rattle.std.specs.Prelude.{length, take, drop}
-use Rattle.wal_law.specs.declared.change.LogChange.{LogChange}
-use Rattle.wal_law.specs.Calls.{Pending}
-use Rattle.wal_law.specs.Calls as pending
-use Rattle.wal_law.specs.Installer.{next_home}
-use Rattle.wal_law.specs.Log.{Log, newest_of, tail_blocks}
+use Rattle.circ.specs.declared.log.change.LogChange.{LogChange}
+use Rattle.circ.specs.Log.Calls.{Pending}
+use Rattle.circ.specs.Log.Calls as pending
+use Rattle.circ.specs.Log.Installer.{next_home}
+use Rattle.circ.specs.Log.Log.{Log, newest_of, tail_blocks}
 use Rattle.store_promise.specs.LogTold.{CallTold, LogTold, idle, out, was_made}
 
 abbrev pub call_told : Pending → CallTold

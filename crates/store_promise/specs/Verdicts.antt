@@ -4,10 +4,10 @@ use Rattle.nfs_types.specs.declared.call.Call.{Call}
 use Rattle.nfs_types.specs.declared.call.Call.TheVariants as call
 use Rattle.nfs_types.specs.declared.status.Status.TheVariants as status
 use Rattle.nfs_types.specs.declared.reply.Reply.TheVariants.{Null}
-use Rattle.model.specs.Calls.{is_answered_stable}
+use Rattle.nfs_spec.specs.Model.Calls.{is_answered_stable}
 use Rattle.txn.specs.declared.outcomes.BeginFault.{BeginFault}
 use Rattle.txn.specs.declared.outcomes.BeginFault.TheVariants as fault
-use Rattle.wal_law.specs.declared.outcomes.Seq.{Seq}
+use Rattle.circ.specs.declared.log.outcomes.Seq.{Seq}
 use Rattle.store_promise.specs.declared.answers.Verdict.{Verdict}
 use Rattle.store_promise.specs.declared.answers.Verdict.TheVariants as verdict
 use Rattle.store_promise.specs.declared.events.Cause.{Cause}
@@ -20,7 +20,7 @@ use Rattle.store_promise.specs.declared.events.Step.{Step}
 use Rattle.store_promise.specs.declared.events.Step.TheVariants as step
 use Rattle.store_promise.specs.declared.transcript.Answer.{Answer}
 use Rattle.store_promise.specs.declared.transcript.Committed.{Committed}
-use Rattle.model.specs.Refused.{refused}
+use Rattle.nfs_spec.specs.Model.Refused.{refused}
 use Rattle.store_promise.specs.Progress.{Job, Stage, At, Called, Planning, Refused, Waiting, is_idle}
 use Rattle.store_promise.specs.Schedule.{Schedule, worker_of, progress_before}
 use Rattle.store_promise.specs.Transcript.{Transcript, step_at, committed_at, device_calls}

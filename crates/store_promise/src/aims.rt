@@ -1,10 +1,10 @@
 //! What a call asks of the core, and in which order it is taken again.
 ghost use Rattle.std.specs.Prelude.{◌≡◌, ◌↔◌, IsTrue};
-ghost use Rattle.limits.specs.declared.TheConstants.{BLOCK_BYTES};
+ghost use Rattle.base.specs.declared.TheConstants.{BLOCK_BYTES};
 ghost use Rattle.objects.specs.Mode.{covers};
 
+use base::BLOCK_BYTES;
 use disk::BlockNo;
-use limits::BLOCK_BYTES;
 use objects::{Addr, Mode};
 
 /// What a call asks of the core: an object in a mode, or a block to write whole.

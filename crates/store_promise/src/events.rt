@@ -3,14 +3,14 @@
 ghost use Rattle.std.specs.Prelude.{◌≡◌};
 
 use arrayvec::ArrayVec;
+use base::CHANGED_BLOCKS;
+use circ::IoCall;
 use disk::BlockNo;
-use limits::CHANGED_BLOCKS;
 use nfs_types::{Call, Credential, Moment};
 use objects::{Addr, Mode};
 use std::marker::Model;
 use std::snapshot::Snapshot;
 use txn::{BeginFault, Seq};
-use wal::IoCall;
 
 /// What comes next. Workers count from 0.
 #[derive(Drop)]

@@ -3,17 +3,17 @@
 ghost use Rattle.std.specs.Prelude.{◌≡◌, ℕ, ◌+◌, ◌-◌, ◌≤◌, Bool, List, if◌then◌else◌, length};
 ghost use Rattle.disk.specs.Crash.{Image};
 ghost use Rattle.disk.specs.Device.{Device};
-ghost use Rattle.model.specs.Entry.{Entry};
-ghost use Rattle.model.specs.Tree.{Tree};
+ghost use Rattle.nfs_spec.specs.Model.Entry.{Entry};
+ghost use Rattle.nfs_spec.specs.Model.Tree.{Tree};
 ghost use Rattle.txn.specs.Outcomes.{TakesPlace};
 ghost use Rattle.txn_law.specs.Commit.{IsReadBy, Planned};
 ghost use Rattle.txn_law.specs.Core.{CoreState, past, with_inst_call, with_log_call};
 ghost use Rattle.txn_law.specs.Object.{ObjectBytes};
 ghost use Rattle.txn_law.specs.Window.{IsAsRead, with_objects};
-ghost use Rattle.wal_law.specs.Calls.{Pending, home_after};
-ghost use Rattle.wal_law.specs.Installer.{with_inst_back, with_inst_out};
-ghost use Rattle.wal_law.specs.Log.{IsLawful, Log, installed_place, settled_place};
-ghost use Rattle.wal_law.specs.Logger.{with_log_back, with_log_out};
+ghost use Rattle.circ.specs.Log.Calls.{Pending, home_after};
+ghost use Rattle.circ.specs.Log.Installer.{with_inst_back, with_inst_out};
+ghost use Rattle.circ.specs.Log.Log.{IsLawful, Log, installed_place, settled_place};
+ghost use Rattle.circ.specs.Log.Logger.{with_log_back, with_log_out};
 ghost use Rattle.store_promise.specs.OpenSince.{HasFileBlocks, IsOpenSince, StandsBeside, blocks_after};
 ghost use Rattle.store_promise.specs.OpenSince.{file_blocks};
 

@@ -4,12 +4,12 @@ ghost use Rattle.std.specs.Prelude.{◌≡◌, ℕ, ◌+◌, ◌++◌, ◌≤◌
 ghost use Rattle.disk.specs.Device.{Content};
 ghost use Rattle.disk.specs.declared.block.BlockNo.{BlockNo};
 ghost use Rattle.disk.specs.declared.device.Failed.{Failed};
-ghost use Rattle.wal_law.specs.Calls.{Pending, idle, out, was_made};
-ghost use Rattle.wal_law.specs.Installer.{IsNextInstCall, with_inst_back, with_inst_out};
-ghost use Rattle.wal_law.specs.Io.{Io};
-ghost use Rattle.wal_law.specs.Grows.{GrowsBy};
-ghost use Rattle.wal_law.specs.Log.{IsLawful, Log, blocks_of, new_blocks, tail_blocks};
-ghost use Rattle.wal_law.specs.Logger.{with_log_back, with_log_out};
+ghost use Rattle.circ.specs.Log.Calls.{Pending, idle, out, was_made};
+ghost use Rattle.circ.specs.Log.Installer.{IsNextInstCall, with_inst_back, with_inst_out};
+ghost use Rattle.circ.specs.Log.Io.{Io};
+ghost use Rattle.circ.specs.Log.Grows.{GrowsBy};
+ghost use Rattle.circ.specs.Log.Log.{IsLawful, Log, blocks_of, new_blocks, tail_blocks};
+ghost use Rattle.circ.specs.Log.Logger.{with_log_back, with_log_out};
 ghost use Rattle.txn_law.specs.Steps.{StandsStill};
 ghost use Rattle.store_promise.specs.LogTold.{call_made, with_commit, with_inst_given, with_inst_taken};
 ghost use Rattle.store_promise.specs.LogTold.{with_log_given, with_log_taken};

@@ -7,18 +7,18 @@ ghost use Rattle.std.specs.Prelude.{true};
 ghost use Rattle.disk.specs.Crash.{Image, IsCrashImage};
 ghost use Rattle.disk.specs.Device.{Device, HasRead, OneLater};
 ghost use Rattle.disk.specs.declared.device.Failed.{Failed};
-ghost use Rattle.model.specs.Entry.{Entry};
-ghost use Rattle.procedures.specs.Step.{step};
-ghost use Rattle.model.specs.Tree.{Tree};
+ghost use Rattle.nfs_spec.specs.Model.Entry.{Entry};
+ghost use Rattle.nfs_spec.specs.Procedures.Step.{step};
+ghost use Rattle.nfs_spec.specs.Model.Tree.{Tree};
 ghost use Rattle.txn.specs.Outcomes.{TakesPlace};
 ghost use Rattle.txn_law.specs.Commit.{Planned};
 ghost use Rattle.txn_law.specs.Core.{CoreState, past, with_inst_call, with_log_call};
-ghost use Rattle.wal_law.specs.Calls.{InstCallComesBack, InstCallGoesOut, LogCallComesBack, LogCallGoesOut};
-ghost use Rattle.wal_law.specs.Calls.{Pending, home_after, idle, out, was_made};
-ghost use Rattle.wal_law.specs.Installer.{is_inst_out, may_install, with_inst_back};
-ghost use Rattle.wal_law.specs.Io.{HasMade, Io};
-ghost use Rattle.wal_law.specs.Log.{installed_place, settled_place};
-ghost use Rattle.wal_law.specs.Logger.{is_log_out, with_log_back};
+ghost use Rattle.circ.specs.Log.Calls.{InstCallComesBack, InstCallGoesOut, LogCallComesBack, LogCallGoesOut};
+ghost use Rattle.circ.specs.Log.Calls.{Pending, home_after, idle, out, was_made};
+ghost use Rattle.circ.specs.Log.Installer.{is_inst_out, may_install, with_inst_back};
+ghost use Rattle.circ.specs.Log.Io.{HasMade, Io};
+ghost use Rattle.circ.specs.Log.Log.{installed_place, settled_place};
+ghost use Rattle.circ.specs.Log.Logger.{is_log_out, with_log_back};
 ghost use Rattle.store_promise.specs.GoodImage.{IsGoodImage};
 ghost use Rattle.store_promise.specs.OpenSince.{HasKeptFiles, IsOpenSince, IsSoundCore, KeepsFiles};
 ghost use Rattle.store_promise.specs.OpenSince.{LeavesBeginning, LeavesBlocks, StandsBeside, TellsOf};
@@ -39,7 +39,7 @@ pub fn a_read_leaves_the_store_open()
         → IsOpenSince base d core logging installing boot first entries last → HasRead d later
         → IsOpenSince base later core logging installing boot first entries last }
 {
-    wal_law::law::a_read_keeps_agreement();
+    circ::law::a_read_keeps_agreement();
     txn_law::steps_keep_what_may_be_read();
 }
 
@@ -54,7 +54,7 @@ pub fn a_commit_leaves_the_store_open()
         × IsOpenSince base d new logging installing boot first (entries ++ entry ∷ []) next }
 {
     layout::counts_make_one_geometry();
-    procedures::no_step_makes_a_later_stamp();
+    nfs_spec::no_step_makes_a_later_stamp();
     txn_law::steps_keep_what_may_be_read();
 }
 
@@ -79,7 +79,7 @@ pub fn the_logger_leaves_the_store_open()
         → LogCallComesBack old.log io ok new.log → IsSoundCore base new
         → IsOpenSince base d new idle installing boot first entries last }
 {
-    wal_law::law::a_call_of_the_logger_keeps_agreement();
+    circ::law::a_call_of_the_logger_keeps_agreement();
     txn_law::the_logger_keeps_what_may_be_read();
 }
 
@@ -109,7 +109,7 @@ pub fn the_installer_leaves_the_store_open()
         → IsSoundCore (if is_inst_out old.log io then home_after base old.log ok else base) new
         → IsOpenSince (home_after base old.log ok) d new logging idle boot first entries last }
 {
-    wal_law::law::a_call_of_the_installer_keeps_agreement();
+    circ::law::a_call_of_the_installer_keeps_agreement();
     txn_law::the_installer_keeps_what_may_be_read();
 }
 

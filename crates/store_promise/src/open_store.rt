@@ -1,17 +1,17 @@
 //! Laws on an open store.
 ghost use Rattle.std.specs.Prelude.{◌≡◌, ℕ, ◌+◌, ◌≤◌, List, [], drop, length};
-ghost use Rattle.limits.specs.declared.TheConstants.{BLOCK_BYTES, SUPER_BLOCK};
+ghost use Rattle.base.specs.declared.TheConstants.{BLOCK_BYTES, SUPER_BLOCK};
 ghost use Rattle.disk.specs.Crash.{Image, IsCrashImage};
 ghost use Rattle.disk.specs.Device.{Content, Device};
-ghost use Rattle.model.specs.Entry.{Entry};
-ghost use Rattle.procedures.specs.After.{after};
-ghost use Rattle.model.specs.Tree.{Tree};
+ghost use Rattle.nfs_spec.specs.Model.Entry.{Entry};
+ghost use Rattle.nfs_spec.specs.Procedures.After.{after};
+ghost use Rattle.nfs_spec.specs.Model.Tree.{Tree};
 ghost use Rattle.layout.specs.declared.super_block.Super.{Super};
 ghost use Rattle.layout.specs.SuperForm.{IsSuper};
-ghost use Rattle.wal_law.specs.Calls.{Pending, idle};
-ghost use Rattle.wal_law.specs.Law.{IsBoundary, with_home};
-ghost use Rattle.wal_law.specs.Log.{IsLawful};
-ghost use Rattle.wal_law.specs.Overlay.{over};
+ghost use Rattle.circ.specs.Log.Calls.{Pending, idle};
+ghost use Rattle.circ.specs.Log.Law.{IsBoundary, with_home};
+ghost use Rattle.circ.specs.Log.Log.{IsLawful};
+ghost use Rattle.circ.specs.Log.Overlay.{over};
 ghost use Rattle.layout.specs.Homes.{homes_of};
 ghost use Rattle.txn_law.specs.Core.{CoreState};
 ghost use Rattle.store_promise.specs.OpenSince.{IsOpenSince, blocks_after};
@@ -44,7 +44,7 @@ pub fn a_stop_leaves_a_good_image()
         × (homes_of core.log.blocks (over image) ≡ blocks_after base core left.count)
         × after left.left (drop left.count entries) last }
 {
-    wal_law::law::a_crash_leaves_whole_groups();
+    circ::law::a_crash_leaves_whole_groups();
     whole_groups_are_a_good_image();
 }
 
@@ -54,7 +54,7 @@ pub fn an_opening_leaves_an_open_store()
         → IsOpened before opened tree first position → IsNewOver base opened core
         → IsOpenSince base opened core idle idle (first + 1) tree [] tree }
 {
-    wal_law::law::a_crash_leaves_whole_groups();
+    circ::law::a_crash_leaves_whole_groups();
 }
 
 /// Where no commit is kept, a new super block at home leaves the files as they were, with the boot number

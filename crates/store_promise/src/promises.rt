@@ -6,12 +6,12 @@ ghost use Rattle.disk.specs.Device.{Device, is_on};
 ghost use Rattle.disk.specs.declared.block.BlockNo.{BlockNo};
 ghost use Rattle.disk.specs.declared.block.Side.{Side};
 ghost use Rattle.nfs_types.specs.declared.reply.Reply.{Reply};
-ghost use Rattle.procedures.specs.After.{after};
-ghost use Rattle.procedures.specs.Histories.{IsOfOneBoot};
-ghost use Rattle.model.specs.Tree.{Tree};
+ghost use Rattle.nfs_spec.specs.Procedures.After.{after};
+ghost use Rattle.nfs_spec.specs.Procedures.Histories.{IsOfOneBoot};
+ghost use Rattle.nfs_spec.specs.Model.Tree.{Tree};
 ghost use Rattle.layout.specs.Homes.{homes_of};
-ghost use Rattle.wal_law.specs.Overlay.{over};
-ghost use Rattle.wal_law.specs.declared.calls.IoCall.TheVariants.{Barrier, Write};
+ghost use Rattle.circ.specs.Log.Overlay.{over};
+ghost use Rattle.circ.specs.declared.log.calls.IoCall.TheVariants.{Barrier, Write};
 ghost use Rattle.store_promise.specs.declared.answers.Verdict.TheVariants as verdict;
 ghost use Rattle.store_promise.specs.declared.events.Committing.TheVariants as committing;
 ghost use Rattle.store_promise.specs.declared.events.Event.TheVariants as event;
@@ -147,7 +147,7 @@ pub fn an_answer_of_io_has_its_failed_call()
         → later.clock ≡ start + device_calls t (length t.steps)
         → KeepsPromise before later tree first workers events t → HasFailedFor later.failed start events t a }
 {
-    procedures::no_step_tells_a_failure();
+    nfs_spec::no_step_tells_a_failure();
 }
 
 /// A step that tells that its device call failed where that very call was made, or that it was made where it

@@ -2,8 +2,8 @@
 ghost use Rattle.std.specs.Prelude.{◌≡◌, ℕ, ◌+◌, ◌<◌, ◌^◌, None};
 ghost use Rattle.disk.specs.Crash.{Image};
 ghost use Rattle.disk.specs.Device.{Device};
-ghost use Rattle.model.specs.Tree.{Tree};
-ghost use Rattle.wal_law.specs.Recovery.{IsUnspoiled, image_of};
+ghost use Rattle.nfs_spec.specs.Model.Tree.{Tree};
+ghost use Rattle.circ.specs.Log.Recovery.{IsUnspoiled, image_of};
 ghost use Rattle.store_promise.specs.declared.fault.OpenFault.{OpenFault};
 ghost use Rattle.store_promise.specs.declared.fault.OpenFault.TheVariants as fault;
 ghost use Rattle.store_promise.specs.GoodImage.{IsGoodImage};

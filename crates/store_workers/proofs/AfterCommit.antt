@@ -2,11 +2,11 @@
 use Rattle.std.proofs.Common.{rules, ◌≡◌, sym, refl, subst, Bool, true, false, ◌&&◌, Option, Some}
 use Rattle.std.proofs.Common.{None}
 use Rattle.std.proofs.Common.{IfSome, is_some, true≢false}
-use Rattle.model.specs.Calls.{is_answered_stable}
+use Rattle.nfs_spec.specs.Model.Calls.{is_answered_stable}
 use Rattle.nfs_types.specs.declared.reply.Reply.{Reply}
 use Rattle.txn.specs.declared.outcomes.Commit.{Commit}
 use Rattle.txn.specs.declared.outcomes.Commit.TheVariants as commit
-use Rattle.wal_law.specs.declared.outcomes.Seq.{Seq}
+use Rattle.circ.specs.declared.log.outcomes.Seq.{Seq}
 use Rattle.store_workers.specs.Phases.{is_served}
 use Rattle.store_workers.specs.Worker.{IsHeld, IsSound}
 use Rattle.store_workers.specs.WorkerAnswers.{after_commit, told_of, with_entry}

@@ -1,6 +1,6 @@
 -- What a transaction holds for reading stays as a plan's end is made, but for that of the transaction that ends.
 use Rattle.std.proofs.Common.{◌≡◌, ◌∙◌, ℕ, Bool, true, false, Option, Some, None, refl, sym, ap, subst}
-use Rattle.model.specs.Calls.{is_answered_stable}
+use Rattle.nfs_spec.specs.Model.Calls.{is_answered_stable}
 use Rattle.nfs_types.specs.declared.reply.Reply.{Reply}
 use Rattle.procs.specs.Outcome.{Outcome}
 use Rattle.store_promise.specs.declared.events.Step.{Step}
@@ -15,7 +15,7 @@ use Rattle.txn.specs.CoreWindow.{KeepsReads}
 use Rattle.txn.specs.Outcomes.{IsCommit}
 use Rattle.txn.specs.declared.outcomes.Commit.{Commit}
 use Rattle.txn.specs.declared.outcomes.Commit.TheVariants as commit
-use Rattle.wal_law.specs.declared.outcomes.Seq.{Seq}
+use Rattle.circ.specs.declared.log.outcomes.Seq.{Seq}
 
 told_begun : (stable : Bool) (job : Job) (reply : Reply) (place : Seq) (state : State)
     → (told_of stable job reply place state).begun ≡ state.begun

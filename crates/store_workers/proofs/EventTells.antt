@@ -7,7 +7,7 @@ use Rattle.nfs_types.specs.declared.ctx.Credential.{Credential}
 use Rattle.nfs_types.specs.declared.ctx.Moment.{Moment}
 use Rattle.objects.specs.declared.addr.Addr.{Addr}
 use Rattle.objects.specs.declared.mode.Mode.{Mode}
-use Rattle.model.specs.Entry.{Entry}
+use Rattle.nfs_spec.specs.Model.Entry.{Entry}
 use Rattle.txn.specs.Fetch.{Fetch}
 use Rattle.procs.specs.SoundCalls.{SoundCall}
 use Rattle.store_promise.specs.Progress.{Progress}

@@ -9,9 +9,9 @@ use Rattle.objects.specs.Mode.{covers, raised}
 use Rattle.objects.specs.declared.addr.Addr.{Addr}
 use Rattle.objects.specs.declared.mode.Mode.{Mode}
 use Rattle.objects.specs.declared.mode.Mode.TheVariants as modes
-use Rattle.model.specs.Calls.{is_answered_stable}
+use Rattle.nfs_spec.specs.Model.Calls.{is_answered_stable}
 use Rattle.nfs_types.specs.declared.reply.Reply.{Reply}
-use Rattle.wal_law.specs.declared.outcomes.Seq.{Seq}
+use Rattle.circ.specs.declared.log.outcomes.Seq.{Seq}
 use Rattle.procs.specs.Outcome.{Outcome}
 use Rattle.txn.specs.Core.{CoreState}
 use Rattle.txn.specs.Leaves.{taken_by, with_taken}

@@ -10,9 +10,9 @@ use Rattle.objects.specs.Mode.{is_exclusive, raised}
 use Rattle.objects.specs.declared.addr.Addr.{Addr}
 use Rattle.objects.specs.declared.mode.Mode.{Mode}
 use Rattle.objects.specs.declared.mode.Mode.TheVariants as modes
-use Rattle.model.specs.Calls.{is_answered_stable}
+use Rattle.nfs_spec.specs.Model.Calls.{is_answered_stable}
 use Rattle.nfs_types.specs.declared.reply.Reply.{Reply}
-use Rattle.wal_law.specs.declared.outcomes.Seq.{Seq}
+use Rattle.circ.specs.declared.log.outcomes.Seq.{Seq}
 use Rattle.procs.proofs.FewAsked.{none_read, read_once}
 use Rattle.procs.proofs.FewClaimed.{claimed_object, none_claimed, one_claimed_once}
 use Rattle.procs.specs.Asks.{Asks, WereAskedOnce, WereClaimedOnce}

@@ -1,7 +1,7 @@
 -- Which steps a call's beginning and a plan's end come to.
 use Rattle.std.proofs.Common.{◌≡◌, ℕ, Bool, true, false, Option, Some, None, Ok, Err, refl}
 use Rattle.std.specs.Prelude.{IsSomeAnd}
-use Rattle.model.specs.Calls.{begins_transaction}
+use Rattle.nfs_spec.specs.Model.Calls.{begins_transaction}
 use Rattle.procs.specs.Outcome.{Outcome}
 use Rattle.txn.specs.declared.outcomes.BeginFault.{BeginFault}
 use Rattle.store_promise.specs.declared.answers.Verdict.{Verdict}

@@ -5,7 +5,7 @@ use Rattle.nfs_types.specs.declared.reply.Reply.{Reply}
 use Rattle.procs.specs.Outcome.{Outcome}
 use Rattle.txn.specs.declared.outcomes.Commit.{Commit}
 use Rattle.txn.specs.declared.outcomes.Commit.TheVariants as commit
-use Rattle.wal_law.specs.declared.outcomes.Seq.{Seq}
+use Rattle.circ.specs.declared.log.outcomes.Seq.{Seq}
 use Rattle.store_promise.specs.declared.answers.Verdict.TheVariants as verdict
 use Rattle.store_promise.specs.declared.events.Step.{Step}
 use Rattle.store_workers.specs.Stages.{HasSoundJob, IsJobOf}

@@ -6,8 +6,8 @@ use Rattle.disk.specs.declared.block.BlockNo.{BlockNo}
 use Rattle.objects.specs.declared.addr.Addr.{Addr}
 use Rattle.objects.specs.declared.mode.Mode.{Mode}
 use Rattle.nfs_types.specs.declared.reply.Reply.TheVariants.{Null}
-use Rattle.model.specs.Calls.{begins_transaction}
-use Rattle.wal_law.specs.declared.outcomes.Seq.{Seq}
+use Rattle.nfs_spec.specs.Model.Calls.{begins_transaction}
+use Rattle.circ.specs.declared.log.outcomes.Seq.{Seq}
 use Rattle.procs.specs.Outcome.{Outcome}
 use Rattle.procs.specs.declared.next.Plan.{Plan}
 use Rattle.procs.specs.declared.next.Plan.TheVariants as plan

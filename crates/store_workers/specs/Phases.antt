@@ -1,7 +1,7 @@
 -- What a worker has in each phase: a transaction, a fetch, and what it needs to go on.
 use Rattle.std.specs.Prelude.{Bool, true, false, ◌&&◌, Option, Some, None, is_some}
 use Rattle.disk.specs.declared.block.BlockNo.{BlockNo}
-use Rattle.model.specs.Calls.{begins_transaction}
+use Rattle.nfs_spec.specs.Model.Calls.{begins_transaction}
 use Rattle.txn.specs.Fetch.{Fetch}
 use Rattle.store_workers.specs.declared.workers.parts.Job.{Job}
 use Rattle.store_workers.specs.declared.workers.parts.Phase.{Phase}

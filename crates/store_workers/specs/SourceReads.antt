@@ -5,7 +5,7 @@ use Rattle.disk.specs.Overlap.{reads}
 use Rattle.disk.specs.Ports.{AnsweredCalls}
 use Rattle.disk.specs.declared.device.Failed.{Failed}
 use Rattle.txn.specs.Fetch.{Fetch}
-use Rattle.wal_law.specs.declared.outcomes.Seq.{Seq}
+use Rattle.circ.specs.declared.log.outcomes.Seq.{Seq}
 use Rattle.store_promise.specs.declared.events.Step.{Step}
 use Rattle.store_promise.specs.declared.events.Step.TheVariants as step
 use Rattle.store_workers.specs.WorkerReads.{with_read}

@@ -6,10 +6,10 @@ use Rattle.disk.specs.declared.block.BlockNo.{BlockNo}
 use Rattle.nfs_types.specs.declared.status.Status.TheVariants as status
 use Rattle.objects.specs.declared.addr.Addr.{Addr}
 use Rattle.objects.specs.declared.mode.Mode.{Mode}
-use Rattle.model.specs.Entry.{Entry}
-use Rattle.model.specs.Calls.{is_answered_stable}
-use Rattle.model.specs.Refused.{refused}
-use Rattle.wal_law.specs.declared.outcomes.Seq.{Seq}
+use Rattle.nfs_spec.specs.Model.Entry.{Entry}
+use Rattle.nfs_spec.specs.Model.Calls.{is_answered_stable}
+use Rattle.nfs_spec.specs.Model.Refused.{refused}
+use Rattle.circ.specs.declared.log.outcomes.Seq.{Seq}
 use Rattle.txn.specs.Fetch.{Fetch}
 use Rattle.store_promise.specs.Progress.{Progress, Stage, Taken}
 use Rattle.store_promise.specs.Progress as told

@@ -9,7 +9,7 @@ use Rattle.store_promise.specs.declared.events.Step.TheVariants as step
 use Rattle.txn.specs.Receipts.{Given}
 use Rattle.txn.specs.declared.outcomes.Commit.{Commit}
 use Rattle.txn.specs.declared.outcomes.Commit.TheVariants as commit
-use Rattle.wal_law.specs.declared.outcomes.Seq.{Seq}
+use Rattle.circ.specs.declared.log.outcomes.Seq.{Seq}
 use Rattle.store_workers.specs.Notes.{committed_by}
 use Rattle.store_workers.specs.declared.workers.note.Note.{Note}
 use Rattle.store_workers.specs.declared.workers.parts.State.{State}

@@ -1,7 +1,7 @@
 -- What a worker's step tells, and what lies ready after it, by how far the worker was.
 use Rattle.std.specs.Prelude.{◌≡◌, ℕ, ◌+◌, Bool, not, ◌&&◌, Option, Some, None, IfSome, IsSomeAnd, is_some}
 use Rattle.std.specs.Prelude.{List, [], ◌∷◌, ◌++◌, length}
-use Rattle.model.specs.Entry.{Entry}
+use Rattle.nfs_spec.specs.Model.Entry.{Entry}
 use Rattle.store_promise.specs.History.{ctx_of}
 use Rattle.store_promise.specs.Progress.{Begun, Job, Progress, Stage, At, Called, Planning, is_idle, progressed}
 use Rattle.store_promise.specs.Schedule.{IsStepOfCall, IsStepOfRead}

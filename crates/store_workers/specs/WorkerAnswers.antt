@@ -5,9 +5,9 @@ use Rattle.objects.specs.declared.mode.Mode.{Mode}
 use Rattle.disk.specs.declared.block.BlockNo.{BlockNo}
 use Rattle.nfs_types.specs.declared.reply.Reply.{Reply}
 use Rattle.nfs_types.specs.declared.status.Status.TheVariants as status
-use Rattle.model.specs.Calls.{is_answered_stable}
-use Rattle.model.specs.Refused.{refused}
-use Rattle.wal_law.specs.declared.outcomes.Seq.{Seq}
+use Rattle.nfs_spec.specs.Model.Calls.{is_answered_stable}
+use Rattle.nfs_spec.specs.Model.Refused.{refused}
+use Rattle.circ.specs.declared.log.outcomes.Seq.{Seq}
 use Rattle.txn.specs.declared.outcomes.Claim.{Claim}
 use Rattle.txn.specs.declared.outcomes.Claim.TheVariants as claim
 use Rattle.txn.specs.declared.outcomes.Commit.{Commit}

@@ -8,9 +8,9 @@ use Rattle.objects.specs.declared.addr.Addr.{Addr}
 use Rattle.objects.specs.declared.mode.Mode.{Mode}
 use Rattle.layout.specs.declared.version.FormatVersion.TheVariants.{Second}
 use Rattle.nfs_types.specs.declared.reply.Reply.TheVariants.{Null}
-use Rattle.model.specs.Calls.{begins_transaction}
-use Rattle.wal_law.specs.Log.{settled_place}
-use Rattle.wal_law.specs.declared.outcomes.Seq.{Seq}
+use Rattle.nfs_spec.specs.Model.Calls.{begins_transaction}
+use Rattle.circ.specs.Log.Log.{settled_place}
+use Rattle.circ.specs.declared.log.outcomes.Seq.{Seq}
 use Rattle.procs.specs.Outcome.{Outcome}
 use Rattle.procs.specs.Planned.{IsPlanFor, IsStepPlan}
 use Rattle.procs.specs.declared.next.Plan.{Plan}

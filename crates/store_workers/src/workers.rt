@@ -22,7 +22,7 @@ use last_entry::LastEntry;
 use nfs_types::{Call, Credential, Ctx, Moment};
 use note::Note;
 use parts::{Begun, Job, Phase, State, Work};
-use procs::Done;
+use procs::{Done, Voucher};
 use std::alloc::Global;
 use store_promise::{CallAnswer, Entry, Step};
 pub use telling::{
@@ -30,7 +30,6 @@ pub use telling::{
     a_worker_tells_its_steps,
 };
 use txn::Core;
-use vouchers::Voucher;
 
 /// A worker: the state of one procedure. What its steps commit and answer lies ready to be taken. Its type
 /// keeps that it has what it needs to go on, and that its call can be spelled.
@@ -52,7 +51,7 @@ impl Worker {
     ghost use Rattle.store_workers.specs.Ended.{GivesAllBack};
     ghost use Rattle.store_images.specs.Fetches.{FetchesOnly};
     ghost use Rattle.layout.specs.Geometry.{IsLawful};
-    ghost use Rattle.model.specs.Sound.{SoundTime};
+    ghost use Rattle.nfs_spec.specs.Model.Sound.{SoundTime};
     ghost use Rattle.nfs_types.specs.Fits.{CallFits};
     ghost use Rattle.store_workers.specs.Knowing.{nothing_known};
     ghost use Rattle.store_workers.specs.Notes.{IsNoted, committed_by};

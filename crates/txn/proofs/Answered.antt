@@ -5,8 +5,8 @@ use Rattle.std.specs.Prelude.{IsSome, IsNone, IfOk, OnErr}
 use Rattle.disk.specs.declared.block.BlockNo.{BlockNo}
 use Rattle.objects.specs.declared.addr.Addr.{Addr}
 use Rattle.objects.specs.declared.mode.Mode.{Mode}
-use Rattle.wal_law.specs.Grows.{IsWholeChange}
-use Rattle.wal_law.specs.Log.{IsLawful, newest}
+use Rattle.circ.specs.Log.Grows.{IsWholeChange}
+use Rattle.circ.specs.Log.Log.{IsLawful, newest}
 use Rattle.txn_law.specs.Commit.{Planned, with_record, refreshed_content}
 use Rattle.txn_law.specs.Core.{CoreState, with_begun, without}
 use Rattle.txn_law.specs.CoreLaw.{IsLawfulCore}

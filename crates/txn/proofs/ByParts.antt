@@ -1,6 +1,6 @@
 -- Lemmas: what an end, a commit and an installation leave, told by the parts.
 use Rattle.std.proofs.Common.{◌≡◌, ap, sym, Bool, List, ℕ, ◌∙◌}
-use Rattle.wal_law.specs.Log.{Log, installed_place}
+use Rattle.circ.specs.Log.Log.{Log, installed_place}
 use Rattle.txn_law.specs.Commit.{Planned, with_record, refreshed, committed}
 use Rattle.txn_law.specs.Core.{CoreState, ended, installed, past, without}
 use Rattle.txn_law.specs.Holds.{released}

@@ -14,7 +14,7 @@ use Rattle.objects.specs.Pins.{is_wanted, once_at, spared}
 use Rattle.objects.specs.declared.addr.Addr.{Addr}
 use Rattle.objects.specs.declared.present.Present.{Present}
 use Rattle.objects.proofs.Residents.{same_block}
-use Rattle.wal_law.specs.Log.{Log, installed_place}
+use Rattle.circ.specs.Log.Log.{Log, installed_place}
 use Rattle.txn_law.specs.Commit.{Planned, footprint, with_record}
 use Rattle.txn_law.specs.Core.{past}
 use Rattle.txn_law.specs.Holds.{is_taken, is_read, is_hold_of, hold_of, without_hold, joined, with_hold, released}

@@ -7,8 +7,8 @@ use Rattle.disk.specs.declared.block.BlockNo.{BlockNo}
 use Rattle.objects.specs.Present.{present_of, is_pending, IsOnce, filled_in, filled}
 use Rattle.objects.specs.declared.present.Present.{Present}
 use Rattle.objects.proofs.Residents.{each_filled}
-use Rattle.wal_law.specs.Effects.{HasAppended, HasGoneOn, newest_in, brought_home}
-use Rattle.wal_law.specs.Log.{Log, newest, or_else, blocks_of as group_blocks}
+use Rattle.circ.specs.Log.Effects.{HasAppended, HasGoneOn, newest_in, brought_home}
+use Rattle.circ.specs.Log.Log.{Log, newest, or_else, blocks_of as group_blocks}
 use Rattle.txn_law.specs.Commit.{IsOwn, IsWrittenBy, Planned, refreshed_content, refreshed_resident, refreshed}
 use Rattle.txn_law.specs.Core.{CoreState}
 use Rattle.txn_law.specs.Group.{blocks_of, is_among}

@@ -7,9 +7,9 @@ use Rattle.std.proofs.lemmas.List.Elements.{All-nil, All-cons, All-weaker, All-f
 use Rattle.std.specs.Prelude.{is_some, Result, Ok, Err, OnOk, OnErr}
 use Rattle.disk.specs.Device.{Content}
 use Rattle.disk.specs.declared.block.BlockNo.{BlockNo}
-use Rattle.wal_law.specs.Log.{Log, installed_place, place_before}
-use Rattle.wal_law.specs.Effects.{is_all_home, HasAppended, HasGoneOn}
-use Rattle.wal_law.specs.declared.change.LogChange.{LogChange}
+use Rattle.circ.specs.Log.Log.{Log, installed_place, place_before}
+use Rattle.circ.specs.Log.Effects.{is_all_home, HasAppended, HasGoneOn}
+use Rattle.circ.specs.declared.log.change.LogChange.{LogChange}
 use Rattle.txn_law.specs.Commit.{Planned, footprint, with_record, refreshed}
 use Rattle.txn_law.specs.Core.{past}
 use Rattle.objects.specs.Pins.{Residents, Pins, PinsStay, Unpins, is_wanted, pins_of, spared}

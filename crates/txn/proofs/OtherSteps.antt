@@ -7,8 +7,8 @@ use Rattle.disk.specs.Device.{Content}
 use Rattle.disk.specs.declared.block.BlockNo.{BlockNo}
 use Rattle.objects.specs.declared.addr.Addr.{Addr}
 use Rattle.objects.specs.declared.mode.Mode.{Mode}
-use Rattle.wal_law.specs.Log.{newest}
-use Rattle.wal_law.specs.Overlay.{content_or}
+use Rattle.circ.specs.Log.Log.{newest}
+use Rattle.circ.specs.Log.Overlay.{content_or}
 use Rattle.txn_law.specs.Commit.{Planned, refreshed_content}
 use Rattle.txn_law.specs.Core.{CoreState, IsOut, with_begun, without}
 use Rattle.txn_law.specs.CoreWindow.{KeepsReads}

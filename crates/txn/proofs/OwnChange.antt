@@ -9,7 +9,7 @@ use Rattle.objects.specs.Mode.{is_exclusive}
 use Rattle.objects.specs.declared.addr.Addr.{Addr}
 use Rattle.objects.specs.declared.mode.Mode.{Mode}
 use Rattle.objects.specs.declared.mode.Mode.TheVariants as modes
-use Rattle.wal_law.specs.Log.{IsHomeOn}
+use Rattle.circ.specs.Log.Log.{IsHomeOn}
 use Rattle.txn_law.specs.Commit.{IsOwn, IsReadBy, IsWrittenBy, Planned}
 use Rattle.txn_law.specs.Core.{CoreState, IsOut}
 use Rattle.txn_law.specs.Group.{blocks_after, is_among}

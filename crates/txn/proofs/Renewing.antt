@@ -7,8 +7,8 @@ use Rattle.disk.specs.Device.{Content}
 use Rattle.disk.specs.declared.block.BlockNo.{BlockNo}
 use Rattle.objects.specs.Present.{renewed, renewed_content, renewed_resident}
 use Rattle.objects.specs.declared.present.Present.{Present}
-use Rattle.wal_law.specs.Effects.{newest_in}
-use Rattle.wal_law.specs.Log.{or_else}
+use Rattle.circ.specs.Log.Effects.{newest_in}
+use Rattle.circ.specs.Log.Log.{or_else}
 use Rattle.txn_law.specs.Commit.{refreshed_content}
 use Rattle.txn.specs.Refreshed.{renewed_each}
 

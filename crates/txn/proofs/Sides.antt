@@ -17,11 +17,11 @@ use Rattle.txn_law.proofs.HeldReads.{reads_call, reads_installed, reads_log}
 use Rattle.txn_law.proofs.Leaves.{leaves_installed}
 use Rattle.txn.specs.Sides.{CoreBack, LeavesBack, LetsGo, base_back, with_call}
 use Rattle.wal.specs.Sides.{is_out, with_back, with_out}
-use Rattle.wal_law.specs.Calls.{home_after}
-use Rattle.wal_law.specs.Installer.{is_inst_out, next_home, with_inst_out}
-use Rattle.wal_law.specs.Io.{Io}
-use Rattle.wal_law.specs.Log.{IsLawful, Log, installed_place}
-use Rattle.wal_law.specs.Logger.{is_log_out, with_log_back, with_log_out}
+use Rattle.circ.specs.Log.Calls.{home_after}
+use Rattle.circ.specs.Log.Installer.{is_inst_out, next_home, with_inst_out}
+use Rattle.circ.specs.Log.Io.{Io}
+use Rattle.circ.specs.Log.Log.{IsLawful, Log, installed_place}
+use Rattle.circ.specs.Log.Logger.{is_log_out, with_log_back, with_log_out}
 
 -- ---- a call goes out
 

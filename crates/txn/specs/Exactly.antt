@@ -3,9 +3,9 @@ use Rattle.std.specs.Prelude.{◌≡◌, ℕ, ◌+◌, Bool}
 use Rattle.objects.specs.declared.addr.Addr.{Addr}
 use Rattle.objects.specs.declared.mode.Mode.{Mode}
 use Rattle.objects.specs.declared.present.Present.{Present}
-use Rattle.wal_law.specs.Calls.{KeepsAgreement}
-use Rattle.wal_law.specs.Grows.{StandsStill}
-use Rattle.wal_law.specs.declared.outcomes.Room.TheVariants as room
+use Rattle.circ.specs.Log.Calls.{KeepsAgreement}
+use Rattle.circ.specs.Log.Grows.{StandsStill}
+use Rattle.circ.specs.declared.log.outcomes.Room.TheVariants as room
 use Rattle.txn_law.specs.Commit.{Planned, committed}
 use Rattle.txn_law.specs.Core.{CoreState}
 use Rattle.txn_law.specs.Lists.{IsHeldExactly, IsFetchedExactly, claimed}

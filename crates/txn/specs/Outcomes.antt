@@ -1,18 +1,18 @@
 -- What the core's answers say.
 use Rattle.std.specs.Prelude.{◌≡◌, ℕ, ◌+◌, ◌<◌, true, false, List, All, length}
-use Rattle.limits.specs.declared.TheConstants.{BLOCK_BYTES}
+use Rattle.base.specs.declared.TheConstants.{BLOCK_BYTES}
 use Rattle.disk.specs.Device.{Content}
 use Rattle.disk.specs.declared.block.BlockNo.{BlockNo}
 use Rattle.objects.specs.declared.addr.Addr.{Addr}
 use Rattle.objects.specs.declared.mode.Mode.{Mode}
 use Rattle.objects.specs.declared.mode.Mode.TheVariants as modes
-use Rattle.wal_law.specs.Log.{newest, blocks_of as group_blocks}
-use Rattle.wal_law.specs.Room.{IsRoom}
-use Rattle.wal_law.specs.Calls.{KeepsAgreement}
-use Rattle.wal_law.specs.Effects.{HasAppended}
-use Rattle.wal_law.specs.Grows.{GrowsBy, StandsStill}
-use Rattle.wal_law.specs.declared.outcomes.Room.{Room}
-use Rattle.wal_law.specs.declared.outcomes.Room.TheVariants as room
+use Rattle.circ.specs.Log.Log.{newest, blocks_of as group_blocks}
+use Rattle.circ.specs.Log.Room.{IsRoom}
+use Rattle.circ.specs.Log.Calls.{KeepsAgreement}
+use Rattle.circ.specs.Log.Effects.{HasAppended}
+use Rattle.circ.specs.Log.Grows.{GrowsBy, StandsStill}
+use Rattle.circ.specs.declared.log.outcomes.Room.{Room}
+use Rattle.circ.specs.declared.log.outcomes.Room.TheVariants as room
 use Rattle.txn_law.specs.Commit.{Planned, IsOwn, with_record, refreshed_content}
 use Rattle.txn_law.specs.Core.{CoreState, without}
 use Rattle.txn_law.specs.CoreWindow.{SetsOnly}

@@ -8,10 +8,10 @@ use Rattle.objects.specs.declared.present.Present.{Present}
 use Rattle.txn_law.specs.Core.{CoreState, installed, past}
 use Rattle.txn_law.specs.Leaves.{Leaves, in_memory, is_fetching, taken_by}
 use Rattle.wal.specs.Sides.{with_out}
-use Rattle.wal_law.specs.Calls.{home_after}
-use Rattle.wal_law.specs.Installer.{is_inst_out}
-use Rattle.wal_law.specs.Io.{Io}
-use Rattle.wal_law.specs.Log.{Log, installed_place}
+use Rattle.circ.specs.Log.Calls.{home_after}
+use Rattle.circ.specs.Log.Installer.{is_inst_out}
+use Rattle.circ.specs.Log.Io.{Io}
+use Rattle.circ.specs.Log.Log.{Log, installed_place}
 
 -- the core with one call more of the side that was handed out
 abbrev pub counted : Side → CoreState → CoreState

@@ -1,8 +1,8 @@
 //! Committing a change.
 ghost use Rattle.std.specs.Prelude.{◌≡◌, ◌≤◌, ◌<◌, ◌↔◌, length, All, IsTrue, true, false};
-ghost use Rattle.wal_law.specs.Log.{IsHomeOn};
-ghost use Rattle.wal_law.specs.Room.{IsRoom};
-ghost use Rattle.limits.specs.declared.TheConstants.{CHANGED_BLOCKS};
+ghost use Rattle.circ.specs.Log.Log.{IsHomeOn};
+ghost use Rattle.circ.specs.Log.Room.{IsRoom};
+ghost use Rattle.base.specs.declared.TheConstants.{CHANGED_BLOCKS};
 ghost use Rattle.txn.specs.Exactly.{IsCommitExactly};
 ghost use Rattle.txn.specs.Outcomes.{IsGiven};
 ghost use Rattle.txn_law.specs.Commit.{IsOwn, IsReadBy, IsWrittenBy, HasBytes};
@@ -14,8 +14,8 @@ use crate::refreshing::refresh;
 use crate::state::State;
 use crate::{Change, Object, Receipt, Tx};
 use disk::BlockNo;
-use groups::{are_sized, blocks_of_objects, group_of, pointers_to};
 use std::alloc::Global;
+use txn_groups::{are_sized, blocks_of_objects, group_of, pointers_to};
 use wal::{Append, Room};
 
 impl<C: Change> State<C> {

@@ -3,13 +3,13 @@
 ghost use Rattle.std.specs.Prelude.{◌≡◌, ◌≤◌, ◌<◌, ◌+◌, ◌*◌, ◌^◌, ◌↔◌, IsTrue, IsSome, IsNone, IfSome, IsErrOf, OnErr};
 ghost use Rattle.std.specs.List.{list_any};
 ghost use Rattle.std.specs.Prelude.{Bool, nat_eq, IfOk, ◌∷◌, true, false, is_some, if◌then◌else◌, [], length, All};
-ghost use Rattle.limits.specs.declared.TheConstants.{CHANGED_BLOCKS, CLEAN_BLOCKS};
-ghost use Rattle.wal_law.specs.Grows.{IsWholeChange};
-ghost use Rattle.wal_law.specs.Log.{settled_place, tail_count, added_blocks, IsHomeOn};
-ghost use Rattle.wal_law.specs.Log.{IsLawful};
+ghost use Rattle.base.specs.declared.TheConstants.{CHANGED_BLOCKS, CLEAN_BLOCKS};
+ghost use Rattle.circ.specs.Log.Grows.{IsWholeChange};
+ghost use Rattle.circ.specs.Log.Log.{settled_place, tail_count, added_blocks, IsHomeOn};
+ghost use Rattle.circ.specs.Log.Log.{IsLawful};
 ghost use Rattle.txn_law.specs.Group.{blocks_of};
 ghost use Rattle.wal.specs.Sides.{IsNextCall, call_comes_back, call_goes_out, is_out, may_call, with_back};
-ghost use Rattle.wal_law.specs.Io.{IsCallWithin};
+ghost use Rattle.circ.specs.Log.Io.{IsCallWithin};
 ghost use Rattle.txn_law.specs.Core.{IsOut, with_begun, without, ended};
 ghost use Rattle.txn.specs.Sides.{LetsGo, counted, with_call};
 ghost use Rattle.txn.specs.Unneeded.{unneeded};
@@ -19,15 +19,15 @@ ghost use Rattle.objects.specs.declared.present.Present.{Present};
 use crate::outcomes::BeginFault;
 use crate::records::{Record, forget, unpin_holds};
 use crate::{Change, Object, Stable, Tx};
+use base::FIRST_HOME_BLOCK;
 use disk::{BlockNo, Side};
-use groups::blocks_of_objects;
 use http_server::Log;
-use limits::FIRST_HOME_BLOCK;
 use locks::Table;
 use objects::{Addr, Residency};
 use std::alloc::Global;
 use std::collections::VecDeque;
 use std::marker::Model;
+use txn_groups::blocks_of_objects;
 use wal::{Seq, SideIo, Wal};
 
 /// What a core has. Its type keeps that each block is pinned once for each hold of a part of it and once for each

@@ -1,18 +1,18 @@
 //! The transactional core.
 ghost use Rattle.std.specs.Prelude.{◌≡◌, ◌≤◌, ◌<◌, ◌+◌, ◌*◌, ◌^◌, ◌↔◌, IsTrue, IsSome, IsNone, IfSome, IsErrOf, OnErr};
 ghost use Rattle.std.specs.Prelude.{ℕ, IfOk, ◌∷◌, true, false, is_some, if◌then◌else◌, [], length};
-ghost use Rattle.limits.specs.declared.TheConstants.{CHANGED_BLOCKS, CLEAN_BLOCKS};
+ghost use Rattle.base.specs.declared.TheConstants.{CHANGED_BLOCKS, CLEAN_BLOCKS};
 ghost use Rattle.objects.specs.declared.addr.Addr.{Addr};
-ghost use Rattle.wal_law.specs.Log.{settled_place, installed_place, tail_count, added_blocks};
-ghost use Rattle.wal_law.specs.Calls.{LogCallGoesOut, LogCallComesBack, InstCallGoesOut, InstCallComesBack};
-ghost use Rattle.wal_law.specs.Calls.{AgreesBeside, Pending, home_after};
+ghost use Rattle.circ.specs.Log.Log.{settled_place, installed_place, tail_count, added_blocks};
+ghost use Rattle.circ.specs.Log.Calls.{LogCallGoesOut, LogCallComesBack, InstCallGoesOut, InstCallComesBack};
+ghost use Rattle.circ.specs.Log.Calls.{AgreesBeside, Pending, home_after};
 ghost use Rattle.disk.specs.Device.{Device, current, newest as newest_content};
 ghost use Rattle.disk.specs.Crash.{Image};
 ghost use Rattle.wal.specs.Sides.{IsNextCall, call_comes_back, call_goes_out, is_out, may_call, with_back};
-ghost use Rattle.wal_law.specs.Io.{IsCallWithin};
-ghost use Rattle.wal_law.specs.Logger.{IsNextLogCall, may_log, is_log_out, with_log_back};
-ghost use Rattle.wal_law.specs.Installer.{IsNextInstCall, may_install, is_inst_out};
-ghost use Rattle.wal_law.specs.Installer.{with_inst_back};
+ghost use Rattle.circ.specs.Log.Io.{IsCallWithin};
+ghost use Rattle.circ.specs.Log.Logger.{IsNextLogCall, may_log, is_log_out, with_log_back};
+ghost use Rattle.circ.specs.Log.Installer.{IsNextInstCall, may_install, is_inst_out};
+ghost use Rattle.circ.specs.Log.Installer.{with_inst_back};
 ghost use Rattle.txn_law.specs.Core.{IsOut, with_begun, with_log_call, with_inst_call, without, past};
 ghost use Rattle.txn_law.specs.CoreLaw.{IsFresh, IsLawfulCore};
 ghost use Rattle.txn_law.specs.CoreWindow.{IsHomeOf, KeepsHome, KeepsReads, IsPending};

@@ -1,6 +1,6 @@
 //! What the core hands out.
 ghost use Rattle.std.specs.Prelude.{◌≡◌, ◌<◌, false, length, OnOk};
-ghost use Rattle.limits.specs.declared.TheConstants.{BLOCK_BYTES};
+ghost use Rattle.base.specs.declared.TheConstants.{BLOCK_BYTES};
 ghost use Rattle.disk.specs.Device.{CountsFailure, HasRead, current, newest};
 
 use disk::{Block, BlockNo, CrashDisk, Failed};

@@ -6,7 +6,7 @@ ghost use Rattle.objects.specs.Pins.{Pins, PinsStay, once_at, pins_of};
 ghost use Rattle.objects.specs.declared.present.Present.{Present};
 ghost use Rattle.txn.specs.Pinned.{newly_in};
 ghost use Rattle.disk.specs.Device.{Content};
-ghost use Rattle.wal_law.specs.Log.{newest};
+ghost use Rattle.circ.specs.Log.Log.{newest};
 ghost use Rattle.objects.specs.declared.addr.Addr.{Addr};
 ghost use Rattle.txn.specs.Outcomes.{IsWithin};
 ghost use Rattle.txn.specs.Exactly.{IsWantedExactly, IsClaimedExactly};

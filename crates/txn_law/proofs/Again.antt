@@ -3,7 +3,7 @@ use Rattle.std.proofs.Common.{◌≡◌, ℕ, false, nat_eq, ◌⊎◌, inl, inr
 use Rattle.std.proofs.Common.{arith}
 use Rattle.std.proofs.Common.{get_or, true, ◌+◌, ◌<◌, ◌≤◌}
 use Rattle.std.proofs.Math.Bridge.{le_prop}
-use Rattle.limits.specs.declared.TheConstants.{BLOCK_BYTES}
+use Rattle.base.specs.declared.TheConstants.{BLOCK_BYTES}
 use Rattle.std.specs.Prelude.{Contains}
 use Rattle.std.proofs.lemmas.Bool.{eqb-true}
 use Rattle.std.proofs.lemmas.List.Elements.{All-contains, All-contains_itself}
@@ -12,7 +12,7 @@ use Rattle.objects.specs.Mode.{Excludes, raised}
 use Rattle.objects.specs.declared.addr.Addr.{Addr}
 use Rattle.objects.specs.declared.mode.Mode.{Mode}
 use Rattle.objects.specs.declared.mode.Mode.TheVariants as modes
-use Rattle.wal_law.specs.Log.{IsHomeOn}
+use Rattle.circ.specs.Log.Log.{IsHomeOn}
 use Rattle.txn_law.specs.Core.{CoreState, IsOut}
 use Rattle.txn_law.specs.Holds.{IsHoldOf, KeepsOff, is_hold_of}
 use Rattle.txn_law.specs.Leaves.{taken_by, is_fetching}

@@ -5,7 +5,7 @@ use Rattle.std.specs.Prelude.{Contains, slice_index_or}
 use Rattle.std.specs.List.{find}
 use Rattle.std.proofs.lemmas.Bool.{eqb-true}
 use Rattle.std.proofs.lemmas.List.Elements.{All-contains}
-use Rattle.limits.specs.declared.TheConstants.{BLOCK_BYTES}
+use Rattle.base.specs.declared.TheConstants.{BLOCK_BYTES}
 use Rattle.disk.specs.declared.block.BlockNo.{BlockNo}
 use Rattle.txn_law.specs.Commit.{IsWrittenBy}
 use Rattle.txn_law.specs.Core.{CoreState}

@@ -9,19 +9,19 @@ use Rattle.std.proofs.lemmas.List.Elements.{All-nil, All-push, All-weaker}
 use Rattle.disk.specs.Device.{Content}
 use Rattle.disk.specs.Crash.{Image}
 use Rattle.disk.specs.declared.block.BlockNo.{BlockNo}
-use Rattle.wal_law.specs.Law.{with_changes}
-use Rattle.wal_law.specs.Log.{Log, IsLawful, newest_of, or_else, place_before, installed_place}
-use Rattle.wal_law.specs.Overlay.{content_or}
-use Rattle.wal_law.specs.Effects.{newest_in}
-use Rattle.wal_law.proofs.Newest.{place_before-all}
-use Rattle.wal_law.specs.Grows.{recovered, GrowsBy}
+use Rattle.circ.specs.Log.Law.{with_changes}
+use Rattle.circ.specs.Log.Log.{Log, IsLawful, newest_of, or_else, place_before, installed_place}
+use Rattle.circ.specs.Log.Overlay.{content_or}
+use Rattle.circ.specs.Log.Effects.{newest_in}
+use Rattle.circ.proofs.LogLemmas.Newest.{place_before-all}
+use Rattle.circ.specs.Log.Grows.{recovered, GrowsBy}
 use Rattle.objects.specs.Object.{ObjectBytes}
 use Rattle.txn_law.specs.Window.{Footprint, Follow, with_objects, after_commits}
 use Rattle.txn_law.specs.Window.{opening, now_of, GroupEnd, at_first, at_installed, at_logged}
 use Rattle.txn_law.specs.Window.{at_taken, at_last, ArePlaced, commits_among, LeadsTo, IsInLog, AreInLog}
 use Rattle.txn_law.specs.Window.{ArePinned, IsCurrent, IsWindowOver}
 use Rattle.txn_law.specs.Steps.{IsBrought, IsCovered, with_commit}
-use Rattle.wal_law.proofs.Ends.{no_changes, empty_list, place_le}
+use Rattle.circ.proofs.LogLemmas.Ends.{no_changes, empty_list, place_le}
 use Rattle.txn_law.proofs.Commits.{after_commits-append, follow-append, placed-append}
 
 pub take_nil : {X : Type 0} (n : ℕ) → take {A = X} n [] ≡ []

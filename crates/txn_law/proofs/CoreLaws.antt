@@ -4,20 +4,20 @@ use Rattle.std.proofs.Common.{List, [], ◌∷◌, ◌++◌}
 use Rattle.std.proofs.Common.{length, drop, replicate, All, refl, sym, ap, subst, ◌∙◌, arith}
 use Rattle.std.proofs.lemmas.List.Elements.{All-push, All-drop, All-filter, All-weaker}
 use Rattle.std.proofs.Math.ListN.{length-replicate}
-use Rattle.limits.specs.declared.TheConstants.{BLOCK_BYTES}
+use Rattle.base.specs.declared.TheConstants.{BLOCK_BYTES}
 use Rattle.disk.specs.Device.{Content}
 use Rattle.disk.specs.Crash.{Image}
 use Rattle.disk.specs.declared.block.BlockNo.{BlockNo}
 use Rattle.objects.specs.declared.addr.Addr.{Addr}
 use Rattle.objects.specs.declared.mode.Mode.{Mode}
 use Rattle.objects.specs.declared.mode.Mode.TheVariants as modes
-use Rattle.wal_law.specs.Calls.{home_after}
-use Rattle.wal_law.specs.Effects.{HasGoneOn, brought_home}
-use Rattle.wal_law.specs.Grows.{GrowsBy}
-use Rattle.wal_law.specs.Installer.{next_home, with_inst_out, with_inst_back}
-use Rattle.wal_law.specs.Logger.{with_log_out, with_log_back}
-use Rattle.wal_law.specs.Log.{Log, IsLawful, newest, installed_place, blocks_of as group_blocks}
-use Rattle.wal_law.proofs.Effects.{seen_inst_done}
+use Rattle.circ.specs.Log.Calls.{home_after}
+use Rattle.circ.specs.Log.Effects.{HasGoneOn, brought_home}
+use Rattle.circ.specs.Log.Grows.{GrowsBy}
+use Rattle.circ.specs.Log.Installer.{next_home, with_inst_out, with_inst_back}
+use Rattle.circ.specs.Log.Logger.{with_log_out, with_log_back}
+use Rattle.circ.specs.Log.Log.{Log, IsLawful, newest, installed_place, blocks_of as group_blocks}
+use Rattle.circ.proofs.LogLemmas.Effects.{seen_inst_done}
 use Rattle.txn_law.specs.Commit.{Planned, IsOwn, committed}
 use Rattle.txn_law.specs.Core.{CoreState, with_begun, with_log_call, with_inst_call, past, installed, ended}
 use Rattle.txn_law.specs.CoreLaw.{IsFresh, IsPlanned, IsLawfulCore}
@@ -26,7 +26,7 @@ use Rattle.txn_law.specs.Fetch.{Fetch}
 use Rattle.txn_law.specs.Fetched.{fetched, fetch_failed}
 use Rattle.txn_law.specs.Group.{blocks_of, IsLaid}
 use Rattle.objects.specs.Object.{ObjectBytes}
-use Rattle.wal_law.specs.Grows.{IsWholeChange}
+use Rattle.circ.specs.Log.Grows.{IsWholeChange}
 use Rattle.txn_law.specs.Tidy.{IsOfOne, AreTidy}
 use Rattle.txn_law.specs.Window.{Footprint, IsWindowOver}
 use Rattle.txn_law.specs.Lists.{IsHeldExactly, IsFetchedExactly, claimed}

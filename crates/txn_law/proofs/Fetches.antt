@@ -9,10 +9,10 @@ use Rattle.objects.specs.Present.{filled_in}
 use Rattle.disk.specs.Device.{Content}
 use Rattle.disk.specs.Crash.{Image}
 use Rattle.disk.specs.declared.block.BlockNo.{BlockNo}
-use Rattle.wal_law.specs.Calls.{home_after}
-use Rattle.wal_law.specs.Law.{with_changes}
-use Rattle.wal_law.specs.Log.{Log, newest}
-use Rattle.wal_law.specs.Overlay.{content_or}
+use Rattle.circ.specs.Log.Calls.{home_after}
+use Rattle.circ.specs.Log.Law.{with_changes}
+use Rattle.circ.specs.Log.Log.{Log, newest}
+use Rattle.circ.specs.Log.Overlay.{content_or}
 use Rattle.txn_law.specs.Core.{CoreState}
 use Rattle.objects.specs.declared.present.Present.{Present}
 use Rattle.txn_law.specs.CoreWindow.{with_resident, held_of, IsCoreWindow}

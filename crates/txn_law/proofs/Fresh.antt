@@ -6,10 +6,10 @@ use Rattle.std.proofs.lemmas.List.{drop_all, take_all, length-drop}
 use Rattle.std.proofs.lemmas.List.Elements.{All-nil, All-cons, All-head, All-tail, All-drop}
 use Rattle.disk.specs.Device.{Content}
 use Rattle.disk.specs.Crash.{Image}
-use Rattle.wal_law.specs.declared.change.LogChange.{LogChange}
-use Rattle.wal_law.specs.Grows.{recovered}
-use Rattle.wal_law.specs.Law.{with_changes}
-use Rattle.wal_law.specs.Log.{Log, IsLawful, IsRising, IsCommitted, first_place, place_before}
+use Rattle.circ.specs.declared.log.change.LogChange.{LogChange}
+use Rattle.circ.specs.Log.Grows.{recovered}
+use Rattle.circ.specs.Log.Law.{with_changes}
+use Rattle.circ.specs.Log.Log.{Log, IsLawful, IsRising, IsCommitted, first_place, place_before}
 use Rattle.txn_law.specs.CoreLaw.{IsFresh}
 use Rattle.txn_law.specs.Window.{Footprint, after_commits, opening, GroupEnd, at_first, at_installed, at_logged}
 use Rattle.txn_law.specs.Window.{at_taken, at_last, commits_among, AreInLog, ArePinned, IsCurrent, IsWindowOver}

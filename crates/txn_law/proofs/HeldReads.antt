@@ -6,7 +6,7 @@ use Rattle.disk.specs.Device.{Content}
 use Rattle.disk.specs.declared.block.BlockNo.{BlockNo}
 use Rattle.objects.specs.declared.addr.Addr.{Addr}
 use Rattle.objects.specs.declared.mode.Mode.{Mode}
-use Rattle.wal_law.specs.Log.{Log, installed_place}
+use Rattle.circ.specs.Log.Log.{Log, installed_place}
 use Rattle.txn_law.specs.Core.{CoreState, past, installed, ended}
 use Rattle.txn_law.specs.CoreWindow.{KeepsReads}
 use Rattle.txn_law.specs.Fetch.{Fetch}

@@ -13,21 +13,21 @@ use Rattle.disk.specs.declared.device.Failed.{Failed}
 use Rattle.disk.specs.declared.block.BlockNo.{BlockNo}
 use Rattle.disk.specs.declared.block.Side.{Side}
 use Rattle.disk.specs.declared.block.Side.TheVariants.{Home, Log as OnLog}
-use Rattle.limits.specs.declared.TheConstants.{LOG_HEADER_BLOCK, START_BLOCK}
-use Rattle.wal_law.specs.declared.change.LogChange.{LogChange}
-use Rattle.wal_law.specs.declared.calls.IoCall.{IoCall}
-use Rattle.wal_law.specs.declared.calls.IoCall.TheVariants.{Write, Barrier}
-use Rattle.wal_law.specs.Io.{Io, HasMade, HasMadeCall}
-use Rattle.wal_law.specs.Calls.{Pending, idle, out, was_made, AgreesBeside}
-use Rattle.wal_law.specs.Law.{IsOutside, with_changes}
-use Rattle.wal_law.specs.Log.{Log, IsLawful, IsHomeOn, newest, newest_of, or_else, log_end}
-use Rattle.wal_law.specs.Logger.{slot_block, IsNextLogCall, with_log_out, with_log_back}
-use Rattle.wal_law.specs.Installer.{IsNextInstCall, next_home, with_inst_out, with_inst_back, with_installed}
-use Rattle.wal_law.specs.Overlay.{content_or}
-use Rattle.wal_law.specs.Effects.{HasAppended, newest_in, brought_home}
-use Rattle.wal_law.proofs.Newest.{newest_of-append}
-use Rattle.wal_law.proofs.Steps.{Step, writes, settles, tells, ends, step_of, made_write, made_barrier}
-use Rattle.wal_law.proofs.Steps.{change_at}
+use Rattle.base.specs.declared.TheConstants.{LOG_HEADER_BLOCK, START_BLOCK}
+use Rattle.circ.specs.declared.log.change.LogChange.{LogChange}
+use Rattle.circ.specs.declared.log.calls.IoCall.{IoCall}
+use Rattle.circ.specs.declared.log.calls.IoCall.TheVariants.{Write, Barrier}
+use Rattle.circ.specs.Log.Io.{Io, HasMade, HasMadeCall}
+use Rattle.circ.specs.Log.Calls.{Pending, idle, out, was_made, AgreesBeside}
+use Rattle.circ.specs.Log.Law.{IsOutside, with_changes}
+use Rattle.circ.specs.Log.Log.{Log, IsLawful, IsHomeOn, newest, newest_of, or_else, log_end}
+use Rattle.circ.specs.Log.Logger.{slot_block, IsNextLogCall, with_log_out, with_log_back}
+use Rattle.circ.specs.Log.Installer.{IsNextInstCall, next_home, with_inst_out, with_inst_back, with_installed}
+use Rattle.circ.specs.Log.Overlay.{content_or}
+use Rattle.circ.specs.Log.Effects.{HasAppended, newest_in, brought_home}
+use Rattle.circ.proofs.LogLemmas.Newest.{newest_of-append}
+use Rattle.circ.proofs.LogLemmas.Steps.{Step, writes, settles, tells, ends, step_of, made_write, made_barrier}
+use Rattle.circ.proofs.LogLemmas.Steps.{change_at}
 use Rattle.txn_law.specs.Window.{Footprint}
 use Rattle.txn_law.specs.HomeRead.{IsStuck, IsReadable, HasContents}
 use Rattle.txn_law.specs.Window.{IsWindowOver, now_of}

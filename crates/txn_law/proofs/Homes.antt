@@ -5,17 +5,17 @@ use Rattle.std.proofs.Common.{refl, sym, ap, subst, ◌∙◌, ◌⊎◌, inl, i
 use Rattle.std.specs.Prelude.{Contains, nat_le}
 use Rattle.std.proofs.lemmas.Bool.{eqb-true, eq-eqb}
 use Rattle.std.proofs.lemmas.List.Elements.{All-head, All-tail, All-take, All-contains}
-use Rattle.limits.specs.declared.TheConstants.{BLOCK_BYTES}
+use Rattle.base.specs.declared.TheConstants.{BLOCK_BYTES}
 use Rattle.objects.specs.Present.{filled_in}
 use Rattle.disk.specs.Device.{Content, Device, current, newest as newest_content}
 use Rattle.disk.specs.Crash.{Image}
 use Rattle.disk.specs.declared.block.BlockNo.{BlockNo}
-use Rattle.wal_law.specs.declared.change.LogChange.{LogChange}
-use Rattle.wal_law.specs.Calls.{AgreesBeside, Pending, home_after}
-use Rattle.wal_law.specs.Grows.{GrowsBy}
-use Rattle.wal_law.specs.Law.{with_changes, with_home}
-use Rattle.wal_law.specs.Log.{Log, IsLawful, IsHomeOn, newest, newest_of, or_else, blocks_of as group_blocks}
-use Rattle.wal_law.specs.Overlay.{content_or}
+use Rattle.circ.specs.declared.log.change.LogChange.{LogChange}
+use Rattle.circ.specs.Log.Calls.{AgreesBeside, Pending, home_after}
+use Rattle.circ.specs.Log.Grows.{GrowsBy}
+use Rattle.circ.specs.Log.Law.{with_changes, with_home}
+use Rattle.circ.specs.Log.Log.{Log, IsLawful, IsHomeOn, newest, newest_of, or_else, blocks_of as group_blocks}
+use Rattle.circ.specs.Log.Overlay.{content_or}
 use Rattle.txn_law.specs.Commit.{Planned, IsOwn, IsCommitted, with_record, committed}
 use Rattle.txn_law.specs.Core.{CoreState}
 use Rattle.txn_law.specs.CoreWindow.{with_resident, held_of, IsCoreWindow, AreBlocks, IsHomeOf}
@@ -23,7 +23,7 @@ use Rattle.txn_law.specs.Fetched.{fetched}
 use Rattle.objects.specs.Present.{filled}
 use Rattle.txn_law.specs.Group.{is_among, blocks_of, IsLaid}
 use Rattle.objects.specs.Present.{present_of, is_pending}
-use Rattle.wal_law.specs.Grows.{IsWholeChange}
+use Rattle.circ.specs.Log.Grows.{IsWholeChange}
 use Rattle.txn_law.specs.HomeRead.{IsReadable, HasContents}
 use Rattle.txn_law.specs.Tidy.{IsUnlogged, IsPlaced, AreTidy}
 use Rattle.objects.specs.Present.{IsOnce}

@@ -8,21 +8,21 @@ use Rattle.std.proofs.lemmas.List.Elements.{All-drop}
 use Rattle.std.proofs.Math.Seq.{take-add}
 use Rattle.disk.specs.Device.{Content}
 use Rattle.disk.specs.Crash.{Image}
-use Rattle.wal_law.specs.declared.change.LogChange.{LogChange}
-use Rattle.wal_law.specs.Calls.{home_after}
-use Rattle.wal_law.specs.Law.{with_changes}
-use Rattle.wal_law.specs.Log.{Log, IsLawful, newest_of, or_else, place_before, installed_place}
-use Rattle.wal_law.specs.Installer.{next_home, with_installed, with_inst_back}
-use Rattle.wal_law.specs.Overlay.{content_or}
-use Rattle.wal_law.proofs.Newest.{newest_of-append}
-use Rattle.wal_law.proofs.Places.{place_before-drop-le, rising-drop}
-use Rattle.wal_law.specs.Grows.{recovered}
+use Rattle.circ.specs.declared.log.change.LogChange.{LogChange}
+use Rattle.circ.specs.Log.Calls.{home_after}
+use Rattle.circ.specs.Log.Law.{with_changes}
+use Rattle.circ.specs.Log.Log.{Log, IsLawful, newest_of, or_else, place_before, installed_place}
+use Rattle.circ.specs.Log.Installer.{next_home, with_installed, with_inst_back}
+use Rattle.circ.specs.Log.Overlay.{content_or}
+use Rattle.circ.proofs.LogLemmas.Newest.{newest_of-append}
+use Rattle.circ.proofs.LogLemmas.Places.{place_before-drop-le, rising-drop}
+use Rattle.circ.specs.Log.Grows.{recovered}
 use Rattle.txn_law.specs.Core.{past}
 use Rattle.txn_law.specs.Window.{Footprint, Follow, after_commits}
 use Rattle.txn_law.specs.Window.{opening, now_of, GroupEnd, at_first, at_installed, at_logged}
 use Rattle.txn_law.specs.Window.{at_taken, at_last, ArePlaced, commits_among, LeadsTo, AreInLog}
 use Rattle.txn_law.specs.Window.{ArePinned, IsCurrent, IsWindowOver}
-use Rattle.wal_law.proofs.Ends.{same_image, place_le}
+use Rattle.circ.proofs.LogLemmas.Ends.{same_image, place_le}
 use Rattle.txn_law.proofs.Commits.{after_commits-append, follow-drop, placed-drop, past-drop}
 use Rattle.txn_law.proofs.Moves.{window_stepped}
 

@@ -7,13 +7,13 @@ use Rattle.std.specs.List.{list_any}
 use Rattle.std.proofs.lemmas.Bool.{eqb-true, eqb-false, eq-eqb}
 use Rattle.std.proofs.lemmas.List.{drop_all, length-replicate}
 use Rattle.std.proofs.lemmas.List.Elements.{All-head, All-tail, All-nil, All-cons}
-use Rattle.limits.specs.declared.TheConstants.{BLOCK_BYTES}
+use Rattle.base.specs.declared.TheConstants.{BLOCK_BYTES}
 use Rattle.disk.specs.Device.{Content}
 use Rattle.disk.specs.Crash.{Image}
 use Rattle.disk.specs.declared.block.BlockNo.{BlockNo}
-use Rattle.wal_law.specs.Log.{Log, newest, or_else, blocks_of as group_blocks}
-use Rattle.wal_law.specs.Overlay.{content_or}
-use Rattle.wal_law.specs.Effects.{newest_in}
+use Rattle.circ.specs.Log.Log.{Log, newest, or_else, blocks_of as group_blocks}
+use Rattle.circ.specs.Log.Overlay.{content_or}
+use Rattle.circ.specs.Log.Effects.{newest_in}
 use Rattle.objects.specs.Spliced.{spliced}
 use Rattle.txn_law.specs.Group.{is_among, blocks_after, laid, base_in, IsLaid}
 use Rattle.objects.specs.Object.{ObjectBytes}

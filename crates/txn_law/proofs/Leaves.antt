@@ -7,7 +7,7 @@ use Rattle.disk.specs.declared.block.BlockNo.{BlockNo}
 use Rattle.objects.specs.declared.addr.Addr.{Addr}
 use Rattle.objects.specs.declared.mode.Mode.{Mode}
 use Rattle.objects.specs.declared.mode.Mode.TheVariants as modes
-use Rattle.wal_law.specs.Log.{Log, newest, or_else, installed_place}
+use Rattle.circ.specs.Log.Log.{Log, newest, or_else, installed_place}
 use Rattle.txn_law.specs.Commit.{Planned, with_record, refreshed_content, refreshed, committed}
 use Rattle.txn_law.specs.Core.{CoreState, ended, past, installed}
 use Rattle.txn_law.specs.Fetch.{Fetch}

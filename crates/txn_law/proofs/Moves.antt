@@ -7,24 +7,24 @@ use Rattle.std.proofs.lemmas.List.Elements.{All-nil}
 use Rattle.disk.specs.Device.{Content}
 use Rattle.disk.specs.Crash.{Image}
 use Rattle.disk.specs.declared.block.BlockNo.{BlockNo}
-use Rattle.wal_law.specs.declared.change.LogChange.{LogChange}
-use Rattle.wal_law.specs.Law.{with_changes, IsAfter, IsBoundary, IsOutside}
-use Rattle.wal_law.specs.Log.{Log, IsLawful, IsCommitted, newest, opened, changes_of, place_before}
-use Rattle.wal_law.specs.Log.{installed_place, settled_place}
-use Rattle.wal_law.specs.Logger.{group_size, with_log_out, with_log_back}
-use Rattle.wal_law.specs.Installer.{next_home, with_inst_out}
-use Rattle.wal_law.specs.Overlay.{content_or, over}
-use Rattle.wal_law.proofs.Lawful.{length-changes_of}
-use Rattle.wal_law.proofs.Newest.{place_before-all}
-use Rattle.wal_law.proofs.Places.{place_before-drop-le, rising-drop}
+use Rattle.circ.specs.declared.log.change.LogChange.{LogChange}
+use Rattle.circ.specs.Log.Law.{with_changes, IsAfter, IsBoundary, IsOutside}
+use Rattle.circ.specs.Log.Log.{Log, IsLawful, IsCommitted, newest, opened, changes_of, place_before}
+use Rattle.circ.specs.Log.Log.{installed_place, settled_place}
+use Rattle.circ.specs.Log.Logger.{group_size, with_log_out, with_log_back}
+use Rattle.circ.specs.Log.Installer.{next_home, with_inst_out}
+use Rattle.circ.specs.Log.Overlay.{content_or, over}
+use Rattle.circ.proofs.LogLemmas.Lawful.{length-changes_of}
+use Rattle.circ.proofs.LogLemmas.Newest.{place_before-all}
+use Rattle.circ.proofs.LogLemmas.Places.{place_before-drop-le, rising-drop}
 use Rattle.std.proofs.lemmas.List.{drop-drop}
 use Rattle.std.proofs.lemmas.List.Elements.{All-drop}
-use Rattle.wal_law.specs.Grows.{recovered}
+use Rattle.circ.specs.Log.Grows.{recovered}
 use Rattle.txn_law.specs.Window.{Footprint, after_commits}
 use Rattle.txn_law.specs.Window.{opening, now_of, GroupEnd, at_first, at_installed, at_logged}
 use Rattle.txn_law.specs.Window.{at_taken, at_last, commits_among, AreInLog, ArePinned, IsCurrent}
 use Rattle.txn_law.specs.Window.{IsWindowOver}
-use Rattle.wal_law.proofs.Ends.{recovered-committed, place_le}
+use Rattle.circ.proofs.LogLemmas.Ends.{recovered-committed, place_le}
 use Rattle.txn_law.proofs.Commit.{take_nil}
 
 -- the log with other ends of its groups

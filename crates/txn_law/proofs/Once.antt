@@ -2,8 +2,8 @@
 use Rattle.std.proofs.Common.{◌≡◌, Bool, true, false, if◌then◌else◌, List, [], ◌∷◌, ◌++◌, refl}
 use Rattle.disk.specs.declared.block.BlockNo.{BlockNo}
 use Rattle.objects.specs.Object.{ObjectBytes}
-use Rattle.wal_law.specs.Log.{AreOnce, is_among}
-use Rattle.wal_law.proofs.Once.{once-push}
+use Rattle.circ.specs.Log.Log.{AreOnce, is_among}
+use Rattle.circ.proofs.LogLemmas.Once.{once-push}
 use Rattle.txn_law.specs.Group.{blocks_after, blocks_of}
 
 once-after : (blocks : List BlockNo) (objects : List ObjectBytes) → AreOnce blocks

@@ -9,11 +9,11 @@ use Rattle.std.proofs.lemmas.Bool.{eqb-true, eq-eqb}
 use Rattle.std.proofs.lemmas.List.Elements.{All-head, All-tail, All-weaker, All-take, All-contains_itself}
 use Rattle.disk.specs.Device.{Content}
 use Rattle.disk.specs.Crash.{Image}
-use Rattle.wal_law.specs.declared.change.LogChange.{LogChange}
-use Rattle.wal_law.specs.Grows.{recovered}
-use Rattle.wal_law.specs.Law.{with_changes, with_home}
-use Rattle.wal_law.specs.Log.{Log, newest, newest_of, or_else}
-use Rattle.wal_law.specs.Overlay.{content_or}
+use Rattle.circ.specs.declared.log.change.LogChange.{LogChange}
+use Rattle.circ.specs.Log.Grows.{recovered}
+use Rattle.circ.specs.Log.Law.{with_changes, with_home}
+use Rattle.circ.specs.Log.Log.{Log, newest, newest_of, or_else}
+use Rattle.circ.specs.Log.Overlay.{content_or}
 use Rattle.objects.specs.Spliced.{spliced}
 use Rattle.objects.specs.Object.{ObjectBytes}
 use Rattle.txn_law.specs.Window.{Footprint, Follow, IsAsRead, part, with_object, with_objects, after_commits}

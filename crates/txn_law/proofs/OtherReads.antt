@@ -11,9 +11,9 @@ use Rattle.disk.specs.declared.block.BlockNo.{BlockNo}
 use Rattle.objects.specs.Addr.{Overlap}
 use Rattle.objects.specs.declared.addr.Addr.{Addr}
 use Rattle.objects.specs.declared.mode.Mode.TheVariants as modes
-use Rattle.wal_law.specs.Grows.{GrowsBy}
-use Rattle.wal_law.specs.Log.{Log, IsLawful, newest, blocks_of as group_blocks}
-use Rattle.wal_law.specs.Overlay.{content_or}
+use Rattle.circ.specs.Log.Grows.{GrowsBy}
+use Rattle.circ.specs.Log.Log.{Log, IsLawful, newest, blocks_of as group_blocks}
+use Rattle.circ.specs.Log.Overlay.{content_or}
 use Rattle.txn_law.specs.Commit.{Planned, IsOwn, with_record, refreshed_content, committed}
 use Rattle.txn_law.specs.Core.{CoreState}
 use Rattle.txn_law.specs.CoreWindow.{held_of, IsHomeOf, KeepsReads}

@@ -3,7 +3,7 @@ use Rattle.std.proofs.Common.{◌≡◌, Bool, true, false, cond, nat_eq, List, 
 use Rattle.disk.specs.declared.block.BlockNo.{BlockNo}
 use Rattle.objects.specs.Present.{present_of, IsOnce}
 use Rattle.objects.specs.declared.present.Present.{Present}
-use Rattle.wal_law.specs.Log.{Log}
+use Rattle.circ.specs.Log.Log.{Log}
 use Rattle.txn_law.specs.Commit.{refreshed_resident, refreshed}
 
 -- what is made of the entries of a block

@@ -8,9 +8,9 @@ use Rattle.std.proofs.lemmas.List.Elements.{All-nil, All-cons, All-head, All-tai
 use Rattle.disk.specs.Device.{Content}
 use Rattle.disk.specs.Crash.{Image}
 use Rattle.disk.specs.declared.block.BlockNo.{BlockNo}
-use Rattle.wal_law.specs.Calls.{home_after}
-use Rattle.wal_law.specs.Installer.{with_inst_back}
-use Rattle.wal_law.specs.Log.{Log, IsLawful, installed_place}
+use Rattle.circ.specs.Log.Calls.{home_after}
+use Rattle.circ.specs.Log.Installer.{with_inst_back}
+use Rattle.circ.specs.Log.Log.{Log, IsLawful, installed_place}
 use Rattle.txn_law.specs.Core.{CoreState, past, installed}
 use Rattle.txn_law.specs.Holds.{is_taken}
 use Rattle.objects.specs.Object.{ObjectBytes}

@@ -7,7 +7,7 @@ use Rattle.std.specs.List.{filter, list_any}
 use Rattle.std.proofs.lemmas.Bool.{eqb-true, eq-eqb}
 use Rattle.std.proofs.lemmas.List.Elements.{All-nil, All-cons, All-head, All-tail, All-push, All-weaker}
 use Rattle.std.proofs.lemmas.List.Elements.{All-contains, All-contains_itself, All-filter}
-use Rattle.limits.specs.declared.TheConstants.{BLOCK_BYTES}
+use Rattle.base.specs.declared.TheConstants.{BLOCK_BYTES}
 use Rattle.objects.specs.Present.{filled_in}
 use Rattle.disk.specs.Device.{Content}
 use Rattle.disk.specs.declared.block.BlockNo.{BlockNo}
@@ -16,7 +16,7 @@ use Rattle.objects.specs.Mode.{Excludes, raised}
 use Rattle.objects.specs.declared.addr.Addr.{Addr}
 use Rattle.objects.specs.declared.mode.Mode.{Mode}
 use Rattle.objects.specs.declared.mode.Mode.TheVariants as modes
-use Rattle.wal_law.specs.Log.{Log, IsHomeOn, newest, newest_of, installed_place}
+use Rattle.circ.specs.Log.Log.{Log, IsHomeOn, newest, newest_of, installed_place}
 use Rattle.txn_law.specs.Core.{CoreState, IsOut, without, ended, past, installed}
 use Rattle.txn_law.specs.Fetch.{Fetch}
 use Rattle.txn_law.specs.Fetched.{fetched, fetch_failed}
@@ -28,7 +28,7 @@ use Rattle.txn_law.specs.Records.{is_kept, is_left, swept}
 use Rattle.txn_law.specs.Tidy.{AreBeside, AreApart, IsReadHere, IsClaimedWhole, IsUnlogged, IsOfOne}
 use Rattle.objects.specs.Present.{IsOnce}
 use Rattle.txn_law.specs.Tidy.{IsPlaced}
-use Rattle.wal_law.specs.Grows.{IsWholeChange}
+use Rattle.circ.specs.Log.Grows.{IsWholeChange}
 use Rattle.txn_law.specs.Tidy.{AreTidy}
 use Rattle.txn_law.specs.Window.{Footprint}
 use Rattle.txn_law.specs.Lists.{IsHeldExactly, IsFetchedExactly, claimed}

@@ -9,10 +9,10 @@ use Rattle.std.proofs.lemmas.List.Elements.{All-nil, All-cons, All-head, All-tai
 use Rattle.std.proofs.lemmas.List.Elements.{All-map}
 use Rattle.disk.specs.Device.{Content}
 use Rattle.disk.specs.declared.block.BlockNo.{BlockNo}
-use Rattle.wal_law.specs.Effects.{newest_in}
-use Rattle.wal_law.specs.Grows.{GrowsBy}
-use Rattle.wal_law.specs.Log.{Log, IsHomeOn, newest, or_else, blocks_of as group_blocks}
-use Rattle.wal_law.specs.Overlay.{content_or}
+use Rattle.circ.specs.Log.Effects.{newest_in}
+use Rattle.circ.specs.Log.Grows.{GrowsBy}
+use Rattle.circ.specs.Log.Log.{Log, IsHomeOn, newest, or_else, blocks_of as group_blocks}
+use Rattle.circ.specs.Log.Overlay.{content_or}
 use Rattle.txn_law.specs.Commit.{Planned, IsWrittenBy, IsOwn, with_record, refreshed_content, refreshed_resident}
 use Rattle.txn_law.specs.Commit.{refreshed}
 use Rattle.txn_law.specs.Commit.{committed}
@@ -22,7 +22,7 @@ use Rattle.txn_law.specs.Holds.{released}
 use Rattle.objects.specs.Object.{ObjectBytes}
 use Rattle.objects.specs.Present.{present_of, content_in, is_pending}
 use Rattle.txn_law.specs.Records.{lies_in, is_left}
-use Rattle.wal_law.specs.Grows.{IsWholeChange}
+use Rattle.circ.specs.Log.Grows.{IsWholeChange}
 use Rattle.txn_law.specs.Tidy.{IsReadHere, IsClaimedWhole, IsUnlogged, IsPlaced, AreTidy}
 use Rattle.objects.specs.Present.{IsOnce}
 use Rattle.objects.specs.declared.present.Present.{Present}

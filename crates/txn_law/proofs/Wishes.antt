@@ -9,8 +9,8 @@ use Rattle.disk.specs.Crash.{Image}
 use Rattle.disk.specs.declared.block.BlockNo.{BlockNo}
 use Rattle.objects.specs.declared.addr.Addr.{Addr}
 use Rattle.objects.specs.declared.mode.Mode.{Mode}
-use Rattle.wal_law.specs.Log.{newest, or_else}
-use Rattle.wal_law.specs.Overlay.{content_or}
+use Rattle.circ.specs.Log.Log.{newest, or_else}
+use Rattle.circ.specs.Log.Overlay.{content_or}
 use Rattle.txn_law.specs.Lists.{IsHeldExactly, IsFetchedExactly, claimed}
 use Rattle.objects.specs.Present.{with_block}
 use Rattle.txn_law.specs.Wishes.{current}

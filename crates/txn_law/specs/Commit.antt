@@ -1,14 +1,14 @@
 -- What a commit of the core needs, and what it leaves.
 use Rattle.std.specs.Prelude.{◌≡◌, ℕ, Bool, true, false, if◌then◌else◌, Option, Some, None, List, [], ◌∷◌, ◌++◌}
 use Rattle.std.specs.Prelude.{length, map, nat_lt, All}
-use Rattle.limits.specs.declared.TheConstants.{BLOCK_BYTES}
+use Rattle.base.specs.declared.TheConstants.{BLOCK_BYTES}
 use Rattle.disk.specs.Device.{Content}
 use Rattle.disk.specs.Crash.{Image}
 use Rattle.disk.specs.declared.block.BlockNo.{BlockNo}
 use Rattle.objects.specs.declared.addr.Addr.{Addr}
-use Rattle.wal_law.specs.Grows.{GrowsBy}
-use Rattle.wal_law.specs.Log.{Log, IsHomeOn, newest, installed_place, blocks_of as group_blocks}
-use Rattle.wal_law.specs.Overlay.{content_or}
+use Rattle.circ.specs.Log.Grows.{GrowsBy}
+use Rattle.circ.specs.Log.Log.{Log, IsHomeOn, newest, installed_place, blocks_of as group_blocks}
+use Rattle.circ.specs.Log.Overlay.{content_or}
 use Rattle.txn_law.specs.Core.{CoreState, IsOut, ended}
 use Rattle.txn_law.specs.Group.{blocks_of, IsLaid}
 use Rattle.txn_law.specs.Holds.{released, hold_of, is_read, is_written}

@@ -1,9 +1,9 @@
 -- What a contract sees of the core. Its lists have no promised order, but that of the commits.
 use Rattle.std.specs.Prelude.{◌≡◌, ℕ, ◌+◌, Bool, not, true, List, ◌∷◌, nat_eq, nat_lt}
 use Rattle.std.specs.List.{filter, list_any}
-use Rattle.wal_law.specs.Installer.{with_inst_out}
-use Rattle.wal_law.specs.Log.{Log, installed_place}
-use Rattle.wal_law.specs.Logger.{with_log_out}
+use Rattle.circ.specs.Log.Installer.{with_inst_out}
+use Rattle.circ.specs.Log.Log.{Log, installed_place}
+use Rattle.circ.specs.Log.Logger.{with_log_out}
 use Rattle.txn_law.specs.Holds.{released}
 use Rattle.txn_law.specs.Records.{swept}
 use Rattle.txn_law.specs.Window.{Footprint}

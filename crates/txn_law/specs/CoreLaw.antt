@@ -1,7 +1,7 @@
 -- What is true of every core.
 use Rattle.std.specs.Prelude.{◌≡◌, ℕ, ◌<◌, List, All}
 use Rattle.disk.specs.Crash.{Image}
-use Rattle.wal_law.specs.Log.{Log, IsLawful}
+use Rattle.circ.specs.Log.Log.{Log, IsLawful}
 use Rattle.txn_law.specs.Core.{CoreState}
 use Rattle.txn_law.specs.CoreWindow.{IsHomeOf}
 use Rattle.objects.specs.Object.{ObjectBytes}

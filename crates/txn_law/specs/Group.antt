@@ -1,13 +1,13 @@
 -- The blocks that objects lie in.
 use Rattle.std.specs.Prelude.{◌≡◌, if◌then◌else◌, Option, Some, None, List, [], ◌∷◌, ◌++◌}
 use Rattle.std.specs.Prelude.{nat_eq, replicate}
-use Rattle.limits.specs.declared.TheConstants.{BLOCK_BYTES}
+use Rattle.base.specs.declared.TheConstants.{BLOCK_BYTES}
 use Rattle.disk.specs.Device.{Content}
 use Rattle.objects.specs.Spliced.{spliced}
 use Rattle.disk.specs.declared.block.BlockNo.{BlockNo}
-use Rattle.wal_law.specs.Log.{Log, newest}
+use Rattle.circ.specs.Log.Log.{Log, newest}
 -- for the crates above
-pub use Rattle.wal_law.specs.Log.{is_among}
+pub use Rattle.circ.specs.Log.Log.{is_among}
 use Rattle.objects.specs.Object.{ObjectBytes}
 use Rattle.objects.specs.Present.{present_of, content_in}
 use Rattle.objects.specs.declared.present.Present.{Present}

@@ -1,9 +1,9 @@
 -- What a read of a block that the log doesn't have brings, also beside a log that is broken.
 use Rattle.std.specs.Prelude.{◌≡◌, ℕ, ◌<◌, true, length, None, Ok, Err}
 use Rattle.disk.specs.Device.{Device, current}
-use Rattle.wal_law.specs.Calls.{Pending, idle, out, was_made}
-use Rattle.wal_law.specs.Law.{IsOutside}
-use Rattle.wal_law.specs.Log.{Log, newest}
+use Rattle.circ.specs.Log.Calls.{Pending, idle, out, was_made}
+use Rattle.circ.specs.Log.Law.{IsOutside}
+use Rattle.circ.specs.Log.Log.{Log, newest}
 
 -- the installer makes no more calls: its call has failed, and where it was given back the log is broken
 abbrev pub IsStuck : Log → Pending → Type 0

@@ -5,13 +5,13 @@ use Rattle.std.specs.List.{AllByRecursion}
 use Rattle.disk.specs.Device.{Content}
 use Rattle.disk.specs.Crash.{Image}
 use Rattle.disk.specs.declared.block.BlockNo.{BlockNo}
-use Rattle.limits.specs.declared.TheConstants.{BLOCK_BYTES}
-use Rattle.wal_law.specs.Log.{Log, installed_place, newest}
+use Rattle.base.specs.declared.TheConstants.{BLOCK_BYTES}
+use Rattle.circ.specs.Log.Log.{Log, installed_place, newest}
 -- for the crates above
-pub use Rattle.wal_law.specs.Grows.{StandsStill}
-use Rattle.wal_law.specs.Log.{blocks_of as group_blocks}
-use Rattle.wal_law.specs.Overlay.{content_or}
-use Rattle.wal_law.specs.Effects.{newest_in}
+pub use Rattle.circ.specs.Log.Grows.{StandsStill}
+use Rattle.circ.specs.Log.Log.{blocks_of as group_blocks}
+use Rattle.circ.specs.Log.Overlay.{content_or}
+use Rattle.circ.specs.Log.Effects.{newest_in}
 use Rattle.txn_law.specs.Group.{blocks_of, base_in, IsLaid}
 use Rattle.objects.specs.Object.{ObjectBytes}
 use Rattle.objects.specs.Present.{present_of, content_in}

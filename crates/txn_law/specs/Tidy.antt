@@ -1,10 +1,10 @@
 -- What transactions have taken and what is in memory agree with one another and with the log.
 use Rattle.std.specs.Prelude.{◌≡◌, ℕ, true, Some, None, List, [], ◌∷◌, All}
-use Rattle.limits.specs.declared.TheConstants.{BLOCK_BYTES}
+use Rattle.base.specs.declared.TheConstants.{BLOCK_BYTES}
 use Rattle.disk.specs.Device.{Content}
 use Rattle.objects.specs.Addr.{Overlap}
-use Rattle.wal_law.specs.Grows.{IsWholeChange}
-use Rattle.wal_law.specs.Log.{Log, IsHomeOn, newest}
+use Rattle.circ.specs.Log.Grows.{IsWholeChange}
+use Rattle.circ.specs.Log.Log.{Log, IsHomeOn, newest}
 use Rattle.txn_law.specs.Core.{CoreState, IsOut}
 use Rattle.txn_law.specs.Holds.{KeepsOff}
 use Rattle.objects.specs.Present.{present_of, content_in, IsOnce}

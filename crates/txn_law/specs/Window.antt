@@ -7,10 +7,10 @@ use Rattle.disk.specs.Device.{Content}
 use Rattle.disk.specs.Crash.{Image}
 use Rattle.objects.specs.declared.addr.Addr.{Addr}
 use Rattle.objects.specs.Spliced.{spliced}
-use Rattle.wal_law.specs.declared.change.LogChange.{LogChange}
-use Rattle.wal_law.specs.Grows.{recovered}
-use Rattle.wal_law.specs.Law.{with_changes}
-use Rattle.wal_law.specs.Log.{Log, installed_place, newest_of, place_before}
+use Rattle.circ.specs.declared.log.change.LogChange.{LogChange}
+use Rattle.circ.specs.Log.Grows.{recovered}
+use Rattle.circ.specs.Log.Law.{with_changes}
+use Rattle.circ.specs.Log.Log.{Log, installed_place, newest_of, place_before}
 use Rattle.objects.specs.Object.{ObjectBytes}
 
 -- what a commit read, and what it wrote

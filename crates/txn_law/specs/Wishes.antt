@@ -1,11 +1,11 @@
 -- What the core answers to a wish, and what it leaves then.
 use Rattle.std.specs.Prelude.{◌≡◌, ℕ, true, false, Option, Some, None, List}
-use Rattle.limits.specs.declared.TheConstants.{BLOCK_BYTES}
+use Rattle.base.specs.declared.TheConstants.{BLOCK_BYTES}
 use Rattle.disk.specs.Device.{Content}
 use Rattle.disk.specs.declared.block.BlockNo.{BlockNo}
 use Rattle.objects.specs.declared.addr.Addr.{Addr}
 use Rattle.objects.specs.declared.mode.Mode.{Mode}
-use Rattle.wal_law.specs.Log.{IsHomeOn, newest, or_else}
+use Rattle.circ.specs.Log.Log.{IsHomeOn, newest, or_else}
 use Rattle.txn_law.specs.Commit.{IsReadBy, IsWrittenBy}
 use Rattle.txn_law.specs.Core.{CoreState, IsOut}
 use Rattle.txn_law.specs.Fetch.{Fetch}

@@ -1,7 +1,7 @@
 //! Laws of the window of commits that aren't installed.
 ghost use Rattle.std.specs.Prelude.{◌≡◌, ◌≢◌, ◌+◌, ℕ, List, [], ◌∷◌, length, Contains};
 ghost use Rattle.objects.specs.declared.addr.Addr.{Addr};
-ghost use Rattle.wal_law.specs.Log.{Log, installed_place};
+ghost use Rattle.circ.specs.Log.Log.{Log, installed_place};
 ghost use Rattle.disk.specs.Device.{Content};
 ghost use Rattle.objects.specs.Object.{ObjectBytes};
 ghost use Rattle.txn_law.specs.Window.{Footprint, IsLegalWindow};

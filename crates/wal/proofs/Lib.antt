@@ -1,2 +1,3 @@
 mod Sides
 mod Stages
+mod ChangesLemmas

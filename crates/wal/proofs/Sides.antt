@@ -4,11 +4,11 @@ use Rattle.disk.specs.Device.{Device}
 use Rattle.disk.specs.declared.block.Side.{Side}
 use Rattle.disk.specs.declared.block.Side.TheVariants.{Log as LogSide, Home}
 use Rattle.disk.specs.declared.device.Failed.{Failed}
-use Rattle.wal_law.specs.Effects.{HasGoneOn}
-use Rattle.wal_law.specs.Io.{HasMade, Io}
-use Rattle.wal_law.specs.Log.{IsLawful, Log}
-use Rattle.wal_law.proofs.Beside.{inst_done, inst_goes_out, log_done, log_goes_out, stands_inst_made, stands_log_made}
-use Rattle.wal_law.proofs.Effects.{seen_inst_done, seen_inst_out, seen_log_done, seen_log_out}
+use Rattle.circ.specs.Log.Effects.{HasGoneOn}
+use Rattle.circ.specs.Log.Io.{HasMade, Io}
+use Rattle.circ.specs.Log.Log.{IsLawful, Log}
+use Rattle.circ.proofs.LogLemmas.Beside.{inst_done, inst_goes_out, log_done, log_goes_out, stands_inst_made, stands_log_made}
+use Rattle.circ.proofs.LogLemmas.Effects.{seen_inst_done, seen_inst_out, seen_log_done, seen_log_out}
 use Rattle.wal.specs.Sides.{IsNextCall, call_comes_back, call_goes_out, call_is_made, is_out, with_back, with_out}
 
 pub seen_out : (side : Side) (log : Log) → HasGoneOn log (with_out side log)

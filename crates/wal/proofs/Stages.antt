@@ -3,10 +3,10 @@ use Rattle.std.proofs.Common.{◌≡◌, ◌≤◌, ◌<◌, ◌+◌, ◌∙◌,
 use Rattle.disk.specs.declared.block.BlockNo.{BlockNo}
 use Rattle.disk.specs.declared.block.Side.{Side}
 use Rattle.disk.specs.declared.block.Side.TheVariants.{Log as LogSide, Home}
-use Rattle.wal_law.specs.Io.{Io}
-use Rattle.wal_law.specs.Log.{IsLawful, Log}
-use Rattle.wal_law.specs.declared.calls.IoCall.TheVariants.{Barrier, Write}
-use Rattle.wal_law.proofs.Lawful.{lawful_group_settled}
+use Rattle.circ.specs.Log.Io.{Io}
+use Rattle.circ.specs.Log.Log.{IsLawful, Log}
+use Rattle.circ.specs.declared.log.calls.IoCall.TheVariants.{Barrier, Write}
+use Rattle.circ.proofs.LogLemmas.Lawful.{lawful_group_settled}
 use Rattle.wal.specs.Batch.{IsStageOf, batch_of, step_at}
 use Rattle.wal.specs.BySide.{IsBody, IsTelling, ahead_of, step_of, taken_by}
 use Rattle.wal.specs.Sides.{IsNextCall}

@@ -1,15 +1,15 @@
 -- In what logger and installer differ: what each takes, where its blocks go, and what tells of them.
 use Rattle.std.specs.Prelude.{◌≡◌, ℕ, ◌+◌, ◌-◌, Bool, false, ◌||◌, if◌then◌else◌, nat_le, nat_lt, length, take}
 use Rattle.std.specs.Prelude.{slice_get, Some}
-use Rattle.limits.specs.declared.TheConstants.{LOG_HEADER_BLOCK, LOG_SLOTS, START_BLOCK}
+use Rattle.base.specs.declared.TheConstants.{LOG_HEADER_BLOCK, LOG_SLOTS, START_BLOCK}
 use Rattle.disk.specs.Device.{Content}
 use Rattle.disk.specs.declared.block.BlockNo.{BlockNo}
 use Rattle.disk.specs.declared.block.Side.{Side}
 use Rattle.disk.specs.declared.block.Side.TheVariants.{Log as LogSide, Home}
-use Rattle.wal_law.specs.declared.change.LogChange.{LogChange}
-use Rattle.wal_law.specs.Installer.{next_home, start_content, with_installed}
-use Rattle.wal_law.specs.Log.{Log, log_end}
-use Rattle.wal_law.specs.Logger.{IsHeader, has_group, slot_block}
+use Rattle.circ.specs.declared.log.change.LogChange.{LogChange}
+use Rattle.circ.specs.Log.Installer.{next_home, start_content, with_installed}
+use Rattle.circ.specs.Log.Log.{Log, log_end}
+use Rattle.circ.specs.Log.Logger.{IsHeader, has_group, slot_block}
 
 -- ---- what a side has
 

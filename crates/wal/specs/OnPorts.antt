@@ -1,9 +1,9 @@
 -- What a port is asked for by a call of the log.
 use Rattle.disk.specs.Device.{Content}
 use Rattle.disk.specs.Overlap.{DeviceCall, settles, writes}
-use Rattle.wal_law.specs.Io.{Io}
-use Rattle.wal_law.specs.declared.calls.IoCall.{IoCall}
-use Rattle.wal_law.specs.declared.calls.IoCall.TheVariants.{Write, Barrier}
+use Rattle.circ.specs.Log.Io.{Io}
+use Rattle.circ.specs.declared.log.calls.IoCall.{IoCall}
+use Rattle.circ.specs.declared.log.calls.IoCall.TheVariants.{Write, Barrier}
 
 -- the call with what a write writes
 abbrev pub call_with : IoCall → Content → DeviceCall

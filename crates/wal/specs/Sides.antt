@@ -1,16 +1,16 @@
 -- Logger and installer as one machine, by the side of the disk that each works on: the logger on the log's side, the
--- installer on the home side. The agreements of the two stand in `wal_law`.
+-- installer on the home side. The agreements of the two stand in `circ`.
 use Rattle.std.specs.Prelude.{Bool, Result}
 use Rattle.disk.specs.Device.{Device}
 use Rattle.disk.specs.declared.block.Side.{Side}
 use Rattle.disk.specs.declared.block.Side.TheVariants.{Log as LogSide, Home}
 use Rattle.disk.specs.declared.device.Failed.{Failed}
-use Rattle.wal_law.specs.Calls.{InstCallComesBack, InstCallGoesOut, InstCallIsMade, LogCallComesBack, LogCallGoesOut}
-use Rattle.wal_law.specs.Calls.{LogCallIsMade}
-use Rattle.wal_law.specs.Installer.{IsNextInstCall, is_inst_out, may_install, with_inst_back, with_inst_out}
-use Rattle.wal_law.specs.Io.{Io}
-use Rattle.wal_law.specs.Log.{Log}
-use Rattle.wal_law.specs.Logger.{IsNextLogCall, is_log_out, may_log, with_log_back, with_log_out}
+use Rattle.circ.specs.Log.Calls.{InstCallComesBack, InstCallGoesOut, InstCallIsMade, LogCallComesBack, LogCallGoesOut}
+use Rattle.circ.specs.Log.Calls.{LogCallIsMade}
+use Rattle.circ.specs.Log.Installer.{IsNextInstCall, is_inst_out, may_install, with_inst_back, with_inst_out}
+use Rattle.circ.specs.Log.Io.{Io}
+use Rattle.circ.specs.Log.Log.{Log}
+use Rattle.circ.specs.Log.Logger.{IsNextLogCall, is_log_out, may_log, with_log_back, with_log_out}
 
 -- the side has a call to hand out
 abbrev pub may_call : Side → Log → Bool

@@ -2,7 +2,7 @@
 use Rattle.std.specs.Prelude.{is_none}
 use Rattle.wal.specs.Batch.{IsStageOf, step_at}
 use Rattle.wal.specs.declared.memory.Wal.TheInside.{Inside}
-use Rattle.wal_law.specs.Log.{Log, IsLawful}
+use Rattle.circ.specs.Log.Log.{Log, IsLawful}
 
 abbrev pub log_of : Inside → Log
 log_of w =

@@ -3,11 +3,11 @@ ghost use Rattle.std.specs.Prelude.{◌≡◌};
 ghost use Rattle.disk.specs.Device.{CountsFailure};
 ghost use Rattle.disk.specs.declared.block.Side.{Side};
 ghost use Rattle.wal.specs.Sides.{call_is_made};
-ghost use Rattle.wal_law.specs.Io.{Io, IsCallWithin, HasMade, HasMadeCall};
+ghost use Rattle.circ.specs.Log.Io.{Io, IsCallWithin, HasMade, HasMadeCall};
 
+use circ::IoCall;
 use disk::{Block, CrashDisk, Failed, Handed};
 use std::marker::Model;
-use wal_law::IoCall;
 
 /// A device call of the logger or of the installer. It must be made and given back to the log that handed it out, as
 /// a call of the side that it was handed out to.
@@ -25,7 +25,7 @@ pub type LogIo = SideIo;
 pub type InstIo = SideIo;
 
 impl Model for SideIo {
-    ghost use Rattle.wal_law.specs.Io.{Io};
+    ghost use Rattle.circ.specs.Log.Io.{Io};
 
     ghost Value = { Io };
 

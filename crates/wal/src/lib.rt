@@ -3,10 +3,12 @@
 //! is told what came of it.
 #![tactic(auto)]
 
+mod changes;
 mod io;
 mod memory;
 mod port_io;
 
+pub use changes::Changes;
+pub use circ::{Append, IoCall, LogChange, Room, Seq, law};
 pub use io::{InstIo, LogIo, SideIo};
 pub use memory::Wal;
-pub use wal_law::{Append, IoCall, LogChange, Room, Seq, law};

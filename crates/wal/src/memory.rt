@@ -1,10 +1,10 @@
 //! The memory log.
 ghost use Rattle.std.specs.Prelude.{◌≡◌, ◌≤◌, ◌<◌, ◌^◌, ◌+◌, length, IfOk, MatchOption, Some, None, All, map};
-ghost use Rattle.limits.specs.declared.TheConstants.{LOG_SLOTS, FIRST_HOME_BLOCK};
-ghost use Rattle.wal_law.specs.Log.{newest, settled_place, installed_place, tail_count, opened, IsHomeOn};
-ghost use Rattle.wal_law.specs.Log.{added_blocks, blocks_of, IsLawful};
-ghost use Rattle.wal_law.specs.Grows.{IsWholeChange};
-ghost use Rattle.wal_law.specs.Room.{IsRoom};
+ghost use Rattle.base.specs.declared.TheConstants.{LOG_SLOTS, FIRST_HOME_BLOCK};
+ghost use Rattle.circ.specs.Log.Log.{newest, settled_place, installed_place, tail_count, opened, IsHomeOn};
+ghost use Rattle.circ.specs.Log.Log.{added_blocks, blocks_of, IsLawful};
+ghost use Rattle.circ.specs.Log.Grows.{IsWholeChange};
+ghost use Rattle.circ.specs.Log.Room.{IsRoom};
 
 mod append;
 mod batch;
@@ -13,12 +13,12 @@ mod calls;
 mod header;
 mod search;
 
+use crate::changes::Changes;
 use crate::{Room, Seq};
+use base::LOG_SLOTS;
 use batch::{Batch, Batches};
 use circ::Recovered;
 use disk::{Block, BlockNo, SharedBlock};
-use limits::LOG_SLOTS;
-use log_changes::Changes;
 use std::alloc::{AllocError, Global};
 use std::marker::Model;
 
@@ -33,7 +33,7 @@ pub struct Wal {
 }
 
 impl Model for Wal {
-    ghost use Rattle.wal_law.specs.Log.{Log};
+    ghost use Rattle.circ.specs.Log.Log.{Log};
 
     ghost Value = { Log };
 

@@ -1,11 +1,11 @@
 //! Writes of blocks that follow each other, to be made by one call of a file.
 ghost use Rattle.std.specs.Prelude.{◌≡◌, ◌≤◌, ◌+◌, [], ◌++◌, IfOk, IsTrue, length, vec_capacity};
-ghost use Rattle.limits.specs.declared.TheConstants.{BLOCK_BYTES};
+ghost use Rattle.base.specs.declared.TheConstants.{BLOCK_BYTES};
 ghost use Rattle.disk.specs.declared.file.extent.TheConstants.{EXTENT_BYTES};
 
 use super::BlockFile;
 use crate::{Block, Failed};
-use limits::BLOCK_BYTES;
+use base::BLOCK_BYTES;
 use std::alloc::{AllocError, Global};
 
 // The most bytes that one call writes: 128 blocks.

@@ -1,7 +1,7 @@
 //! A file that several threads share: a port for each side, and sources for those that read.
 ghost use Rattle.std.specs.Prelude.{◌≡◌, ◌*◌, [], ◌∷◌, ◌++◌, false, is_err, IfOk, OnOk};
 ghost use Rattle.std.specs.Arc.{arc_value};
-ghost use Rattle.limits.specs.declared.TheConstants.{BLOCK_BYTES};
+ghost use Rattle.base.specs.declared.TheConstants.{BLOCK_BYTES};
 ghost use Rattle.disk.specs.Extent.{EndWith};
 ghost use Rattle.disk.specs.Ports.{LiesOn, answered};
 ghost use Rattle.disk.specs.declared.block.Side.TheVariants.{Home};

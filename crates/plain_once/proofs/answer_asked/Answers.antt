@@ -1,5 +1,5 @@
 use Rattle.std.proofs.Common.{ap, subst}
-use Rattle.plain_session.specs.Serving.{IsNew, Session, session_of}
+use Rattle.plain_once.specs.Session.Serving.{IsNew, Session, session_of}
 use Rattle.plain_once.specs.Attending.{IsDone}
 use Rattle.plain_once.proofs.answer_asked.Goals as goal
 

@@ -1,6 +1,6 @@
 -- what was read so far is attended
 use Rattle.std.proofs.Common.{◌≡◌, false}
-use Rattle.plain_session.specs.Serving.{session_of}
+use Rattle.plain_once.specs.Session.Serving.{session_of}
 use Rattle.plain_once.specs.Attending.{IsAttended}
 use Rattle.plain_once.proofs.answer_input.Given as goal
 

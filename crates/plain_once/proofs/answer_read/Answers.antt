@@ -1,4 +1,4 @@
-use Rattle.plain_session.specs.Serving.{session_of}
+use Rattle.plain_once.specs.Session.Serving.{session_of}
 use Rattle.plain_once.proofs.Attended.{fed}
 use Rattle.plain_once.proofs.answer_read.Goals as goal
 

@@ -1,7 +1,7 @@
 //! What is asked of the files of a tree in memory.
 ghost use Rattle.std.specs.Prelude.{◌≡◌, IfOk};
-ghost use Rattle.plain_server.specs.Plain.{tree_of};
-ghost use Rattle.procedures.specs.FsStat.{unused_numbers};
+ghost use Rattle.plain_tree.specs.Tree.Plain.{tree_of};
+ghost use Rattle.nfs_spec.specs.Procedures.FsStat.{unused_numbers};
 
 use crate::tree_files::PlainFiles;
 use crate::tree_files::contents::{bytes_of, entry_at, piece};
@@ -9,9 +9,9 @@ use crate::tree_files::heads::head_of;
 use crate::tree_files::listing::next_name;
 use crate::tree_files::nodes::file_at;
 use crate::tree_files::space::{count_of, free_blocks};
-use files::{Entry, Files, Head, SlotName};
 use nfs_types::{Octets, Pieces};
-use plain_server::{PlainBody, PlainTree};
+use plain_tree::{PlainBody, PlainTree};
+use procs_files::{Entry, Files, Head, SlotName};
 use std::alloc::{AllocError, Global};
 
 // How many numbers no file has.
@@ -23,7 +23,7 @@ fn unused_numbers(tree: &PlainTree) -> u32
 }
 
 impl Files for PlainFiles {
-    ghost use Rattle.plain_server.specs.Plain.{tree_of};
+    ghost use Rattle.plain_tree.specs.Tree.Plain.{tree_of};
     ghost use Rattle.std.specs.Prelude.{◌≡◌};
 
     type Stop = AllocError;

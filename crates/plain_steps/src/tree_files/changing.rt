@@ -1,13 +1,13 @@
 //! What is done to the files of a tree in memory.
 ghost use Rattle.std.specs.Prelude.{◌≡◌, ◌-◌, ◌+◌, ◌<◌, ◌≤◌, ℕ, List, length, IfOk, OnOk};
-ghost use Rattle.limits.specs.declared.TheConstants.{LARGEST_FILE};
-ghost use Rattle.model.specs.Cost.{cost};
-ghost use Rattle.procedures.specs.Write.{with_text};
+ghost use Rattle.base.specs.declared.TheConstants.{LARGEST_FILE};
+ghost use Rattle.nfs_spec.specs.Model.Cost.{cost};
+ghost use Rattle.nfs_spec.specs.Procedures.Write.{with_text};
 ghost use Rattle.std.specs.Option.{option_map};
-ghost use Rattle.model.specs.Node.{Node};
-ghost use Rattle.model.specs.Tree.{node_at, with_node};
-ghost use Rattle.plain_server.specs.Plain.{body_of, tree_of};
-ghost use Rattle.files.specs.Heads.{node_of};
+ghost use Rattle.nfs_spec.specs.Model.Node.{Node};
+ghost use Rattle.nfs_spec.specs.Model.Tree.{node_at, with_node};
+ghost use Rattle.plain_tree.specs.Tree.Plain.{body_of, tree_of};
+ghost use Rattle.procs_files.specs.Heads.{node_of};
 
 use crate::tree_files::PlainFiles;
 use crate::tree_files::contents::{add_entry, has_names, remove_entry};
@@ -16,9 +16,9 @@ use crate::tree_files::nodes::{file_at, with_node, without_node};
 use crate::tree_files::numbers::least_unused;
 use crate::tree_files::slots::least_free_slot;
 use crate::tree_files::writing::{overwritten, with_touched};
-use files::{ChangingFiles, Entry, Head};
 use nfs_types::Octets;
-use plain_server::{PlainBody, set_length};
+use plain_tree::{PlainBody, set_length};
+use procs_files::{ChangingFiles, Entry, Head};
 use std::alloc::{AllocError, Global};
 
 // What so many bytes that are written add to the blocks that a file uses.

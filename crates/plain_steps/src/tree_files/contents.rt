@@ -1,16 +1,16 @@
 //! What is in a file, and names that come and go.
 ghost use Rattle.std.specs.Prelude.{◌≡◌, IfSome, IfNone, Some, None, ◌+◌, ◌<◌, OnOk};
-ghost use Rattle.procedures.specs.Places.{entry_at};
-ghost use Rattle.procedures.specs.RmDir.{has_names};
-ghost use Rattle.plain_server.specs.Named.{place_of};
-ghost use Rattle.plain_server.specs.Plain.{body_of};
-ghost use Rattle.model.specs.Names.{parent_of};
-ghost use Rattle.procedures.specs.Read.{bytes_of, piece};
-ghost use Rattle.procedures.specs.Changes.{with_entry, without_entry};
+ghost use Rattle.nfs_spec.specs.Procedures.Places.{entry_at};
+ghost use Rattle.nfs_spec.specs.Procedures.RmDir.{has_names};
+ghost use Rattle.plain_tree.specs.Tree.Named.{place_of};
+ghost use Rattle.plain_tree.specs.Tree.Plain.{body_of};
+ghost use Rattle.nfs_spec.specs.Model.Names.{parent_of};
+ghost use Rattle.nfs_spec.specs.Procedures.Read.{bytes_of, piece};
+ghost use Rattle.nfs_spec.specs.Procedures.Changes.{with_entry, without_entry};
 
-use limits::{SLOTS_PER_BLOCK, TRANSFER_BYTES};
+use base::{SLOTS_PER_BLOCK, TRANSFER_BYTES};
 use nfs_types::Octets;
-use plain_server::{PlainBody, PlainEntry};
+use plain_tree::{PlainBody, PlainEntry};
 use std::alloc::AllocError;
 
 /// What a name in a directory leads to.

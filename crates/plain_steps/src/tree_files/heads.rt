@@ -1,17 +1,17 @@
 //! What is known of a file without what is in it.
 ghost use Rattle.std.specs.Prelude.{◌≡◌, ◌*◌, IfOk, OnOk};
-ghost use Rattle.limits.specs.declared.TheConstants.{BLOCK_BYTES};
-ghost use Rattle.model.specs.Attributes.{size_of};
-ghost use Rattle.model.specs.Cost.{cost};
-ghost use Rattle.procedures.specs.Rename.{with_parent};
-ghost use Rattle.plain_server.specs.Plain.{body_of, node_of as plain_node};
-ghost use Rattle.files.specs.Changing.{first_body, headed};
-ghost use Rattle.files.specs.Heads.{IsBodyOf, node_of};
+ghost use Rattle.base.specs.declared.TheConstants.{BLOCK_BYTES};
+ghost use Rattle.nfs_spec.specs.Model.Attributes.{size_of};
+ghost use Rattle.nfs_spec.specs.Model.Cost.{cost};
+ghost use Rattle.nfs_spec.specs.Procedures.Rename.{with_parent};
+ghost use Rattle.plain_tree.specs.Tree.Plain.{body_of, node_of as plain_node};
+ghost use Rattle.procs_files.specs.Changing.{first_body, headed};
+ghost use Rattle.procs_files.specs.Heads.{IsBodyOf, node_of};
 
 use crate::tree_files::contents::parent_of;
-use files::Head;
 use nfs_types::{FileKind, Octets};
-use plain_server::{MappedIndexes, NumberedNode, PlainBody, PlainNames, PlainNode, PlainTree};
+use plain_tree::{MappedIndexes, NumberedNode, PlainBody, PlainNames, PlainNode, PlainTree};
+use procs_files::Head;
 use std::alloc::{AllocError, Global};
 
 /// The files of a tree in memory.

@@ -1,13 +1,13 @@
 //! The names of a directory, slot by slot.
 ghost use Rattle.std.specs.Prelude.{◌≡◌, ◌≤◌, ◌<◌, ◌^◌, IfOk, IfSome, nat_eq, position};
-ghost use Rattle.plain_server.specs.Plain.{body_of};
-ghost use Rattle.files.specs.Heads.{IsNextName};
+ghost use Rattle.plain_tree.specs.Tree.Plain.{body_of};
+ghost use Rattle.procs_files.specs.Heads.{IsNextName};
 ghost use Rattle.plain_steps.specs.Slots.{IsIn, count_slots};
 
-use files::SlotName;
-use limits::SLOTS_PER_BLOCK;
+use base::SLOTS_PER_BLOCK;
 use nfs_types::Octets;
-use plain_server::{PlainBody, PlainEntry};
+use plain_tree::{PlainBody, PlainEntry};
+use procs_files::SlotName;
 use std::alloc::AllocError;
 
 // Where the entry stands that lies in a slot.

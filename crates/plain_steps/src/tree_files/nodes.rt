@@ -1,11 +1,11 @@
 //! The files by their numbers, and trees with one file more or less.
 ghost use Rattle.std.specs.Prelude.{◌≡◌, IfSome, IfNone, nat_eq, Some, None, ◌<◌, IfOk, filter, not};
-ghost use Rattle.procedures.specs.Places.{file_at};
-ghost use Rattle.plain_server.specs.Plain.{node_of, numbered, tree_of};
-ghost use Rattle.model.specs.Tree.{with_node};
-ghost use Rattle.procedures.specs.Changes.{without_node};
+ghost use Rattle.nfs_spec.specs.Procedures.Places.{file_at};
+ghost use Rattle.plain_tree.specs.Tree.Plain.{node_of, numbered, tree_of};
+ghost use Rattle.nfs_spec.specs.Model.Tree.{with_node};
+ghost use Rattle.nfs_spec.specs.Procedures.Changes.{without_node};
 
-use plain_server::{NumberedNode, PlainNode, PlainTree};
+use plain_tree::{NumberedNode, PlainNode, PlainTree};
 use std::alloc::AllocError;
 
 /// The file of a number.

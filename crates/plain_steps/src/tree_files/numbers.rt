@@ -1,11 +1,11 @@
 //! Numbers of new files.
 ghost use Rattle.std.specs.Prelude.{◌≡◌, is_none};
-ghost use Rattle.model.specs.Tree.{node_at};
-ghost use Rattle.procedures.specs.Fresh.{IsNewNumber};
-ghost use Rattle.plain_server.specs.Plain.{tree_of};
+ghost use Rattle.nfs_spec.specs.Model.Tree.{node_at};
+ghost use Rattle.nfs_spec.specs.Procedures.Fresh.{IsNewNumber};
+ghost use Rattle.plain_tree.specs.Tree.Plain.{tree_of};
 ghost use Rattle.plain_steps.specs.Numbered.{least_unused};
 
-use plain_server::PlainTree;
+use plain_tree::PlainTree;
 
 fn is_unused(tree: &PlainTree, number: u32) -> bool
     ensures { result ≡ is_none (node_at (tree_of tree.now) number) }

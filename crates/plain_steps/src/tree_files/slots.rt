@@ -1,11 +1,11 @@
 //! The slots of a directory that no name has.
 ghost use Rattle.std.specs.Prelude.{◌≡◌, nat_eq};
 ghost use Rattle.std.specs.List.{list_any};
-ghost use Rattle.procedures.specs.Places.{is_taken_slot, least_free_slot};
-ghost use Rattle.plain_server.specs.Plain.{body_of};
+ghost use Rattle.nfs_spec.specs.Procedures.Places.{is_taken_slot, least_free_slot};
+ghost use Rattle.plain_tree.specs.Tree.Plain.{body_of};
 
-use limits::{MOST_SPAN, SLOTS_PER_BLOCK};
-use plain_server::{PlainBody, PlainEntry};
+use base::{MOST_SPAN, SLOTS_PER_BLOCK};
+use plain_tree::{PlainBody, PlainEntry};
 
 // The slots of the largest directory.
 const MOST_SLOTS: u32 = SLOTS_PER_BLOCK * MOST_SPAN as u32;

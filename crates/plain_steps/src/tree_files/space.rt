@@ -1,11 +1,11 @@
 //! The blocks and the numbers that files use, and that are free.
 ghost use Rattle.std.specs.Prelude.{◌≡◌, ◌<◌, ◌≤◌, ◌^◌, ◌*◌, ◌+◌, ◌-◌, length, drop, position, nat_eq};
 ghost use Rattle.std.specs.FinMap as map;
-ghost use Rattle.model.specs.Tree.{cost_at, free};
-ghost use Rattle.plain_server.specs.Plain.{tree_of};
+ghost use Rattle.nfs_spec.specs.Model.Tree.{cost_at, free};
+ghost use Rattle.plain_tree.specs.Tree.Plain.{tree_of};
 ghost use Rattle.plain_steps.specs.Numbered.{blocks_of, files_of};
 
-use plain_server::{NumberedNode, PlainTree};
+use plain_tree::{NumberedNode, PlainTree};
 
 // Where the first file of a number stands.
 pub(crate) fn position_of(files: &[NumberedNode], number: u32) -> Option<usize>

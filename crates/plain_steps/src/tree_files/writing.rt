@@ -1,9 +1,9 @@
 //! What a write makes of the bytes and the blocks of a file.
 ghost use Rattle.std.specs.Prelude.{◌≡◌, ◌<◌, ◌≤◌, ◌+◌, ◌-◌, length, IfOk};
-ghost use Rattle.procedures.specs.Write.{mapped_with, overwritten, touched};
+ghost use Rattle.nfs_spec.specs.Procedures.Write.{mapped_with, overwritten, touched};
 
-use limits::{BLOCK_BYTES, LARGEST_FILE};
-use plain_server::MappedIndexes;
+use base::{BLOCK_BYTES, LARGEST_FILE};
+use plain_tree::MappedIndexes;
 use std::alloc::{AllocError, Global};
 
 /// The indexes with each in which some of so many bytes from the offset on lie.

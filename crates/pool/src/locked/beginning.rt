@@ -2,9 +2,9 @@
 
 use crate::Ledgers;
 use crate::locked::Locked;
-use pool_calls::Whole;
 use std::sync::ledger::{Ledger, Share};
 use store_images::TakenApart;
+use wal_calls::Whole;
 
 /// What lies behind the lock when it begins; and the device, and the whole shares of the ledgers, for the seats.
 pub(crate) struct Begun<L: Ledger, G: Whole, I: Whole, D> {

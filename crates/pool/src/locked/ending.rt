@@ -3,15 +3,15 @@
 use crate::Seat;
 use crate::locked::Locked;
 use disk::{Port, Side};
-use pool_calls::{IoSeat, Whole, give_up};
 use procs::Done;
 use std::sync::ledger::{Ledger, Share};
 use txn::Core;
+use wal_calls::{IoSeat, Whole, give_up};
 
 impl<L: Ledger, G: Whole, I: Whole> Locked<L, G, I> {
     ghost use Rattle.std.specs.Prelude.{◌≡◌, ◌+◌};
-    ghost use Rattle.log_seats.specs.Steps.{HasEnded, comes_back};
-    ghost use Rattle.pool_calls.specs.Sides.{HandsOutNone};
+    ghost use Rattle.wal_calls.specs.Callers.Steps.{HasEnded, comes_back};
+    ghost use Rattle.wal_calls.specs.Seats.Sides.{HandsOutNone};
     ghost use Rattle.store_workers.specs.Ended.{GivesAllBack};
 
     /// Ends a seat: what its worker has begun is given back, and what it was to answer is lost.

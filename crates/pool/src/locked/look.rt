@@ -1,9 +1,9 @@
 //! How far the core is.
 
 use crate::locked::Locked;
-use pool_calls::Whole;
 use std::sync::ledger::Ledger;
 use txn::Seq;
+use wal_calls::Whole;
 
 /// What threads go by that wait: how far the core is.
 #[derive(Clone, Copy, Debug, PartialEq, Eq)]

@@ -1,18 +1,18 @@
 //! The steps of workers, logger and installer on what lies behind the lock.
 ghost use Rattle.std.specs.Prelude.{◌≡◌, ◌+◌, ◌≤◌, length, None, IsSome};
-ghost use Rattle.log_seats.specs.Steps.{InstComesBack, InstGoesOut, LogComesBack, LogGoesOut};
+ghost use Rattle.wal_calls.specs.Callers.Steps.{InstComesBack, InstGoesOut, LogComesBack, LogGoesOut};
 ghost use Rattle.pool.specs.Locking.{IsLawful};
 ghost use Rattle.pool.specs.Stepping.{HasStepped, grown};
-ghost use Rattle.pool_calls.specs.Sides.{HasTurned};
-ghost use Rattle.wal_law.specs.Installer.{may_install};
-ghost use Rattle.wal_law.specs.Logger.{may_log};
+ghost use Rattle.wal_calls.specs.Seats.Sides.{HasTurned};
+ghost use Rattle.circ.specs.Log.Installer.{may_install};
+ghost use Rattle.circ.specs.Log.Logger.{may_log};
 
 use crate::locked::Locked;
 use crate::{Seat, Told};
 use disk::{Port, Side};
-use pool_calls::{IoSeat, Turn, Whole, step_calls};
 use std::alloc::Global;
 use std::sync::ledger::Ledger;
+use wal_calls::{IoSeat, Turn, Whole, step_calls};
 
 /// One step of a worker: one call of the core, or none where it has no job or a read is due, and at the answer of
 /// a call that begins no transaction.

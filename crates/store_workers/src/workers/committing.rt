@@ -5,17 +5,16 @@ ghost use Rattle.store_promise.specs.declared.events.Committing.TheVariants as c
 use super::last_entry::LastEntry;
 use super::note::Note;
 use super::parts::{Job, Phase, State};
-use groups::blocks_of_objects;
 use nfs_types::{Reply, Status};
-use procs::{Done, is_answered_stable, refused_reply};
+use procs::{Done, Voucher, is_answered_stable, refused_reply};
 use std::alloc::Global;
 use std::snapshot::Snapshot;
 use store_promise::{Cause, Changed, Committing, Step, Verdict};
 use txn::{Change, Commit, Core, Receipt, Seq, Tx};
-use vouchers::Voucher;
+use txn_groups::blocks_of_objects;
 
 impl State {
-    ghost use Rattle.model.specs.Calls.{is_answered_stable};
+    ghost use Rattle.nfs_spec.specs.Model.Calls.{is_answered_stable};
     ghost use Rattle.store_images.specs.Counts.{SameFrame};
     ghost use Rattle.procs.specs.Outcome.{IsMadeFor};
     ghost use Rattle.store_workers.specs.Notes.{IsNoted, committed_as, copied};

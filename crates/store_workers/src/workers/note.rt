@@ -4,9 +4,9 @@ ghost use Rattle.store_workers.specs.Notes.{copied};
 
 use super::parts::Job;
 use nfs_types::Reply;
+use procs::Voucher;
 use std::alloc::AllocError;
 use store_promise::Entry;
-use vouchers::Voucher;
 
 // A note of the procedure that a step commits, for a history, and what shows that it was committed. Where no note is
 // wanted no copy of a reply is made.

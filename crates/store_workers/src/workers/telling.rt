@@ -4,7 +4,7 @@ ghost use Rattle.disk.specs.Device.{Content};
 ghost use Rattle.nfs_types.specs.declared.call.Call.{Call};
 ghost use Rattle.nfs_types.specs.declared.ctx.Credential.{Credential};
 ghost use Rattle.nfs_types.specs.declared.ctx.Moment.{Moment};
-ghost use Rattle.model.specs.Entry.{Entry};
+ghost use Rattle.nfs_spec.specs.Model.Entry.{Entry};
 ghost use Rattle.txn.specs.Fetch.{Fetch};
 ghost use Rattle.store_workers.specs.Noting.{NotesWork};
 ghost use Rattle.store_workers.specs.Stages.{IsWorkerAt};

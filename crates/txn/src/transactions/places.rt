@@ -1,6 +1,6 @@
 //! The places of commits, as the core knows them.
 ghost use Rattle.std.specs.Prelude.{◌≡◌};
-ghost use Rattle.wal_law.specs.Log.{settled_place};
+ghost use Rattle.circ.specs.Log.Log.{settled_place};
 
 use super::Core;
 use crate::Change;

@@ -1,17 +1,17 @@
 //! Adding a commit's changes to the tail.
 ghost use Rattle.std.specs.Prelude.{◌≡◌, ◌≢◌, ◌≤◌, ◌<◌, ◌↔◌, length, All, drop};
-ghost use Rattle.wal_law.specs.Log.{blocks_of, tail_after, IsHomeOn, IsLawful, AreOnce};
-ghost use Rattle.wal_law.specs.Log.{changed_blocks, new_blocks};
-ghost use Rattle.wal_law.specs.Room.{HasPlaces, with_group};
-ghost use Rattle.wal_law.specs.Effects.{HasAppended};
-ghost use Rattle.wal_law.specs.Grows.{GrowsBy, StandsStill};
-ghost use Rattle.wal_law.specs.Calls.{KeepsAgreement};
+ghost use Rattle.circ.specs.Log.Log.{blocks_of, tail_after, IsHomeOn, IsLawful, AreOnce};
+ghost use Rattle.circ.specs.Log.Log.{changed_blocks, new_blocks};
+ghost use Rattle.circ.specs.Log.Room.{HasPlaces, with_group};
+ghost use Rattle.circ.specs.Log.Effects.{HasAppended};
+ghost use Rattle.circ.specs.Log.Grows.{GrowsBy, StandsStill};
+ghost use Rattle.circ.specs.Log.Calls.{KeepsAgreement};
 
 use super::Wal;
 use crate::Append;
+use crate::changes::Changes;
+use base::LOG_SLOTS;
 use disk::{BlockNo, SharedBlock};
-use limits::LOG_SLOTS;
-use log_changes::Changes;
 
 impl Wal {
     /// Adds the changes of a commit, which takes the next place. A refusal leaves the log as it was.

@@ -1,7 +1,7 @@
 //! What a side of the log has taken, and which of its calls comes next.
 ghost use Rattle.std.specs.Prelude.{◌≡◌, ◌≤◌, Some};
 ghost use Rattle.std.specs.Borrow.{sem};
-ghost use Rattle.limits.specs.declared.TheConstants.{LOG_SLOTS};
+ghost use Rattle.base.specs.declared.TheConstants.{LOG_SLOTS};
 ghost use Rattle.wal.specs.Batch.{batch_of, step_at};
 ghost use Rattle.wal.specs.Lent.{LendsBatch};
 ghost use Rattle.wal.specs.declared.memory.batch.Stage.TheVariants.{BodyBarrier};

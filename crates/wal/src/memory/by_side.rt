@@ -1,16 +1,16 @@
 //! In what the two sides of the log differ: the logger takes the tail, to the slots of the log, and tells of it by
 //! the header; the installer takes what is logged, home, and tells of it by the start.
 ghost use Rattle.std.specs.Prelude.{◌≡◌, ◌≤◌, ◌<◌, ◌+◌, ◌%◌, false, length};
-ghost use Rattle.limits.specs.declared.TheConstants.{FIRST_SLOT_BLOCK, LOG_SLOTS};
+ghost use Rattle.base.specs.declared.TheConstants.{FIRST_SLOT_BLOCK, LOG_SLOTS};
 ghost use Rattle.wal.specs.Batch.{IsStageOf, step_at};
 ghost use Rattle.wal.specs.BySide.{IsBody, IsTelling, ahead_of, next_body, out_of, taken_by, to_take, with_ended};
 
 use super::Wal;
 use super::batch::Stage;
 use super::header::put_header;
+use base::{FIRST_SLOT_BLOCK, LOG_HEADER_BLOCK, LOG_SLOTS, START_BLOCK};
 use circ::put_start;
 use disk::{Block, BlockNo, Handed, Side};
-use limits::{FIRST_SLOT_BLOCK, LOG_HEADER_BLOCK, LOG_SLOTS, START_BLOCK};
 
 impl Wal {
     // How many changes a side may take at once: the logger the tail, where its positions fit behind the settled

@@ -5,12 +5,12 @@ ghost use Rattle.std.specs.Prelude.{◌+◌, nat_lt, true, false};
 ghost use Rattle.wal.specs.Batch.{IsStageOf, step_at};
 ghost use Rattle.wal.specs.BySide.{has_batch, out_of, step_of, taken_by, with_side};
 ghost use Rattle.wal.specs.Sides.{IsNextCall, call_comes_back, call_goes_out, is_out, may_call, with_back, with_out};
-ghost use Rattle.wal_law.specs.Calls.{InstCallComesBack, InstCallGoesOut, LogCallComesBack, LogCallGoesOut};
-ghost use Rattle.wal_law.specs.Effects.{HasGoneOn};
-ghost use Rattle.wal_law.specs.Installer.{IsNextInstCall, is_inst_out, may_install, with_inst_back, with_inst_out};
-ghost use Rattle.wal_law.specs.Io.{IsCallWithin};
-ghost use Rattle.wal_law.specs.Log.{IsLawful};
-ghost use Rattle.wal_law.specs.Logger.{IsNextLogCall, is_log_out, may_log, with_log_back, with_log_out};
+ghost use Rattle.circ.specs.Log.Calls.{InstCallComesBack, InstCallGoesOut, LogCallComesBack, LogCallGoesOut};
+ghost use Rattle.circ.specs.Log.Effects.{HasGoneOn};
+ghost use Rattle.circ.specs.Log.Installer.{IsNextInstCall, is_inst_out, may_install, with_inst_back, with_inst_out};
+ghost use Rattle.circ.specs.Log.Io.{IsCallWithin};
+ghost use Rattle.circ.specs.Log.Log.{IsLawful};
+ghost use Rattle.circ.specs.Log.Logger.{IsNextLogCall, is_log_out, may_log, with_log_back, with_log_out};
 
 use super::Wal;
 use super::batch::Stage;

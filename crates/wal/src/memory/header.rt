@@ -1,12 +1,12 @@
 //! The header of the log, as the memory log knows it.
 ghost use Rattle.std.specs.Prelude.{◌≡◌, ◌≤◌, ◌<◌, ◌+◌, ◌^◌, length, take};
-ghost use Rattle.limits.specs.declared.TheConstants.{LOG_SLOTS};
-ghost use Rattle.wal_law.specs.Logger.{IsHeader};
+ghost use Rattle.base.specs.declared.TheConstants.{LOG_SLOTS};
+ghost use Rattle.circ.specs.Log.Logger.{IsHeader};
 
 use crate::LogChange;
+use base::LOG_SLOTS;
 use circ::{put_address, put_end};
 use disk::Block;
-use limits::LOG_SLOTS;
 use std::collections::VecDeque;
 
 // Makes the content the header of the positions from the start on that the first of these changes take.

@@ -1,11 +1,11 @@
 //! Searches among changes.
 ghost use Rattle.std.specs.Prelude.{◌≡◌, ◌≤◌, length, drop, All};
-ghost use Rattle.wal_law.specs.Grows.{IsWholeChange};
-ghost use Rattle.wal_law.specs.Log.{changed_blocks, new_blocks, place_before};
+ghost use Rattle.circ.specs.Log.Grows.{IsWholeChange};
+ghost use Rattle.circ.specs.Log.Log.{changed_blocks, new_blocks, place_before};
 
+use crate::changes::Changes;
 use crate::{LogChange, Seq};
 use disk::BlockNo;
-use log_changes::Changes;
 use std::collections::VecDeque;
 
 // Each of the changes is of a whole block.

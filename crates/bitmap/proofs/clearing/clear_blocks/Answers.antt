@@ -9,7 +9,7 @@ use Rattle.inode.specs.declared.snap.Snap.{Snap}
 use Rattle.inode.specs.Over.{MayStop}
 use Rattle.inode.specs.Read.{Saw}
 use Rattle.inode.specs.Snap.{IsNew}
-use Rattle.drafts.specs.Drafted.{Shows, image_of}
+use Rattle.inode.specs.Drafts.Drafted.{Shows, image_of}
 use Rattle.layout_records.proofs.OneBit.{written_back}
 use Rattle.bitmap.specs.Frees.{AreCleared, Frees, IsInPiece}
 use Rattle.bitmap.proofs.Asked.{has_bit_of}

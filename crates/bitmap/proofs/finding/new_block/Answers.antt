@@ -1,5 +1,5 @@
 use Rattle.std.proofs.Common.{◌≡◌, ◌-◌, false, arith, subst, rules, Some, None}
-use Rattle.limits.specs.declared.TheConstants.{FIRST_HOME_BLOCK}
+use Rattle.base.specs.declared.TheConstants.{FIRST_HOME_BLOCK}
 use Rattle.layout.specs.Geometry.{bitmap_blocks}
 use Rattle.layout.specs.Places.{is_data}
 use Rattle.bitmap.specs.Bits.{IsClearOf}

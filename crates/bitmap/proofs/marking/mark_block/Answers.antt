@@ -1,5 +1,5 @@
 use Rattle.std.proofs.lemmas.Result.{on_ok_weaker}
-use Rattle.drafts.specs.Drafted.{image_of}
+use Rattle.inode.specs.Drafts.Drafted.{image_of}
 use Rattle.bitmap.proofs.MarkParts.{marks_block}
 use Rattle.bitmap.proofs.marking.mark_block.Goals as goal
 

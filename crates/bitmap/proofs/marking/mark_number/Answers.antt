@@ -2,7 +2,7 @@ use Rattle.std.proofs.Common.{ap, ◌∙◌, subst}
 use Rattle.std.proofs.lemmas.Result.{on_ok_weaker}
 use Rattle.layout.specs.Geometry.{inode_bitmap_at}
 use Rattle.inode.specs.declared.snap.Snap.{Snap}
-use Rattle.drafts.specs.Drafted.{image_of}
+use Rattle.inode.specs.Drafts.Drafted.{image_of}
 use Rattle.bitmap.specs.Bits.{PutsBit}
 use Rattle.bitmap.proofs.MarkParts.{marks_number}
 use Rattle.bitmap.proofs.marking.mark_number.Goals as goal

@@ -1,5 +1,5 @@
 use Rattle.std.proofs.Common.{◌≡◌, ◌-◌, ap, ◌∙◌, arith}
-use Rattle.limits.specs.declared.TheConstants.{FIRST_HOME_BLOCK}
+use Rattle.base.specs.declared.TheConstants.{FIRST_HOME_BLOCK}
 use Rattle.layout.specs.Geometry.{bitmap_blocks}
 use Rattle.bitmap.specs.Clear.{clear_of}
 use Rattle.bitmap.proofs.FreeBits.{data_there, free_blocks}

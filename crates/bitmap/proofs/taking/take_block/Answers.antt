@@ -1,7 +1,7 @@
 use Rattle.std.proofs.Common.{sym, subst, Some}
 use Rattle.inode.specs.declared.snap.Snap.{Snap}
 use Rattle.inode.specs.Read.{Saw}
-use Rattle.drafts.specs.Drafted.{image_of}
+use Rattle.inode.specs.Drafts.Drafted.{image_of}
 use Rattle.bitmap.specs.NewBlock.{HasTaken, IsNewBlock, TakesNext}
 use Rattle.bitmap.proofs.NewBlocks.{taken_more}
 use Rattle.bitmap.proofs.OfResults.{marked_one}

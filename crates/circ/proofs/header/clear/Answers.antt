@@ -1,7 +1,7 @@
 use Rattle.std.proofs.Common.{◌≡◌, ℕ, ◌+◌, ◌≤◌, ◌-◌, List, ◌++◌, length, take, drop, replicate, ap, ◌∙◌}
 use Rattle.std.proofs.Common.{arith, append-nil, length-append, length-drop}
 use Rattle.std.proofs.lemmas.List.{drop_all, length-replicate}
-use Rattle.limits.specs.declared.TheConstants.{BLOCK_BYTES}
+use Rattle.base.specs.declared.TheConstants.{BLOCK_BYTES}
 use Rattle.circ.proofs.header.clear.Goals as goal
 
 -- bytes that are put over a whole block are the block

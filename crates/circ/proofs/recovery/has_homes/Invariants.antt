@@ -1,6 +1,6 @@
 use Rattle.std.proofs.Common.{ℕ, ◌+◌, ◌<◌}
-use Rattle.wal_law.specs.Log.{IsHomeOn}
-use Rattle.wal_law.specs.Overlay.{home_at}
+use Rattle.circ.specs.Log.Log.{IsHomeOn}
+use Rattle.circ.specs.Log.Overlay.{home_at}
 use Rattle.circ.proofs.recovery.has_homes.Given as goal
 
 abbrev pub invariant-loop-i : goal.invariant-loop-i

@@ -1,9 +1,9 @@
 use Rattle.std.proofs.Common.{◌+◌, ◌∙◌, arith, refl}
 use Rattle.disk.specs.Device.{Device}
-use Rattle.wal_law.specs.Logger.{slot_block}
-use Rattle.wal_law.specs.Recovery.{image_of}
-use Rattle.wal_law.proofs.Lawful.{home_more}
-use Rattle.wal_law.proofs.OnlyRead.{reads_then, image_then, unspoiled_then, positions_more}
+use Rattle.circ.specs.Log.Logger.{slot_block}
+use Rattle.circ.specs.Log.Recovery.{image_of}
+use Rattle.circ.proofs.LogLemmas.Lawful.{home_more}
+use Rattle.circ.proofs.LogLemmas.OnlyRead.{reads_then, image_then, unspoiled_then, positions_more}
 use Rattle.disk.specs.declared.block.BlockNo.{BlockNo}
 use Rattle.circ.proofs.recovery.read_slots.Goals as goal
 

@@ -1,8 +1,8 @@
 use Rattle.std.proofs.Common.{◌≡◌, ◌≤◌, length, All}
 use Rattle.std.specs.Vec.{vec_capacity}
-use Rattle.wal_law.specs.Log.{IsHomeOn, blocks_of}
-use Rattle.wal_law.specs.Overlay.{positions}
-use Rattle.wal_law.specs.Recovery.{HasOnlyRead, IsUnspoiled, image_of}
+use Rattle.circ.specs.Log.Log.{IsHomeOn, blocks_of}
+use Rattle.circ.specs.Log.Overlay.{positions}
+use Rattle.circ.specs.Log.Recovery.{HasOnlyRead, IsUnspoiled, image_of}
 use Rattle.circ.proofs.recovery.read_slots.Given as goal
 
 abbrev pub invariant-loop-i : goal.invariant-loop-i

@@ -1,6 +1,6 @@
 use Rattle.std.proofs.Common.{◌≡◌, ◌+◌, ◌-◌, ◌*◌, ℕ, subst, arith}
 use Rattle.std.proofs.lemmas.Result.{IfOk-weaker}
-use Rattle.limits.specs.declared.TheConstants.{SLOTS_PER_BLOCK}
+use Rattle.base.specs.declared.TheConstants.{SLOTS_PER_BLOCK}
 use Rattle.layout.specs.Parts.{content_in}
 use Rattle.dir.specs.Slots.{IsFound, slot_at}
 use Rattle.dir.proofs.finding.find_last.Goals as goal

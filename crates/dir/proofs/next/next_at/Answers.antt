@@ -1,5 +1,5 @@
 use Rattle.std.proofs.Common.{rules, ◌*◌, ◌+◌, arith}
-use Rattle.limits.specs.declared.TheConstants.{SLOTS_PER_BLOCK}
+use Rattle.base.specs.declared.TheConstants.{SLOTS_PER_BLOCK}
 use Rattle.layout.specs.Parts.{content_in}
 use Rattle.dir.specs.Slots.{block_slot, slot_at}
 use Rattle.dir.proofs.Moved.{moved_next}

@@ -1,6 +1,6 @@
 use Rattle.std.proofs.Common.{◌*◌, subst, arith}
 use Rattle.std.proofs.lemmas.Result.{IfOk-weaker}
-use Rattle.limits.specs.declared.TheConstants.{SLOTS_PER_BLOCK}
+use Rattle.base.specs.declared.TheConstants.{SLOTS_PER_BLOCK}
 use Rattle.layout.specs.Parts.{content_in}
 use Rattle.dir.specs.Slots.{IsNext, slot_at}
 use Rattle.dir.proofs.next.next_name.Goals as goal

@@ -1,6 +1,6 @@
 -- what is known stays true, and each block so far was looked through once
 use Rattle.std.proofs.Common.{◌≡◌, ◌+◌, ◌*◌, ◌≤◌, None}
-use Rattle.limits.specs.declared.TheConstants.{MOST_SPAN, SLOTS_PER_BLOCK}
+use Rattle.base.specs.declared.TheConstants.{MOST_SPAN, SLOTS_PER_BLOCK}
 use Rattle.dir.specs.Sought.{IsSought}
 use Rattle.dir.proofs.sought.go_through.Given as goal
 

@@ -1,5 +1,5 @@
 use Rattle.std.proofs.Common.{ℕ, ◌+◌, ◌∙◌, sym, ap, cond, nat_lt}
-use Rattle.limits.specs.declared.TheConstants.{DIRECT_INDEXES}
+use Rattle.base.specs.declared.TheConstants.{DIRECT_INDEXES}
 use Rattle.dir.proofs.UsedByDirectory.{shown}
 use Rattle.dir.proofs.span.used_of_directory.Goals as goal
 

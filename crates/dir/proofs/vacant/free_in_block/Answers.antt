@@ -1,6 +1,6 @@
 use Rattle.std.proofs.Common.{rules, ◌≡◌, ◌+◌, ◌<◌, ◌≤◌, inl, inr, sym, ap, ◌∙◌, true, false, arith}
 use Rattle.std.proofs.lemmas.Bool.{cases_lt}
-use Rattle.limits.specs.declared.TheConstants.{SLOTS_PER_BLOCK}
+use Rattle.base.specs.declared.TheConstants.{SLOTS_PER_BLOCK}
 use Rattle.layout.specs.SlotForm.{read_slot}
 use Rattle.dir.specs.Slots.{block_slot}
 use Rattle.dir.specs.Vacant.{is_free}

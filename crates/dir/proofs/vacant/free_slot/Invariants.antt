@@ -1,8 +1,8 @@
 -- no slot of the blocks so far is free
 use Rattle.std.proofs.Common.{ℕ, ◌*◌}
-use Rattle.limits.specs.declared.TheConstants.{SLOTS_PER_BLOCK}
+use Rattle.base.specs.declared.TheConstants.{SLOTS_PER_BLOCK}
 use Rattle.disk.specs.Crash.{Image}
-use Rattle.model.specs.Tree.{Tree}
+use Rattle.nfs_spec.specs.Model.Tree.{Tree}
 use Rattle.layout.specs.Parts.{content_in}
 use Rattle.dir.specs.Slots.{IsDirectoryOf, slot_at}
 use Rattle.dir.specs.Vacant.{NoneFree}

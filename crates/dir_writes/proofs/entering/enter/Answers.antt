@@ -1,8 +1,8 @@
 use Rattle.std.proofs.Common.{◌≡◌, refl, sym, ◌∙◌, Option, Some, None}
 use Rattle.layout.specs.declared.inode.InodeKind.TheVariants as kinds
-use Rattle.model.specs.Node.{Node}
-use Rattle.drafts.specs.Drafted.{image_of}
-use Rattle.drafts.proofs.PutThere.{told_there}
+use Rattle.nfs_spec.specs.Model.Node.{Node}
+use Rattle.inode.specs.Drafts.Drafted.{image_of}
+use Rattle.inode.proofs.DraftsLemmas.PutThere.{told_there}
 use Rattle.dir_writes.proofs.Spanned.{kind_there}
 use Rattle.dir_writes.proofs.entering.enter.Goals as goal
 

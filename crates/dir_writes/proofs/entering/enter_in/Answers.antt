@@ -1,10 +1,10 @@
 use Rattle.std.proofs.Common.{◌≡◌, ◌≤◌, ◌*◌, ap, sym, ◌∙◌, subst, arith}
 use Rattle.std.proofs.lemmas.Result.{IfOk-weaker}
-use Rattle.limits.specs.declared.TheConstants.{SLOTS_PER_BLOCK}
+use Rattle.base.specs.declared.TheConstants.{SLOTS_PER_BLOCK}
 use Rattle.layout.specs.Decode.{span_of}
-use Rattle.model.specs.Tree.{free}
-use Rattle.procedures.specs.Changes.{with_entry}
-use Rattle.files.specs.Changing.{CanEnter, adds}
+use Rattle.nfs_spec.specs.Model.Tree.{free}
+use Rattle.nfs_spec.specs.Procedures.Changes.{with_entry}
+use Rattle.procs_files.specs.Changing.{CanEnter, adds}
 use Rattle.dir_writes.specs.Entering.{entry_in, with_name}
 use Rattle.dir_writes.specs.Growing.{HoldsWith}
 use Rattle.dir_writes.proofs.entering.enter_in.Goals as goal

@@ -1,10 +1,10 @@
 use Rattle.std.proofs.Common.{◌≡◌, ℕ, ◌∙◌, ap, refl, subst, List}
 use Rattle.std.proofs.lemmas.Result.{on_ok_weaker}
-use Rattle.model.specs.Tree.{with_node}
+use Rattle.nfs_spec.specs.Model.Tree.{with_node}
 use Rattle.layout.specs.Decode.{inode_at}
 use Rattle.layout.specs.SlotForm.{used_bytes}
-use Rattle.drafts.specs.Drafted.{image_of}
-use Rattle.drafts.proofs.PutThere.{moved_draft}
+use Rattle.inode.specs.Drafts.Drafted.{image_of}
+use Rattle.inode.proofs.DraftsLemmas.PutThere.{moved_draft}
 use Rattle.dir_writes.specs.Entering.{with_name}
 use Rattle.dir_writes.specs.Slotting.{IsSlottedIn}
 use Rattle.dir_writes.proofs.EnteredHolds.{entered_holds, entered_inode}

@@ -3,7 +3,7 @@ use Rattle.layout.specs.Places.{is_data}
 use Rattle.layout.proofs.AllNumbers.{maps}
 use Rattle.inode.specs.declared.snap.Snap.{Snap}
 use Rattle.inode.proofs.InodeThere.{data_of, is_read}
-use Rattle.drafts.specs.Drafted.{image_of}
+use Rattle.inode.specs.Drafts.Drafted.{image_of}
 use Rattle.dir_writes.proofs.growing.grow.Goals as goal
 
 pub returns-then-not-is_data-clause-pause : goal.returns-then-not-is_data-clause-pause

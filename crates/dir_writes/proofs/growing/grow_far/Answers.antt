@@ -1,5 +1,5 @@
 use Rattle.std.proofs.Common.{◌≡◌, ◌≤◌, ◌<◌, ◌+◌, ◌-◌, ◌*◌, [], ◌∷◌, sym, ap, ◌∙◌, subst, Some, Ok, arith}
-use Rattle.limits.specs.declared.TheConstants.{BLOCK_BYTES, DIRECT_INDEXES}
+use Rattle.base.specs.declared.TheConstants.{BLOCK_BYTES, DIRECT_INDEXES}
 use Rattle.layout.specs.declared.geometry.Geometry.{Geometry}
 use Rattle.layout.specs.declared.inode.Inode.{Inode}
 use Rattle.layout.specs.Decode.{inode_at, span_of}
@@ -8,11 +8,11 @@ use Rattle.layout.specs.Parts.{content_in, with_bytes, with_inode}
 use Rattle.objects.specs.Spliced.{spliced}
 use Rattle.inode.specs.declared.snap.Snap.{Snap}
 use Rattle.inode.specs.Over.{IsOver}
-use Rattle.drafts.specs.Drafted.{Shows, image_of}
-use Rattle.drafts.proofs.PutThere.{moved_draft, over_of}
+use Rattle.inode.specs.Drafts.Drafted.{Shows, image_of}
+use Rattle.inode.proofs.DraftsLemmas.PutThere.{moved_draft, over_of}
 use Rattle.bitmap.specs.NewBlock.{HasTaken}
 use Rattle.bitmap.proofs.NewBlocks.{none_taken}
-use Rattle.file_writes.specs.Filling.{mapping}
+use Rattle.inode_data.specs.Filling.{mapping}
 use Rattle.layout.specs.SlotForm.{first_slot}
 use Rattle.dir_writes.proofs.GrownDirectory.{takes_one}
 use Rattle.dir_writes.proofs.GrownHolds.{far_grows}

@@ -1,16 +1,16 @@
 use Rattle.std.proofs.Common.{◌≡◌, ◌≤◌, ◌<◌, ◌+◌, ◌-◌, ◌*◌, [], ◌∷◌, replicate, sym, ap, ◌∙◌, subst, Some, Ok, arith}
-use Rattle.limits.specs.declared.TheConstants.{BLOCK_BYTES, DIRECT_INDEXES}
+use Rattle.base.specs.declared.TheConstants.{BLOCK_BYTES, DIRECT_INDEXES}
 use Rattle.layout.specs.declared.geometry.Geometry.{Geometry}
 use Rattle.layout.specs.declared.inode.Inode.{Inode}
 use Rattle.layout.specs.Decode.{inode_at, span_of}
 use Rattle.layout.specs.Fields.{four_bytes}
 use Rattle.layout.specs.Parts.{with_bytes, with_inode}
 use Rattle.objects.specs.Spliced.{spliced}
-use Rattle.drafts.specs.Drafted.{Shows, image_of}
-use Rattle.drafts.proofs.PutThere.{moved_draft}
+use Rattle.inode.specs.Drafts.Drafted.{Shows, image_of}
+use Rattle.inode.proofs.DraftsLemmas.PutThere.{moved_draft}
 use Rattle.bitmap.specs.NewBlock.{HasTaken}
 use Rattle.bitmap.proofs.NewBlocks.{none_taken}
-use Rattle.file_writes.specs.Filling.{mapping}
+use Rattle.inode_data.specs.Filling.{mapping}
 use Rattle.layout.specs.SlotForm.{first_slot}
 use Rattle.dir_writes.proofs.GrownDirectory.{first_far, takes_one, takes_two}
 use Rattle.dir_writes.proofs.GrownHolds.{first_grows}

@@ -1,7 +1,7 @@
 use Rattle.std.proofs.Common.{Some}
 use Rattle.std.proofs.lemmas.Result.{IfErr-weaker, on_ok_weaker}
-use Rattle.drafts.specs.Drafted.{image_of}
-use Rattle.drafts.proofs.PutThere.{told_there}
+use Rattle.inode.specs.Drafts.Drafted.{image_of}
+use Rattle.inode.proofs.DraftsLemmas.PutThere.{told_there}
 use Rattle.dir_writes.specs.Clearing.{without_name}
 use Rattle.dir_writes.proofs.KeptFile.{kept_link, kept_regular}
 use Rattle.dir_writes.proofs.Places.{same_holds}

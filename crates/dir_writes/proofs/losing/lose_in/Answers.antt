@@ -3,17 +3,17 @@ use Rattle.std.proofs.lemmas.Result.{IfErr-weaker, on_ok_weaker}
 use Rattle.std.specs.FinMap as map
 use Rattle.std.specs.Option.{option_map}
 use Rattle.disk.specs.Crash.{Image}
-use Rattle.model.specs.Tree.{Tree, with_node}
-use Rattle.files.specs.declared.entry.Entry.{Entry}
-use Rattle.files.specs.Heads.{entry_of}
+use Rattle.nfs_spec.specs.Model.Tree.{Tree, with_node}
+use Rattle.procs_files.specs.declared.entry.Entry.{Entry}
+use Rattle.procs_files.specs.Heads.{entry_of}
 use Rattle.layout.specs.declared.inode.Inode.{Inode}
 use Rattle.layout.specs.Decode.{entries_in}
 use Rattle.layout.specs.Holds.{Holds}
 use Rattle.layout.specs.Parts.{content_in}
 use Rattle.inode.specs.declared.snap.Snap.{Snap}
 use Rattle.dir.specs.Slots.{IsDirectoryOf}
-use Rattle.drafts.specs.Drafted.{image_of}
-use Rattle.drafts.proofs.PutThere.{moved_draft}
+use Rattle.inode.specs.Drafts.Drafted.{image_of}
+use Rattle.inode.proofs.DraftsLemmas.PutThere.{moved_draft}
 use Rattle.dir_writes.specs.Clearing.{without_name}
 use Rattle.dir_writes.proofs.KeptFile.{kept_directory}
 use Rattle.dir_writes.proofs.LostName.{lost_file, lost_holds}

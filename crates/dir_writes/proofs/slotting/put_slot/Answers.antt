@@ -5,7 +5,7 @@ use Rattle.layout.specs.Parts.{content_in, with_bytes}
 use Rattle.layout.specs.Places.{is_data}
 use Rattle.inode.specs.declared.snap.Snap.{Snap}
 use Rattle.dir.specs.Slots.{IsDirectoryOf}
-use Rattle.drafts.specs.Drafted.{Shows, image_of}
+use Rattle.inode.specs.Drafts.Drafted.{Shows, image_of}
 use Rattle.dir_writes.specs.Slotting.{IsSlotted}
 use Rattle.dir_writes.proofs.slotting.put_slot.Goals as goal
 

@@ -1,5 +1,5 @@
 use Rattle.std.proofs.Common.{rules, ◌≡◌, ◌<◌, ◌/◌, true, false, sym, ◌∙◌, nat_eq, arith}
-use Rattle.limits.specs.declared.TheConstants.{SLOTS_PER_BLOCK}
+use Rattle.base.specs.declared.TheConstants.{SLOTS_PER_BLOCK}
 use Rattle.layout.specs.Decode.{span_of}
 use Rattle.dir.proofs.SlotBlocks.{small, some_there}
 use Rattle.dir_writes.proofs.slotting.slotted_block.Goals as goal

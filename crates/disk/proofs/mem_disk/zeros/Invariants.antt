@@ -1,5 +1,5 @@
 use Rattle.std.proofs.Common.{◌≡◌, [], ◌∷◌, replicate, All}
-use Rattle.limits.specs.declared.TheConstants.{BLOCK_BYTES}
+use Rattle.base.specs.declared.TheConstants.{BLOCK_BYTES}
 use Rattle.disk.specs.Blocks.{AreContents}
 use Rattle.disk.proofs.mem_disk.zeros.Given as goal
 

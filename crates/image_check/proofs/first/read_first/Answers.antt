@@ -2,7 +2,7 @@
 use Rattle.std.proofs.Common.{sym, subst, Err}
 use Rattle.disk.specs.Device.{Device}
 use Rattle.layout.specs.declared.super_block.Super.{Super}
-use Rattle.wal_law.specs.Recovery.{image_of}
+use Rattle.circ.specs.Log.Recovery.{image_of}
 use Rattle.image_check.specs.Checked.{CountsCheck, IsNotGood}
 use Rattle.image_check.specs.Refused.{IsRefusal}
 use Rattle.image_check.proofs.Refusing.{counts_open, refused_first}

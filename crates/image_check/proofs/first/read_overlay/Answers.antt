@@ -4,7 +4,7 @@ use Rattle.std.specs.Prelude.{Vec}
 use Rattle.disk.specs.Device.{Content, Device}
 use Rattle.disk.specs.declared.block.BlockNo.{BlockNo}
 use Rattle.std.specs.declared.alloc.Global.{Global}
-use Rattle.wal_law.specs.Recovery.{image_of}
+use Rattle.circ.specs.Log.Recovery.{image_of}
 use Rattle.image_check.specs.Checked.{CountsCheck, IsNotGood}
 use Rattle.image_check.specs.Refused.{IsRefusal}
 use Rattle.image_check.proofs.Refusing.{counts_log, no_log}

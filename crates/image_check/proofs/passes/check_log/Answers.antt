@@ -3,10 +3,10 @@ use Rattle.std.proofs.Common.{◌≡◌, ℕ, sym, subst, List, arith}
 use Rattle.disk.specs.Crash.{Image}
 use Rattle.disk.specs.Device.{Content, Device}
 use Rattle.disk.specs.declared.block.BlockNo.{BlockNo}
-use Rattle.wal_law.specs.Overlay.{over}
-use Rattle.wal_law.specs.Recovery.{image_of}
-use Rattle.wal_law.proofs.OnlyRead.{unspoiled_then}
-use Rattle.overlays.specs.LaidOver.{laid_over}
+use Rattle.circ.specs.Log.Overlay.{over}
+use Rattle.circ.specs.Log.Recovery.{image_of}
+use Rattle.circ.proofs.LogLemmas.OnlyRead.{unspoiled_then}
+use Rattle.image_read.specs.Overlays.LaidOver.{laid_over}
 use Rattle.image_check.specs.Searched.{AreBlocksOf, IsSearched}
 use Rattle.image_check.specs.declared.judging.Counts.{Counts}
 use Rattle.image_check.proofs.Overlaid.{over_blocks}

@@ -5,9 +5,9 @@ use Rattle.std.specs.declared.alloc.Global.{Global}
 use Rattle.disk.specs.Crash.{Image}
 use Rattle.disk.specs.Device.{Device}
 use Rattle.layout.specs.declared.inode.Inode.{Inode}
-use Rattle.wal_law.specs.Recovery.{image_of}
-use Rattle.wal_law.proofs.OnlyRead.{unspoiled_then}
-use Rattle.overlays.specs.LaidOver.{laid_over}
+use Rattle.circ.specs.Log.Recovery.{image_of}
+use Rattle.circ.proofs.LogLemmas.OnlyRead.{unspoiled_then}
+use Rattle.image_read.specs.Overlays.LaidOver.{laid_over}
 use Rattle.image_check.specs.Checked.{CountsCheck}
 use Rattle.image_check.specs.Searched.{IsRead, IsSearched}
 use Rattle.image_check.specs.declared.judging.Counts.{Counts}

@@ -3,11 +3,11 @@ use Rattle.std.proofs.Common.{◌≡◌, ap, sym, subst, Err}
 use Rattle.disk.specs.Crash.{Image}
 use Rattle.disk.specs.Device.{Device}
 use Rattle.layout.specs.Parts.{content_in}
-use Rattle.wal_law.specs.Recovery.{image_of}
-use Rattle.wal_law.proofs.OnlyRead.{unspoiled_then}
-use Rattle.overlays.specs.LaidOver.{laid_over}
-use Rattle.image_bodies.specs.declared.found.Found.{Found}
-use Rattle.image_bodies.specs.Bodies.{IsFound}
+use Rattle.circ.specs.Log.Recovery.{image_of}
+use Rattle.circ.proofs.LogLemmas.OnlyRead.{unspoiled_then}
+use Rattle.image_read.specs.Overlays.LaidOver.{laid_over}
+use Rattle.image_contents.specs.declared.bodies.found.Found.{Found}
+use Rattle.image_contents.specs.Bodies.Bodies.{IsFound}
 use Rattle.image_check.specs.Checked.{CountsCheck}
 use Rattle.image_check.specs.Searched.{IsRead, IsSearched}
 use Rattle.image_check.specs.declared.judging.Counts.{Counts}

@@ -2,9 +2,9 @@
 use Rattle.std.proofs.Common.{◌∙◌, rules, ap, sym, subst, Bool, Err, arith}
 use Rattle.disk.specs.Crash.{Image}
 use Rattle.disk.specs.Device.{Device}
-use Rattle.wal_law.specs.Recovery.{image_of}
-use Rattle.overlays.specs.LaidOver.{laid_over}
-use Rattle.file_counts.specs.Linked.{HasCounts}
+use Rattle.circ.specs.Log.Recovery.{image_of}
+use Rattle.image_read.specs.Overlays.LaidOver.{laid_over}
+use Rattle.image_read.specs.Counts.Linked.{HasCounts}
 use Rattle.image_check.specs.Checked.{CountsCheck}
 use Rattle.image_check.specs.Searched.{IsSearched}
 use Rattle.image_check.specs.declared.judging.Counts.{Counts}

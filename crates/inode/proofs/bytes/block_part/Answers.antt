@@ -1,5 +1,5 @@
 use Rattle.std.proofs.Common.{◌≡◌, ◌+◌, ◌-◌, take, drop, cond, replicate, sym, ap, ◌∙◌, nat_eq, true, rules, arith}
-use Rattle.limits.specs.declared.TheConstants.{BLOCK_BYTES}
+use Rattle.base.specs.declared.TheConstants.{BLOCK_BYTES}
 use Rattle.layout.specs.Parts.{content_in}
 use Rattle.inode.proofs.bytes.block_part.Goals as goal
 

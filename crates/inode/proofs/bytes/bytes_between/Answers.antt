@@ -1,6 +1,6 @@
 use Rattle.std.proofs.Common.{◌/◌, rules, ◌≡◌, ℕ, ◌-◌, take, drop, ap, ◌∙◌, arith}
 use Rattle.inode.specs.Over.{all_bytes}
-use Rattle.limits.specs.declared.TheConstants.{BLOCK_BYTES}
+use Rattle.base.specs.declared.TheConstants.{BLOCK_BYTES}
 use Rattle.inode.specs.Asked.{IsNeededBetween}
 use Rattle.inode.proofs.Needed.{may_between, may_indirect_at, may_mapped_at}
 use Rattle.inode.proofs.Stops.{at_err, stop_may}

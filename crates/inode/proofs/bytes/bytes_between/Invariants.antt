@@ -1,7 +1,7 @@
 -- the bytes so far are those of the blocks up to this place
 use Rattle.std.proofs.Common.{◌≡◌, ℕ, ◌-◌, ◌≤◌, take, drop}
 use Rattle.disk.specs.Crash.{Image}
-use Rattle.model.specs.Tree.{Tree}
+use Rattle.nfs_spec.specs.Model.Tree.{Tree}
 use Rattle.inode.specs.Over.{HasInode, all_bytes}
 use Rattle.inode.proofs.bytes.bytes_between.Given as goal
 

@@ -1,10 +1,10 @@
 -- what is held by the double indirect block and by the inner blocks so far
 use Rattle.std.proofs.Common.{◌≡◌, ◌+◌, ◌*◌, ◌≤◌, sum_by, take}
-use Rattle.limits.specs.declared.TheConstants.{INDIRECT_INDEXES}
+use Rattle.base.specs.declared.TheConstants.{INDIRECT_INDEXES}
 use Rattle.disk.specs.Crash.{Image}
 use Rattle.layout.specs.Decode.{numbers_in}
 use Rattle.layout.specs.Parts.{content_in}
-use Rattle.model.specs.Tree.{Tree}
+use Rattle.nfs_spec.specs.Model.Tree.{Tree}
 use Rattle.inode.specs.Over.{IsOver}
 use Rattle.inode.proofs.UsedBlocks.{row_held}
 use Rattle.inode.proofs.inodes.double_used.Given as goal

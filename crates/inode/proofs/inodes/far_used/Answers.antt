@@ -1,5 +1,5 @@
 use Rattle.std.proofs.Common.{refl, rules}
-use Rattle.limits.specs.declared.TheConstants.{INDIRECT_INDEXES}
+use Rattle.base.specs.declared.TheConstants.{INDIRECT_INDEXES}
 use Rattle.layout.specs.Fields.{numbers_at}
 use Rattle.layout.specs.Parts.{content_in}
 use Rattle.inode.proofs.HeldThere.{no_data, none_used, not_placed, some_used}

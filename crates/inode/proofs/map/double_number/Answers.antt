@@ -1,6 +1,6 @@
 use Rattle.std.proofs.Common.{◌≡◌, ◌-◌, ◌/◌, ◌%◌, sym, ap, ◌∙◌, subst, true, rules}
 use Rattle.std.proofs.lemmas.Result.{IfErr-weaker, IfOk-weaker}
-use Rattle.limits.specs.declared.TheConstants.{FIRST_DOUBLE_INDEX, INDIRECT_INDEXES}
+use Rattle.base.specs.declared.TheConstants.{FIRST_DOUBLE_INDEX, INDIRECT_INDEXES}
 use Rattle.layout.specs.InodeForm.{is_data_block_or_none}
 use Rattle.layout.specs.Parts.{content_in}
 use Rattle.inode.specs.Asked.{IsBlockAddr, IsPointerFor}

@@ -1,7 +1,7 @@
 -- Each part of the definition, from the files, the owners and the bitmaps.
 use Rattle.std.proofs.Common.{arith, refl}
-use Rattle.model.specs.Sound.{SoundGeometry}
-use Rattle.model.proofs.Formatted.{sound}
+use Rattle.nfs_spec.specs.Model.Sound.{SoundGeometry}
+use Rattle.nfs_spec.proofs.ModelLemmas.Formatted.{sound}
 use Rattle.layout.specs.declared.geometry.Geometry.{Geometry}
 use Rattle.layout.specs.Geometry.{IsLawful}
 use Rattle.layout.specs.Homes.{homes_of}

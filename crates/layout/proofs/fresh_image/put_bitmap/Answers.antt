@@ -1,5 +1,5 @@
 use Rattle.std.proofs.Common.{◌*◌, arith, refl}
-use Rattle.limits.specs.declared.TheConstants.{BITS_PER_BLOCK}
+use Rattle.base.specs.declared.TheConstants.{BITS_PER_BLOCK}
 use Rattle.layout.specs.Fresh.{is_outside}
 use Rattle.layout.proofs.BitmapBytes.{one_more, whole}
 use Rattle.layout.proofs.fresh_image.put_bitmap.Goals as goal

@@ -1,7 +1,7 @@
 -- the bytes so far are the bitmap's
 use Rattle.std.proofs.Common.{◌≡◌, ◌+◌, ◌*◌, take, map, length}
 use Rattle.std.specs.List.{range_with_len}
-use Rattle.limits.specs.declared.TheConstants.{BITS_PER_BLOCK, BLOCK_BYTES}
+use Rattle.base.specs.declared.TheConstants.{BITS_PER_BLOCK, BLOCK_BYTES}
 use Rattle.layout.specs.Fresh.{byte_of, is_outside}
 use Rattle.layout.proofs.fresh_image.put_bitmap.Given as goal
 

@@ -1,7 +1,7 @@
 use Rattle.std.proofs.Common.{◌≡◌, ◌+◌, ◌-◌, ◌++◌, ℕ, List, [], take, replicate, length, length-append}
 use Rattle.std.proofs.Common.{append_assoc, vec_len, ap, sym, ◌∙◌, arith}
 use Rattle.std.proofs.lemmas.List.{take_all, length-replicate}
-use Rattle.limits.specs.declared.TheConstants.{BLOCK_BYTES, INODE_BYTES}
+use Rattle.base.specs.declared.TheConstants.{BLOCK_BYTES, INODE_BYTES}
 use Rattle.layout.specs.Fresh.{root_inode}
 use Rattle.layout.specs.InodeForm.{inode_bytes}
 use Rattle.layout.proofs.fresh_image.root_block.Goals as goal

@@ -1,6 +1,6 @@
 use Rattle.std.proofs.Common.{OnOk, refl, subst}
 use Rattle.std.specs.Io.KnownBytes.{Appends}
-use Rattle.image_lines.specs.Printed.{lines_text}
+use Rattle.image_contents.specs.Lines.Printed.{lines_text}
 use Rattle.nfsd.proofs.OfDevice.{lines_printed}
 use Rattle.nfsd.proofs.looking.show_device.Goals as goal
 

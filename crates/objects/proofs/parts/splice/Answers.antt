@@ -1,5 +1,5 @@
 use Rattle.std.proofs.Common.{◌≡◌, ◌∙◌, ◌⊎◌, ◌+◌, ◌≤◌, ap, length, subst, sym, arith}
-use Rattle.limits.specs.declared.TheConstants.{BLOCK_BYTES}
+use Rattle.base.specs.declared.TheConstants.{BLOCK_BYTES}
 use Rattle.objects.specs.Spliced.{extracted}
 use Rattle.objects.specs.declared.addr.Addr.{Addr}
 use Rattle.objects.proofs.Splices.{elsewhere}

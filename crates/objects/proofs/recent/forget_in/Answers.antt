@@ -1,6 +1,6 @@
 use Rattle.std.proofs.Common.{◌≡◌, ◌∙◌, ◌≤◌, ℕ, length, take, ap, arith}
 use Rattle.std.specs.Map.{keys_of}
-use Rattle.limits.specs.declared.TheConstants.{CLEAN_BLOCKS}
+use Rattle.base.specs.declared.TheConstants.{CLEAN_BLOCKS}
 use Rattle.lru.specs.LruCache.{LruCache}
 use Rattle.objects.proofs.Cache.{keys_of-take, short}
 use Rattle.objects.proofs.recent.forget_in.Goals as goal

@@ -1,8 +1,8 @@
 use Rattle.std.proofs.Common.{subst, IfOk, IfSome}
 use Rattle.nfs_types.specs.Fits.{CallFits}
-use Rattle.model.specs.Sound.{Sound, SoundCtx}
-use Rattle.procedures.specs.Step.{step}
-use Rattle.plain_server.specs.Plain.{tree_of}
+use Rattle.nfs_spec.specs.Model.Sound.{Sound, SoundCtx}
+use Rattle.nfs_spec.specs.Procedures.Step.{step}
+use Rattle.plain_tree.specs.Tree.Plain.{tree_of}
 use Rattle.plain_steps.proofs.Given.{told}
 use Rattle.plain_steps.proofs.Leads.{unchanged}
 use Rattle.plain_steps.proofs.answering.answer.Goals as goal

@@ -1,5 +1,5 @@
 use Rattle.std.proofs.Common.{◌≡◌, rules}
-use Rattle.plain_server.specs.Plain.{tree_of}
+use Rattle.plain_tree.specs.Tree.Plain.{tree_of}
 use Rattle.plain_steps.proofs.Given.{told}
 use Rattle.plain_steps.proofs.Leads.{changed}
 use Rattle.plain_steps.proofs.changing.answer_changing.Goals as goal

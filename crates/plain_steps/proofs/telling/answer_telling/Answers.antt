@@ -1,5 +1,5 @@
 use Rattle.std.proofs.Common.{ap}
-use Rattle.plain_server.specs.Plain.{tree_of}
+use Rattle.plain_tree.specs.Tree.Plain.{tree_of}
 use Rattle.plain_steps.proofs.Given.{ok_some_then}
 use Rattle.plain_steps.proofs.telling.answer_telling.Goals as goal
 

@@ -1,6 +1,6 @@
 use Rattle.std.proofs.Common.{◌≡◌, subst}
 use Rattle.std.proofs.lemmas.Option.{same_Some}
-use Rattle.name_search.specs.Known.{IsKnown}
+use Rattle.dir.specs.Search.Known.{IsKnown}
 use Rattle.procs.proofs.anew.names_of.Goals as goal
 
 pub returns-in-Ok-clause-known : goal.returns-in-Ok-clause-known

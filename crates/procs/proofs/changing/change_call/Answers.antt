@@ -1,8 +1,8 @@
 use Rattle.std.proofs.Common.{◌≡◌, sym, ap, ◌∙◌, subst}
 use Rattle.inode.specs.declared.snap.Snap.{Snap}
 use Rattle.inode.specs.Over.{MayStop}
-use Rattle.drafts.specs.Drafted.{Drafted, IsDraft}
-use Rattle.procs_steps.specs.Leads.{IsStepTo}
+use Rattle.inode.specs.Drafts.Drafted.{Drafted, IsDraft}
+use Rattle.procs_dispatch.specs.Leads.{IsStepTo}
 use Rattle.procs.proofs.ChangesOf.{changed_fails, changed_is_step}
 use Rattle.procs.proofs.TellsOf.{is_asked}
 use Rattle.procs.proofs.changing.change_call.Goals as goal

@@ -1,5 +1,5 @@
 use Rattle.std.proofs.Common.{sym, subst, arith}
-use Rattle.limits.specs.declared.TheConstants.{FIRST_HOME_BLOCK}
+use Rattle.base.specs.declared.TheConstants.{FIRST_HOME_BLOCK}
 use Rattle.bitmap.specs.Pieces.{IsAskedObject}
 use Rattle.bitmap.proofs.Asked.{is_object, may_stop}
 use Rattle.procs.proofs.pieces.piece_bytes.Goals as goal

@@ -1,5 +1,5 @@
 use Rattle.std.proofs.Common.{sym, ◌∙◌, ◌≡◌, ◌≤◌, ◌<◌, ◌*◌, ◌++◌, length, take-append-drop}
-use Rattle.limits.specs.declared.TheConstants.{MOST_GIDS}
+use Rattle.base.specs.declared.TheConstants.{MOST_GIDS}
 use Rattle.rpc.proofs.Spelled.{are_groups, gids_are, gids_short}
 use Rattle.rpc.proofs.credential.read_gids.Goals as goal
 

@@ -1,5 +1,5 @@
 use Rattle.std.specs.Vec.Iter.{into_iter_items}
-use Rattle.model.specs.Sound.{SoundTime}
+use Rattle.nfs_spec.specs.Model.Sound.{SoundTime}
 use Rattle.sim.specs.declared.stage.Stage.TheVariants.{First}
 use Rattle.sim.proofs.Printed.{IsBegun}
 use Rattle.sim.proofs.simulation.simulate.Given as goal

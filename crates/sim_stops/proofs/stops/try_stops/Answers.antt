@@ -1,6 +1,6 @@
 use Rattle.std.proofs.Common.{List, ℕ, Vec, inr, rules, subst}
 use Rattle.std.specs.declared.alloc.Global.{Global}
-use Rattle.image_lines.specs.declared.line.Line.{Line}
+use Rattle.image_contents.specs.declared.lines.line.Line.{Line}
 use Rattle.sim_stops.proofs.Totals.{stops_more}
 use Rattle.sim_stops.specs.Tried.{AreTriedStops, IsTriedStop}
 use Rattle.sim_stops.proofs.stops.try_stops.Goals as goal

@@ -1,5 +1,5 @@
 use Rattle.std.proofs.Common.{◌≤◌, ℕ, Option, subst, sym}
-use Rattle.limits.specs.declared.TheConstants.{RECORD_BYTES}
+use Rattle.base.specs.declared.TheConstants.{RECORD_BYTES}
 use Rattle.sim_words.specs.Reading.{Gives}
 use Rattle.sim_words.specs.declared.message.Message.{Message}
 use Rattle.sim_words.proofs.Messages.{spelled}

@@ -1,5 +1,5 @@
 use Rattle.std.proofs.Common.{◌++◌, is_ok, option_to_list, subst, sym}
-use Rattle.store_runs.specs.AtWork.{fetches_of}
+use Rattle.store.specs.Runs.AtWork.{fetches_of}
 use Rattle.store.specs.Calling.{IsCalling}
 use Rattle.store_workers.specs.Worker.{GoesWith}
 use Rattle.store_workers.specs.declared.workers.parts.State.{State}

@@ -1,5 +1,5 @@
 use Rattle.std.proofs.Common.{◌++◌, option_to_list, refl, subst, sym}
-use Rattle.store_runs.specs.AtWork.{fetches_of}
+use Rattle.store.specs.Runs.AtWork.{fetches_of}
 use Rattle.store_workers.specs.Stages.{IsWorkerAt, progress_of}
 use Rattle.store_workers.specs.WorkerSteps.{side}
 use Rattle.store.proofs.CallStages.{waits_served}

@@ -2,7 +2,7 @@ use Rattle.std.proofs.Common.{subst, sym, []}
 use Rattle.store_promise.specs.OpenSince.{file_blocks}
 use Rattle.store_promise.specs.Running.{IsRunningOver, at_rest}
 use Rattle.store_promise.specs.Schedule.{Setting}
-use Rattle.store_runs.specs.Going.{begins}
+use Rattle.store.specs.Runs.Going.{begins}
 use Rattle.store.proofs.CallSteps.{open_of}
 use Rattle.store.proofs.calling.an_opened_store_is_open.Goals as goal
 

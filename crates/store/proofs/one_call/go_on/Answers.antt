@@ -3,8 +3,8 @@ use Rattle.store.proofs.Driven.{AfterLog, after_none, after_settling, begins_aga
 use Rattle.store.proofs.CallEvents.{again_goes, goes_told, none_to_tell, still_fits}
 use Rattle.store.proofs.Driven.{full_plans, nothing_new, reads_on, was_made}
 use Rattle.store.proofs.DrivenAlone.{full_alone, given_alone, goes_alone, room_then, round}
-use Rattle.store_runs.proofs.GoingRead.{with_model}
-use Rattle.store_runs.proofs.RunTaken.{goes_with, has_contents}
+use Rattle.store.proofs.RunsLemmas.GoingRead.{with_model}
+use Rattle.store.proofs.RunsLemmas.RunTaken.{goes_with, has_contents}
 use Rattle.store.proofs.CallWaits.{has_not_waited, has_settled}
 use Rattle.store_workers.specs.Alone.{IsAlone}
 use Rattle.store.specs.Calling.{HasStepped, HasWaited, IsCalling}

@@ -1,7 +1,7 @@
 -- The call that was handed over is answered, and so the store is left, once everything is settled, too.
 use Rattle.std.proofs.Common.{◌≡◌, ◌∙◌, ◌<◌, ◌≤◌, ◌⊎◌, inl, inr, ap, length, refl, subst, sym, true, Result, Ok}
 use Rattle.std.proofs.Common.{Err, OnOk, OnErr}
-use Rattle.limits.specs.declared.TheConstants.{MOST_KEPT_COMMITS}
+use Rattle.base.specs.declared.TheConstants.{MOST_KEPT_COMMITS}
 use Rattle.store.specs.Calling.{HasAnswered, Outset, asked_of}
 use Rattle.disk.specs.declared.device.Failed.{Failed}
 use Rattle.txn_law.specs.Core.{CoreState}
@@ -9,7 +9,7 @@ use Rattle.store_images.specs.Opening.{IsSettled, store_of}
 use Rattle.store_workers.specs.Worker.{ctx_of, with_call}
 use Rattle.store_workers.specs.declared.workers.parts.State.{State}
 use Rattle.store.proofs.CallEvents.{settled_answer}
-use Rattle.store_runs.proofs.RunTaken.{goes_with}
+use Rattle.store.proofs.RunsLemmas.RunTaken.{goes_with}
 use Rattle.store.proofs.one_call.procedure.Goals as goal
 
 -- a settling leaves few commits, or a broken log

@@ -1,5 +1,5 @@
 use Rattle.std.proofs.Common.{subst, Ok, Err}
-use Rattle.limits.specs.declared.TheConstants.{SUPER_BLOCK}
+use Rattle.base.specs.declared.TheConstants.{SUPER_BLOCK}
 use Rattle.disk.specs.Device.{Content, HasWritten}
 use Rattle.store_images.proofs.FormatStops.{blanked_stops, first_written}
 use Rattle.store_images.proofs.formatting.blank.Goals as goal

@@ -1,8 +1,8 @@
 use Rattle.std.proofs.Common.{◌≡◌, rules, refl, Some, arith, [], ◌∷◌}
 use Rattle.store_promise.specs.Running.{home_next}
 use Rattle.store_promise.proofs.Later.{past_one}
-use Rattle.wal_law.specs.Calls.{idle, out}
-use Rattle.wal_law.specs.Log.{settled_place}
+use Rattle.circ.specs.Log.Calls.{idle, out}
+use Rattle.circ.specs.Log.Log.{settled_place}
 use Rattle.store_images.proofs.CallsMade.{spends_none, spends_one}
 use Rattle.store_images.proofs.OneCall.{answered, at_rest_is, made_one}
 use Rattle.store_images.proofs.SettlingCalls.{settles_none, settles_one}

@@ -1,6 +1,6 @@
 -- What each call keeps, all of them keep.
 use Rattle.std.proofs.Common.{arith, ◌∙◌, subst, sym}
-use Rattle.wal_law.specs.Recovery.{IsUnspoiled}
+use Rattle.circ.specs.Log.Recovery.{IsUnspoiled}
 use Rattle.store_promise.proofs.Later.{past_more}
 use Rattle.store_images.proofs.opening.install.Goals as goal
 

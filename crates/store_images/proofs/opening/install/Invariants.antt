@@ -2,7 +2,7 @@
 use Rattle.std.proofs.Common.{◌≡◌, ◌<◌, ◌+◌, true, false, if◌then◌else◌}
 use Rattle.disk.specs.Device.{Content, Device}
 use Rattle.txn.specs.CoreLaw.{IsFresh}
-use Rattle.wal_law.specs.Recovery.{IsUnspoiled}
+use Rattle.circ.specs.Log.Recovery.{IsUnspoiled}
 use Rattle.store_promise.specs.Openings.{IsLater}
 use Rattle.store_images.specs.BringingHome.{BringsHome, unused}
 use Rattle.store_images.specs.Settling.{IsQuiet, calls_left}

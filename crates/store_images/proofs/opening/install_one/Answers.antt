@@ -1,10 +1,10 @@
 -- What comes home comes nearer, and a stop leaves what it left.
 use Rattle.std.proofs.Common.{◌∙◌, ap, rules, subst, sym}
 use Rattle.txn_law.specs.Core.{CoreState}
-use Rattle.wal_law.specs.Installer.{is_inst_out, with_inst_back}
-use Rattle.wal_law.specs.Io.{IsCallWithin}
-use Rattle.wal_law.specs.Recovery.{image_of}
-use Rattle.log_seats.proofs.Made.{made_later}
+use Rattle.circ.specs.Log.Installer.{is_inst_out, with_inst_back}
+use Rattle.circ.specs.Log.Io.{IsCallWithin}
+use Rattle.circ.specs.Log.Recovery.{image_of}
+use Rattle.wal_calls.proofs.CallersLemmas.Made.{made_later}
 use Rattle.store_promise.proofs.Later.{past_one}
 use Rattle.store_images.proofs.CallsLeft.{given_back, inst_called}
 use Rattle.store_images.proofs.ComingHome.{called_home, home_stops}

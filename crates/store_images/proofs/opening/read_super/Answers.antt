@@ -1,6 +1,6 @@
 -- What the block that was read shows, the image shows.
 use Rattle.std.proofs.Common.{◌∙◌}
-use Rattle.wal_law.proofs.OnlyRead.{read_alone}
+use Rattle.circ.proofs.LogLemmas.OnlyRead.{read_alone}
 use Rattle.store_images.proofs.Refusing.{refused_by}
 use Rattle.store_images.proofs.opening.read_super.Goals as goal
 

@@ -1,6 +1,6 @@
 -- At each stop of an opening the image has its tree.
 use Rattle.std.proofs.Common.{ap, ap₂, ℕ, arith, ◌≡◌, ◌+◌, ◌∙◌, refl, sym, inl, inr, length, subst}
-use Rattle.limits.specs.declared.TheConstants.{BLOCK_BYTES}
+use Rattle.base.specs.declared.TheConstants.{BLOCK_BYTES}
 use Rattle.disk.specs.Device.{Device}
 use Rattle.layout.specs.declared.geometry.Geometry.{Geometry}
 use Rattle.layout.specs.declared.super_block.Super.{Super}
@@ -9,14 +9,14 @@ use Rattle.layout.specs.Newest.{newest}
 use Rattle.layout.specs.SuperForm.{super_bytes, super_head}
 use Rattle.store_promise.specs.Openings.{IsCauseOf}
 use Rattle.store_promise.specs.declared.fault.OpenFault.TheVariants as fault
-use Rattle.wal_law.proofs.OnlyRead.{unspoiled_then}
+use Rattle.circ.proofs.LogLemmas.OnlyRead.{unspoiled_then}
 use Rattle.store_promise.proofs.Later.{past_none}
 use Rattle.store_images.proofs.Opens.{begins, is_new, is_opened, later_refused, next_boot}
 use Rattle.store_images.proofs.Opens.{none_home, read_refused}
 use Rattle.store_images.proofs.Raising.{raised_keeps}
-use Rattle.wal_law.proofs.OnlyRead.{no_read}
+use Rattle.circ.proofs.LogLemmas.OnlyRead.{no_read}
 use Rattle.txn.specs.Core.{CoreState}
-use Rattle.wal_law.specs.Log.{Log}
+use Rattle.circ.specs.Log.Log.{Log}
 use Rattle.store_images.specs.BringingHome.{BringsHome, HasRaised, KeepsBlocks, next_super, unused}
 use Rattle.store_images.proofs.opening.recover.Goals as goal
 

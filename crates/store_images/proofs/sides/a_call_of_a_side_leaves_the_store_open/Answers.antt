@@ -1,6 +1,6 @@
 use Rattle.std.proofs.Common.{sym}
 use Rattle.disk.specs.declared.block.Side.TheVariants as sides
-use Rattle.wal_law.specs.Calls.{idle}
+use Rattle.circ.specs.Log.Calls.{idle}
 use Rattle.store_images.proofs.sides.a_call_of_a_side_leaves_the_store_open.Goals as goal
 
 pub returns : goal.returns

@@ -1,13 +1,13 @@
 -- By the side: the logger's laws, or the installer's.
 use Rattle.std.proofs.Common.{◌≡◌, ◌∙◌, ap, refl, subst, sym, Some}
 use Rattle.disk.specs.declared.block.Side.TheVariants as sides
-use Rattle.log_seats.proofs.Made.{made_later}
+use Rattle.wal_calls.proofs.CallersLemmas.Made.{made_later}
 use Rattle.store_promise.specs.OpenSince.{IsOpenSince}
 use Rattle.store_promise.specs.Running.{side}
 use Rattle.store_promise.specs.declared.events.Step.TheVariants as step
 use Rattle.store_promise.proofs.Places.{places_home}
 use Rattle.txn_law.specs.Core.{CoreState}
-use Rattle.wal_law.specs.Calls.{Pending, idle, out, was_made}
+use Rattle.circ.specs.Log.Calls.{Pending, idle, out, was_made}
 use Rattle.store_images.proofs.LogMoves.{answer_is, inst_back_is, inst_given, inst_made, inst_taken}
 use Rattle.store_images.proofs.LogMoves.{log_given, log_made, log_taken}
 use Rattle.store_images.proofs.LogSteps.{answered, failed_is, fewer, goes_on, same_core_places, same_transactions}

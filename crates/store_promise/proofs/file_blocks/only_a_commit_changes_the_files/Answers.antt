@@ -1,6 +1,6 @@
 use Rattle.std.proofs.Common.{refl}
 use Rattle.txn_law.specs.Core.{with_inst_call, with_log_call}
-use Rattle.wal_law.specs.Logger.{with_log_back}
+use Rattle.circ.specs.Log.Logger.{with_log_back}
 use Rattle.store_promise.proofs.OpenCommits.{blocks_now}
 use Rattle.store_promise.proofs.OpenInstalls.{blocks_then}
 use Rattle.store_promise.proofs.OpenSteps.{blocks_same, inst_out_same, log_back_same, log_out_same}

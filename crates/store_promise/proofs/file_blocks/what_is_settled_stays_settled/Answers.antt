@@ -1,8 +1,8 @@
 use Rattle.std.proofs.Common.{◌≡◌, ◌≤◌, ◌+◌, ℕ, Bool, true, false, if◌then◌else◌, arith, ◌&&◌, nat_eq, length}
-use Rattle.wal_law.specs.Effects.{is_all_settled}
-use Rattle.wal_law.specs.Log.{settled_place}
-use Rattle.wal_law.proofs.Effects.{seen_inst_done, seen_inst_out, seen_log_done, seen_log_out}
-use Rattle.wal_law.proofs.Ends.{place_le}
+use Rattle.circ.specs.Log.Effects.{is_all_settled}
+use Rattle.circ.specs.Log.Log.{settled_place}
+use Rattle.circ.proofs.LogLemmas.Effects.{seen_inst_done, seen_inst_out, seen_log_done, seen_log_out}
+use Rattle.circ.proofs.LogLemmas.Ends.{place_le}
 use Rattle.store_promise.proofs.file_blocks.what_is_settled_stays_settled.Goals as goal
 
 rises : (t : Bool) (old new places before : ℕ) → new ≡ (if t then places else old) → places ≡ before + 1

@@ -6,14 +6,14 @@ use Rattle.layout.specs.Fresh.{IsFresh}
 use Rattle.layout.specs.Homes.{homes_of}
 use Rattle.layout.specs.Stands.{Stands, geometry_of}
 use Rattle.layout.specs.SuperForm.{IsSuper}
-use Rattle.limits.specs.declared.TheConstants.{ROOT}
-use Rattle.model.specs.Format.{format_tree, format_root}
-use Rattle.model.specs.Node.{Node}
-use Rattle.model.specs.Tree.{node_at}
-use Rattle.model.proofs.Maps.{only_one}
+use Rattle.base.specs.declared.TheConstants.{ROOT}
+use Rattle.nfs_spec.specs.Model.Format.{format_tree, format_root}
+use Rattle.nfs_spec.specs.Model.Node.{Node}
+use Rattle.nfs_spec.specs.Model.Tree.{node_at}
+use Rattle.nfs_spec.proofs.ModelLemmas.Maps.{only_one}
 use Rattle.nfs_types.specs.declared.ctx.Moment.{Moment}
-use Rattle.wal.specs.EightBytes.{number_at}
-use Rattle.wal.specs.Overlay.{start_in, end_in, over}
+use Rattle.circ.specs.Log.EightBytes.{number_at}
+use Rattle.circ.specs.Log.Overlay.{start_in, end_in, over}
 use Rattle.store_promise.proofs.fresh.a_fresh_image_is_good.Goals as goal
 
 module _ (g : Geometry) (moment : Moment) (image : Image) (fresh : IsFresh g moment image) where

@@ -1,5 +1,5 @@
 use Rattle.std.proofs.Common.{sym, subst}
-use Rattle.model.specs.Format.{format_tree}
+use Rattle.nfs_spec.specs.Model.Format.{format_tree}
 use Rattle.layout.specs.Stands.{geometry_of}
 use Rattle.store_promise.specs.GoodImage.{IsGoodImage}
 use Rattle.store_promise.proofs.fresh.a_made_image_may_run.Goals as goal

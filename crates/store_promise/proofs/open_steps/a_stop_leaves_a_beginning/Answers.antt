@@ -4,14 +4,14 @@ use Rattle.std.proofs.lemmas.List.{drop_all, length-drop}
 use Rattle.disk.specs.Crash.{Image}
 use Rattle.disk.specs.Device.{Device}
 use Rattle.layout.specs.Homes.{homes_of}
-use Rattle.model.specs.Entry.{Entry}
-use Rattle.model.specs.Tree.{Tree}
+use Rattle.nfs_spec.specs.Model.Entry.{Entry}
+use Rattle.nfs_spec.specs.Model.Tree.{Tree}
 use Rattle.txn_law.specs.Core.{CoreState}
-use Rattle.wal_law.specs.Calls.{Pending}
-use Rattle.wal_law.specs.Log.{installed_place, settled_place}
-use Rattle.wal_law.specs.Overlay.{over}
-use Rattle.wal_law.proofs.Ends.{place_le}
-use Rattle.procedures.specs.After.{after}
+use Rattle.circ.specs.Log.Calls.{Pending}
+use Rattle.circ.specs.Log.Log.{installed_place, settled_place}
+use Rattle.circ.specs.Log.Overlay.{over}
+use Rattle.circ.proofs.LogLemmas.Ends.{place_le}
+use Rattle.nfs_spec.specs.Procedures.After.{after}
 use Rattle.store_promise.specs.GoodImage.{IsGoodImage}
 use Rattle.store_promise.specs.OpenSince.{IsOpenSince, LeavesBeginning, LeavesBlocks, blocks_after}
 use Rattle.store_promise.specs.OpenStore.{IsBoot, IsSettledOf}

@@ -1,6 +1,6 @@
 use Rattle.std.proofs.Common.{subst, sym}
-use Rattle.wal_law.specs.Calls.{AgreesBeside}
-use Rattle.wal_law.specs.Log.{Log}
+use Rattle.circ.specs.Log.Calls.{AgreesBeside}
+use Rattle.circ.specs.Log.Log.{Log}
 use Rattle.txn_law.specs.HomeRead.{IsReadable}
 use Rattle.store_promise.proofs.OpenSteps.{same_changes, still_open}
 use Rattle.store_promise.proofs.open_steps.a_transaction_leaves_the_store_open.Goals as goal

@@ -6,10 +6,10 @@ use Rattle.std.proofs.lemmas.List.{take-append-le}
 use Rattle.std.specs.Prelude.{Contains}
 use Rattle.disk.specs.Crash.{Image, IsCrashImage}
 use Rattle.disk.specs.Device.{Content, Device, OneLater}
-use Rattle.model.specs.Entry.{Entry}
-use Rattle.procedures.specs.After.{after}
-use Rattle.model.specs.Tree.{Tree}
-use Rattle.wal_law.specs.Log.{settled_place}
+use Rattle.nfs_spec.specs.Model.Entry.{Entry}
+use Rattle.nfs_spec.specs.Procedures.After.{after}
+use Rattle.nfs_spec.specs.Model.Tree.{Tree}
+use Rattle.circ.specs.Log.Log.{settled_place}
 use Rattle.store_promise.specs.OpenSince.{HasKeptFiles, LeavesBeginning}
 use Rattle.store_promise.proofs.open_steps.an_open_store_keeps_its_files.Goals as goal
 

@@ -5,11 +5,11 @@ use Rattle.std.proofs.lemmas.Bool.{eq-eqb}
 use Rattle.disk.specs.Crash.{Image}
 use Rattle.disk.specs.Device.{Device}
 use Rattle.disk.specs.declared.device.Failed.{Failed}
-use Rattle.wal_law.specs.Calls.{IsInstallerAt, home_after}
-use Rattle.wal_law.specs.Calls as pending
-use Rattle.wal_law.specs.Installer.{IsNextInstCall, is_inst_out, with_inst_back, with_inst_out}
-use Rattle.wal_law.specs.Io.{Io}
-use Rattle.wal_law.specs.Log.{Log}
+use Rattle.circ.specs.Log.Calls.{IsInstallerAt, home_after}
+use Rattle.circ.specs.Log.Calls as pending
+use Rattle.circ.specs.Log.Installer.{IsNextInstCall, is_inst_out, with_inst_back, with_inst_out}
+use Rattle.circ.specs.Log.Io.{Io}
+use Rattle.circ.specs.Log.Log.{Log}
 use Rattle.txn_law.specs.Core.{CoreState}
 use Rattle.txn_law.specs.HomeRead.{IsReadable}
 use Rattle.store_promise.specs.OpenSince.{IsSoundCore}

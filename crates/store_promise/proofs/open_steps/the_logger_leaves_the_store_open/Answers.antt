@@ -1,13 +1,13 @@
 use Rattle.std.proofs.Common.{◌≡◌, ap, refl, subst, sym, Bool, true, false, if◌then◌else◌}
 use Rattle.disk.specs.Device.{Device}
-use Rattle.wal_law.specs.Log.{Log}
-use Rattle.wal_law.specs.Logger.{with_log_back, with_log_out}
-use Rattle.wal_law.specs.Logger.{is_log_out}
+use Rattle.circ.specs.Log.Log.{Log}
+use Rattle.circ.specs.Log.Logger.{with_log_back, with_log_out}
+use Rattle.circ.specs.Log.Logger.{is_log_out}
 use Rattle.txn_law.specs.Core.{CoreState}
 use Rattle.txn_law.specs.HomeRead.{IsReadable}
 use Rattle.store_promise.proofs.OpenSteps.{HasSameChanges, log_given_same, log_out_same, same_changes}
 use Rattle.store_promise.proofs.OpenSteps.{still_open}
-use Rattle.wal_law.specs.Calls as pending
+use Rattle.circ.specs.Log.Calls as pending
 use Rattle.store_promise.proofs.open_steps.the_logger_leaves_the_store_open.Goals as goal
 
 readable_back : (d : Device) (log : Log) (installing : pending.Pending) (is_out ok : Bool)

@@ -1,17 +1,17 @@
 -- Its homes under the log are those after a beginning of the commits, its super block is the one at home.
 use Rattle.std.proofs.Common.{◌≡◌, ℕ, ◌-◌, ◌≤◌, inl, sym, refl, subst, arith, List, length, take}
 use Rattle.std.proofs.Common.{drop}
-use Rattle.limits.specs.declared.TheConstants.{SUPER_BLOCK}
+use Rattle.base.specs.declared.TheConstants.{SUPER_BLOCK}
 use Rattle.disk.specs.Crash.{Image}
-use Rattle.model.specs.Entry.{Entry}
-use Rattle.procedures.specs.After.{after}
-use Rattle.model.specs.Tree.{Tree}
+use Rattle.nfs_spec.specs.Model.Entry.{Entry}
+use Rattle.nfs_spec.specs.Procedures.After.{after}
+use Rattle.nfs_spec.specs.Model.Tree.{Tree}
 use Rattle.layout.specs.Homes.{homes_of}
 use Rattle.layout.specs.Stands.{Stands}
 use Rattle.layout.specs.SuperForm.{IsSuper}
-use Rattle.wal_law.specs.Law.{IsBoundary, IsOutside}
-use Rattle.wal_law.specs.Log.{IsLawful, installed_place, settled_place}
-use Rattle.wal_law.specs.Overlay.{over}
+use Rattle.circ.specs.Log.Law.{IsBoundary, IsOutside}
+use Rattle.circ.specs.Log.Log.{IsLawful, installed_place, settled_place}
+use Rattle.circ.specs.Log.Overlay.{over}
 use Rattle.txn_law.specs.Core.{CoreState}
 use Rattle.txn_law.specs.CoreWindow.{held_of}
 use Rattle.txn_law.specs.Window.{after_commits, opening}

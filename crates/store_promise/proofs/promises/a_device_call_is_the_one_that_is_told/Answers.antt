@@ -1,5 +1,5 @@
 use Rattle.std.proofs.Common.{◌+◌, refl, Some}
-use Rattle.wal_law.specs.declared.calls.IoCall.TheVariants.{Barrier, Write}
+use Rattle.circ.specs.declared.log.calls.IoCall.TheVariants.{Barrier, Write}
 use Rattle.store_promise.specs.declared.events.Step.TheVariants as step
 use Rattle.store_promise.specs.Transcript.{device_calls}
 use Rattle.store_promise.proofs.Called.{did, logged, no_more, not_settled}

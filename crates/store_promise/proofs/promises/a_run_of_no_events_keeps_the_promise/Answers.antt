@@ -4,14 +4,14 @@ use Rattle.std.proofs.Common.{refl, subst, ap, sym, take}
 use Rattle.std.proofs.lemmas.Bool.{cases_lt}
 use Rattle.disk.specs.Crash.{Image, IsCrashImage}
 use Rattle.disk.specs.Device.{Device}
-use Rattle.procedures.specs.After.{after}
-use Rattle.model.specs.Tree.{Tree}
+use Rattle.nfs_spec.specs.Procedures.After.{after}
+use Rattle.nfs_spec.specs.Model.Tree.{Tree}
 use Rattle.layout.specs.Homes.{homes_of}
 use Rattle.layout.specs.Newest.{newest}
 use Rattle.layout.specs.Stands.{Stands}
 use Rattle.layout.proofs.NewestVersion.{newest_stands}
-use Rattle.wal.specs.Overlay.{over}
-use Rattle.model.specs.Tree as model
+use Rattle.circ.specs.Log.Overlay.{over}
+use Rattle.nfs_spec.specs.Model.Tree as model
 use Rattle.store_promise.specs.Headline.{IsGeometryOf, LeavesFiles, WasPromised, by_answer, by_commit, by_steps}
 use Rattle.store_promise.specs.GoodImage.{IsGoodImage}
 use Rattle.store_promise.specs.Openings.{IsOpened}

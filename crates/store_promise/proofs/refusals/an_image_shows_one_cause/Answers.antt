@@ -1,5 +1,5 @@
 use Rattle.std.proofs.Common.{◌≡◌, ℕ, ◌<◌, inl, inr, refl, arith}
-use Rattle.limits.specs.declared.TheConstants.{SUPER_BLOCK}
+use Rattle.base.specs.declared.TheConstants.{SUPER_BLOCK}
 use Rattle.disk.specs.Crash.{Image}
 use Rattle.disk.specs.Device.{Content}
 use Rattle.layout.specs.SuperForm.{HasMagic, HasVersion}

@@ -1,6 +1,6 @@
 use Rattle.std.proofs.Common.{◌+◌, ◌≤◌, ap, sym, ◌∙◌, subst, arith, length, length-append}
-use Rattle.wal_law.proofs.Tail.{tail_length}
-use Rattle.wal_law.specs.Log.{blocks_of, new_blocks, tail_blocks}
+use Rattle.circ.proofs.LogLemmas.Tail.{tail_length}
+use Rattle.circ.specs.Log.Log.{blocks_of, new_blocks, tail_blocks}
 use Rattle.txn_law.specs.Core.{CoreState}
 use Rattle.store_promise.specs.ToldOf.{StandsAtHome}
 use Rattle.store_promise.proofs.OpenCommits.{blocks_now}

@@ -1,14 +1,14 @@
 -- Its log begins at the position that each image tells, and has no changes.
 use Rattle.std.proofs.Common.{◌≡◌, ℕ, zero, suc, ◌+◌, ◌-◌, ◌≤◌, ap, sym, ◌∙◌, refl, arith}
 use Rattle.std.proofs.Common.{List, [], length, take, drop}
-use Rattle.limits.specs.declared.TheConstants.{START_BLOCK}
+use Rattle.base.specs.declared.TheConstants.{START_BLOCK}
 use Rattle.disk.specs.Crash.{Image}
 use Rattle.disk.specs.Device.{Device}
-use Rattle.model.specs.Tree.{Tree}
+use Rattle.nfs_spec.specs.Model.Tree.{Tree}
 use Rattle.txn_law.specs.Core.{CoreState}
-use Rattle.wal_law.specs.declared.change.LogChange.{LogChange}
-use Rattle.wal_law.specs.Installer.{next_home, passed_over}
-use Rattle.wal_law.specs.Log.{Log, changed_blocks, installed_place, tail_blocks}
+use Rattle.circ.specs.declared.log.change.LogChange.{LogChange}
+use Rattle.circ.specs.Log.Installer.{next_home, passed_over}
+use Rattle.circ.specs.Log.Log.{Log, changed_blocks, installed_place, tail_blocks}
 use Rattle.store_promise.specs.LogTold.{empty_log, idle}
 use Rattle.layout.specs.Homes.{homes_of}
 use Rattle.txn_law.specs.Window.{Footprint, after_commits, opening}

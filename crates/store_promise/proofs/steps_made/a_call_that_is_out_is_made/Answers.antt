@@ -1,5 +1,5 @@
 use Rattle.std.proofs.Common.{◌≢◌, Bool, Option, Some, None, refl, subst}
-use Rattle.wal_law.specs.declared.calls.IoCall.{IoCall}
+use Rattle.circ.specs.declared.log.calls.IoCall.{IoCall}
 use Rattle.store_promise.specs.declared.events.Step.{Step}
 use Rattle.store_promise.specs.declared.events.Step.TheVariants as step
 use Rattle.store_promise.specs.LogTold.{out}

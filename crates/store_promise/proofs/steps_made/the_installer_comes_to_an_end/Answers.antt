@@ -1,8 +1,8 @@
 use Rattle.std.proofs.Common.{◌≢◌, ◌≤◌, ℕ, Bool, true, false, Some, arith, inl, inr}
-use Rattle.limits.specs.declared.TheConstants.{START_BLOCK}
+use Rattle.base.specs.declared.TheConstants.{START_BLOCK}
 use Rattle.disk.specs.declared.block.BlockNo.{BlockNo}
-use Rattle.wal_law.specs.declared.calls.IoCall.{IoCall}
-use Rattle.wal_law.specs.declared.calls.IoCall.TheVariants.{Write}
+use Rattle.circ.specs.declared.log.calls.IoCall.{IoCall}
+use Rattle.circ.specs.declared.log.calls.IoCall.TheVariants.{Write}
 use Rattle.store_promise.specs.declared.events.Step.TheVariants as step
 use Rattle.store_promise.specs.LogTold.{CallTold, idle, out, was_made, LogTold, may_install_told}
 use Rattle.store_promise.specs.NextCall.{IsNextOfInstalling, taken_home}

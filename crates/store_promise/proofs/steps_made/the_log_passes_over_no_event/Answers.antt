@@ -1,6 +1,6 @@
 -- Where no call is out and one is to be had, the step takes it.
 use Rattle.std.proofs.Common.{◌≡◌, Bool, true, false, None}
-use Rattle.wal_law.specs.declared.calls.IoCall.{IoCall}
+use Rattle.circ.specs.declared.log.calls.IoCall.{IoCall}
 use Rattle.store_promise.specs.LogTold.{CallTold, idle, out, was_made, LogTold, may_install_told, may_log_told}
 use Rattle.store_promise.specs.NextCall.{IsNextOfInstalling, next_log_call}
 use Rattle.store_promise.specs.Schedule.{IsNextOfInstaller, IsNextOfLog, IsStepOfInstaller, IsStepOfLog}

@@ -1,5 +1,5 @@
 use Rattle.std.proofs.Common.{◌≡◌, Bool, true, false, Some}
-use Rattle.wal_law.specs.declared.calls.IoCall.{IoCall}
+use Rattle.circ.specs.declared.log.calls.IoCall.{IoCall}
 use Rattle.store_promise.specs.declared.events.Step.TheVariants as step
 use Rattle.store_promise.specs.LogTold.{CallTold, idle, out, was_made, LogTold, may_log_told}
 use Rattle.store_promise.specs.NextCall.{next_log_call}

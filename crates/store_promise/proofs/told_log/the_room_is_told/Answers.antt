@@ -1,7 +1,7 @@
 use Rattle.std.proofs.Common.{ℕ, ◌+◌, ap}
-use Rattle.wal_law.specs.Log.{added_blocks}
+use Rattle.circ.specs.Log.Log.{added_blocks}
 use Rattle.store_promise.proofs.ToldLog.{numbers_are}
-use Rattle.wal_law.proofs.Tail.{tail_length}
+use Rattle.circ.proofs.LogLemmas.Tail.{tail_length}
 use Rattle.store_promise.proofs.told_log.the_room_is_told.Goals as goal
 
 pub returns-clause-numbers : goal.returns-clause-numbers

@@ -1,5 +1,5 @@
 use Rattle.std.proofs.Common.{◌∙◌, sym, ap, arith}
-use Rattle.limits.specs.declared.TheConstants.{INDIRECT_INDEXES}
+use Rattle.base.specs.declared.TheConstants.{INDIRECT_INDEXES}
 use Rattle.layout.specs.Fields.{four_at}
 use Rattle.layout.proofs.NumbersAt.{number_at}
 use Rattle.layout.proofs.numbers.Numbers.at.Goals as goal

@@ -1,5 +1,5 @@
 use Rattle.std.proofs.Common.{◌≡◌, ◌<◌, ◌≤◌, ◌^◌, List, ℕ, refl, arith}
-use Rattle.limits.specs.declared.TheConstants.{INDIRECT_INDEXES}
+use Rattle.base.specs.declared.TheConstants.{INDIRECT_INDEXES}
 use Rattle.objects.proofs.NumbersAt.{numbers-length}
 use Rattle.layout.specs.Fields.{numbers_at}
 use Rattle.layout.specs.Geometry.{data_at}

@@ -1,6 +1,6 @@
 use Rattle.std.proofs.Common.{arith, ap, length, vec_len, refl, ◌∙◌, ◌≡◌, ◌++◌, ◌≤◌, ℕ, List}
 use Rattle.std.proofs.lemmas.List.{take_all}
-use Rattle.limits.specs.declared.TheConstants.{BLOCK_BYTES}
+use Rattle.base.specs.declared.TheConstants.{BLOCK_BYTES}
 use Rattle.layout.specs.SuperForm.{super_head}
 use Rattle.layout.proofs.super_block.Super.write.Goals as goal
 

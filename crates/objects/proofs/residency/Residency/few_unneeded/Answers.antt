@@ -1,5 +1,5 @@
 use Rattle.std.proofs.Common.{◌<◌, ◌*◌, length, subst, arith}
-use Rattle.limits.specs.declared.TheConstants.{CLEAN_BLOCKS}
+use Rattle.base.specs.declared.TheConstants.{CLEAN_BLOCKS}
 use Rattle.objects.specs.Pins.{Residents, count_in}
 use Rattle.objects.specs.Unneeded.{unneeded}
 use Rattle.objects.proofs.Noted.{unneeded_noted}

@@ -3,12 +3,12 @@ use Rattle.std.proofs.lemmas.List.Quantifiers.{position-Some}
 use Rattle.std.specs.List.{find}
 use Rattle.std.specs.Option.{option_map}
 use Rattle.nfs_types.specs.declared.entries.ListedEntry.{ListedEntry}
-use Rattle.model.specs.Node.{DirectoryEntry}
-use Rattle.procedures.proofs.Tests.{equal}
-use Rattle.procedures.specs.Listing.{listed_in}
-use Rattle.procedures.specs.declared.cookies.TheConstants.{FIRST_SLOT_COOKIE}
-use Rattle.plain_server.specs.Plain.{body_of}
-use Rattle.plain_server.specs.declared.names.PlainEntry.{PlainEntry}
+use Rattle.nfs_spec.specs.Model.Node.{DirectoryEntry}
+use Rattle.nfs_spec.proofs.ProceduresLemmas.Tests.{equal}
+use Rattle.nfs_spec.specs.Procedures.Listing.{listed_in}
+use Rattle.nfs_spec.specs.declared.procedures.cookies.TheConstants.{FIRST_SLOT_COOKIE}
+use Rattle.plain_tree.specs.Tree.Plain.{body_of}
+use Rattle.plain_tree.specs.declared.tree.names.PlainEntry.{PlainEntry}
 use Rattle.plain_steps.proofs.SlotsOf.{found_slot, lies, no_slot}
 use Rattle.plain_steps.proofs.tree_files.listing.name_in.Goals as goal
 

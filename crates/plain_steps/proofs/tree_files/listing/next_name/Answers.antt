@@ -1,6 +1,6 @@
 use Rattle.std.proofs.Common.{◌≡◌, ◌∙◌, ◌+◌, ◌<◌, ◌≤◌, ap, sym, subst, arith, suc, ◌∷◌}
-use Rattle.plain_server.specs.Plain.{body_of}
-use Rattle.files.specs.Heads.{listed_from, listing_of}
+use Rattle.plain_tree.specs.Tree.Plain.{body_of}
+use Rattle.procs_files.specs.Heads.{listed_from, listing_of}
 use Rattle.plain_steps.specs.Slots.{count_slots}
 use Rattle.plain_steps.proofs.Listed.{ends, finds, skips}
 use Rattle.plain_steps.proofs.tree_files.listing.next_name.Goals as goal

@@ -1,6 +1,6 @@
 use Rattle.std.proofs.Common.{◌-◌, ◌≡◌, ◌≤◌}
-use Rattle.plain_server.specs.Plain.{body_of}
-use Rattle.files.specs.Heads.{listed_from}
+use Rattle.plain_tree.specs.Tree.Plain.{body_of}
+use Rattle.procs_files.specs.Heads.{listed_from}
 use Rattle.plain_steps.proofs.tree_files.listing.next_name.Given as goal
 
 abbrev pub invariant-slots : goal.invariant-slots

@@ -1,7 +1,7 @@
 use Rattle.std.proofs.Common.{sym, ap, ◌∙◌, Option, Some, None, IfNone}
 use Rattle.std.specs.Option.{option_map}
-use Rattle.plain_server.proofs.Found.{absent, first_of}
-use Rattle.plain_server.specs.Plain.{node_of}
+use Rattle.plain_tree.proofs.TreeLemmas.Found.{absent, first_of}
+use Rattle.plain_tree.specs.Tree.Plain.{node_of}
 use Rattle.plain_steps.proofs.tree_files.nodes.file_at.Goals as goal
 
 if_none : {A : Type 0} (o : Option A) (P : Type 0) → P → IfNone o P

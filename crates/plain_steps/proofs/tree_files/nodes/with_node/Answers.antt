@@ -1,5 +1,5 @@
 use Rattle.std.proofs.Common.{ap, ◌∙◌}
-use Rattle.plain_server.specs.declared.tree.NumberedNode.{NumberedNode}
+use Rattle.plain_tree.specs.declared.tree.tree.NumberedNode.{NumberedNode}
 use Rattle.plain_steps.specs.Numbered.{files_of}
 use Rattle.plain_steps.proofs.OneChange.{files_with}
 use Rattle.plain_steps.proofs.tree_files.nodes.with_node.Goals as goal

@@ -1,6 +1,6 @@
 use Rattle.std.proofs.Common.{sym, ap, ◌∙◌, is_none}
-use Rattle.model.specs.Tree.{node_at}
-use Rattle.plain_server.specs.Plain.{tree_of}
+use Rattle.nfs_spec.specs.Model.Tree.{node_at}
+use Rattle.plain_tree.specs.Tree.Plain.{tree_of}
 use Rattle.plain_steps.proofs.Numbered.{got_none, is_got}
 use Rattle.plain_steps.proofs.Ranges.{some_there}
 use Rattle.plain_steps.proofs.tree_files.numbers.is_unused.Goals as goal

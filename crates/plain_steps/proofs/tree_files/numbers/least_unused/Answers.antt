@@ -1,6 +1,6 @@
 use Rattle.std.proofs.Common.{sym, ◌∙◌, is_none, ◌≤◌, rules, Some, None}
-use Rattle.model.specs.Tree.{node_at}
-use Rattle.plain_server.specs.Plain.{tree_of}
+use Rattle.nfs_spec.specs.Model.Tree.{node_at}
+use Rattle.plain_tree.specs.Tree.Plain.{tree_of}
 use Rattle.plain_steps.proofs.Ranges.{fails, least_is_new, none_behind, passes}
 use Rattle.plain_steps.proofs.tree_files.numbers.least_unused.Goals as goal
 

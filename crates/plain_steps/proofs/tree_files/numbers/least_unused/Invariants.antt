@@ -1,6 +1,6 @@
 use Rattle.std.proofs.Common.{◌≡◌, ◌-◌, is_none}
-use Rattle.model.specs.Tree.{node_at}
-use Rattle.plain_server.specs.Plain.{tree_of}
+use Rattle.nfs_spec.specs.Model.Tree.{node_at}
+use Rattle.plain_tree.specs.Tree.Plain.{tree_of}
 use Rattle.plain_steps.proofs.Ranges.{first_in}
 use Rattle.plain_steps.specs.Numbered.{least_unused}
 use Rattle.plain_steps.proofs.tree_files.numbers.least_unused.Given as goal

@@ -1,7 +1,7 @@
 use Rattle.std.proofs.Common.{sym, ap, ◌∙◌, nat_eq}
 use Rattle.std.specs.List.{list_any}
-use Rattle.plain_server.specs.Plain.{body_of}
-use Rattle.procedures.specs.Places.{is_taken_slot}
+use Rattle.plain_tree.specs.Tree.Plain.{body_of}
+use Rattle.nfs_spec.specs.Procedures.Places.{is_taken_slot}
 use Rattle.plain_steps.proofs.Ranges.{any_slot}
 use Rattle.plain_steps.proofs.tree_files.slots.is_taken_slot.Goals as goal
 

@@ -1,6 +1,6 @@
 use Rattle.std.proofs.Common.{sym, ap, ◌∙◌, not, ◌≤◌, rules}
-use Rattle.plain_server.specs.Plain.{body_of}
-use Rattle.procedures.specs.Places.{is_taken_slot}
+use Rattle.plain_tree.specs.Tree.Plain.{body_of}
+use Rattle.nfs_spec.specs.Procedures.Places.{is_taken_slot}
 use Rattle.plain_steps.proofs.Ranges.{fails, none_behind, passes}
 use Rattle.plain_steps.proofs.tree_files.slots.least_free_slot.Goals as goal
 

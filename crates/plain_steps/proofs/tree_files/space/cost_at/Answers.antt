@@ -1,8 +1,8 @@
 use Rattle.std.proofs.Common.{sym, ap, ◌∙◌}
-use Rattle.model.specs.Cost.{cost}
-use Rattle.model.specs.Tree.{cost_at}
-use Rattle.plain_server.specs.Plain.{body_of}
-use Rattle.plain_server.specs.declared.tree.NumberedNode.{NumberedNode}
+use Rattle.nfs_spec.specs.Model.Cost.{cost}
+use Rattle.nfs_spec.specs.Model.Tree.{cost_at}
+use Rattle.plain_tree.specs.Tree.Plain.{body_of}
+use Rattle.plain_tree.specs.declared.tree.tree.NumberedNode.{NumberedNode}
 use Rattle.plain_steps.proofs.Numbered.{got_none, got_some}
 use Rattle.plain_steps.proofs.tree_files.space.cost_at.Goals as goal
 

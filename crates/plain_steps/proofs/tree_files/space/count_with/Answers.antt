@@ -1,5 +1,5 @@
 use Rattle.std.proofs.Common.{◌+◌, sym, ap, ◌∙◌, drop, position, nat_eq, true, false, is_some}
-use Rattle.plain_server.specs.declared.tree.NumberedNode.{NumberedNode}
+use Rattle.plain_tree.specs.declared.tree.tree.NumberedNode.{NumberedNode}
 use Rattle.plain_steps.proofs.Numbered.{count_known, got_none, is_got}
 use Rattle.plain_steps.proofs.tree_files.space.count_with.Goals as goal
 

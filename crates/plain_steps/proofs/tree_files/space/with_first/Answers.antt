@@ -1,9 +1,9 @@
 use Rattle.std.proofs.Common.{◌≡◌, ◌+◌, ap, ◌∙◌, drop, arith}
 use Rattle.std.specs.FinMap as map
-use Rattle.model.specs.Cost.{cost}
-use Rattle.model.specs.Tree.{cost_at}
-use Rattle.plain_server.specs.Plain.{body_of}
-use Rattle.plain_server.specs.declared.tree.NumberedNode.{NumberedNode}
+use Rattle.nfs_spec.specs.Model.Cost.{cost}
+use Rattle.nfs_spec.specs.Model.Tree.{cost_at}
+use Rattle.plain_tree.specs.Tree.Plain.{body_of}
+use Rattle.plain_tree.specs.declared.tree.tree.NumberedNode.{NumberedNode}
 use Rattle.plain_steps.specs.Numbered.{files_of}
 use Rattle.plain_steps.proofs.Numbered as listed
 use Rattle.plain_steps.proofs.tree_files.space.with_first.Goals as goal

@@ -1,8 +1,8 @@
 use Rattle.std.proofs.Common.{◌≡◌, ◌≤◌, ◌+◌, ◌-◌, ◌/◌, suc, ap, ◌∙◌, arith}
 use Rattle.std.specs.FinSet.{insert}
 use Rattle.std.specs.List.{range_with_len}
-use Rattle.limits.specs.declared.TheConstants.{BLOCK_BYTES}
-use Rattle.procedures.specs.Write.{mapped_with}
+use Rattle.base.specs.declared.TheConstants.{BLOCK_BYTES}
+use Rattle.nfs_spec.specs.Procedures.Write.{mapped_with}
 use Rattle.plain_steps.proofs.Touched.{mapped_more}
 use Rattle.plain_steps.proofs.tree_files.writing.with_touched.Goals as goal
 

@@ -1,6 +1,6 @@
 use Rattle.std.proofs.Common.{◌≡◌, ◌-◌}
 use Rattle.std.specs.List.{range_with_len}
-use Rattle.procedures.specs.Write.{mapped_with}
+use Rattle.nfs_spec.specs.Procedures.Write.{mapped_with}
 use Rattle.plain_steps.proofs.tree_files.writing.with_touched.Given as goal
 
 abbrev pub invariant-indexes : goal.invariant-indexes

@@ -1,6 +1,6 @@
 use Rattle.std.proofs.Common.{◌≡◌, Bool, true, ◌≤◌, ◌∙◌, ℕ, if◌then◌else◌, ap, sym, subst, List, nat_lt, arith, length}
 use Rattle.wal.specs.Sides.{call_comes_back, is_out, with_back}
-use Rattle.wal_law.specs.Log.{Log, installed_place}
+use Rattle.circ.specs.Log.Log.{Log, installed_place}
 use Rattle.objects.specs.Pins.{Residents, Unpins, pins_of}
 use Rattle.objects.proofs.Wanted.{spared_all}
 use Rattle.objects.specs.declared.present.Present.{Present}

@@ -1,5 +1,5 @@
 use Rattle.std.proofs.Common.{◌≡◌, ◌<◌, ◌*◌, List, length, ap, arith, subst}
-use Rattle.limits.specs.declared.TheConstants.{CLEAN_BLOCKS}
+use Rattle.base.specs.declared.TheConstants.{CLEAN_BLOCKS}
 use Rattle.objects.specs.Pins.{pins_of}
 use Rattle.objects.specs.declared.present.Present.{Present}
 use Rattle.txn_law.specs.Core.{CoreState}

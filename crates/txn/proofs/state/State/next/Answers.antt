@@ -1,6 +1,6 @@
 use Rattle.std.proofs.Common.{◌≡◌, ◌≤◌, ◌∙◌, ap, arith, rules}
 use Rattle.wal.specs.Sides.{with_out}
-use Rattle.wal_law.specs.Log.{Log, installed_place}
+use Rattle.circ.specs.Log.Log.{Log, installed_place}
 use Rattle.txn.proofs.Neat.{neat_on}
 use Rattle.txn.proofs.Sides.{call_place}
 use Rattle.txn.proofs.state.State.next.Goals as goal

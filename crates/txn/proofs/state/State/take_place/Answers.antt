@@ -1,13 +1,13 @@
 use Rattle.std.proofs.Common.{◌≡◌, ◌<◌, ◌+◌, ℕ, if◌then◌else◌, nat_lt, All, length, rules, ap, subst, sym, ◌∙◌, List, [], ◌∷◌, ◌++◌}
 use Rattle.std.proofs.Common.{arith}
 use Rattle.std.proofs.lemmas.List.Elements.{All-map, All-weaker}
-use Rattle.wal_law.specs.Calls.{KeepsAgreement}
-use Rattle.wal_law.specs.Effects.{HasAppended}
-use Rattle.wal_law.specs.Grows.{GrowsBy}
+use Rattle.circ.specs.Log.Calls.{KeepsAgreement}
+use Rattle.circ.specs.Log.Effects.{HasAppended}
+use Rattle.circ.specs.Log.Grows.{GrowsBy}
 use Rattle.txn_law.specs.Group.{IsLaid}
 use Rattle.objects.specs.Object.{ObjectBytes}
 use Rattle.objects.specs.Pins.{Residents, pins_of}
-use Rattle.wal_law.specs.Log.{AreOnce, Log, installed_place}
+use Rattle.circ.specs.Log.Log.{AreOnce, Log, installed_place}
 use Rattle.txn_law.proofs.Once.{once_of}
 use Rattle.disk.specs.Device.{Content}
 use Rattle.disk.specs.declared.block.BlockNo.{BlockNo}

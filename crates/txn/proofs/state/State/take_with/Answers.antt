@@ -7,7 +7,7 @@ use Rattle.objects.specs.Pins.{Residents, PinsStay, once_at, pins_of}
 use Rattle.objects.specs.Present.{present_of, without_block}
 use Rattle.objects.specs.declared.present.Present.{Present}
 use Rattle.objects.proofs.Kept.{back_as_before}
-use Rattle.wal_law.specs.Log.{newest}
+use Rattle.circ.specs.Log.Log.{newest}
 use Rattle.objects.proofs.Wanted.{once_here}
 use Rattle.txn.proofs.Counted.{held_some}
 use Rattle.txn.proofs.Neat.{neat_stay, neat_brought}

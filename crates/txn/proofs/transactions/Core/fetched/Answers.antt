@@ -8,7 +8,7 @@ use Rattle.txn_law.specs.CoreWindow.{IsPending}
 use Rattle.txn_law.proofs.Homes.{fetched_home, pending_is_home}
 use Rattle.std.proofs.Common.{◌∙◌}
 use Rattle.disk.specs.Device.{Device, current, newest as newest_content}
-use Rattle.wal_law.specs.Calls.{AgreesBeside, Pending}
+use Rattle.circ.specs.Log.Calls.{AgreesBeside, Pending}
 use Rattle.txn_law.specs.HomeRead.{IsReadable, HasContents}
 use Rattle.txn_law.proofs.HeldReads.{reads_fetched}
 use Rattle.txn_law.specs.Leaves.{HasFetched}

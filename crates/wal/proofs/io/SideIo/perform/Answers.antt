@@ -1,6 +1,6 @@
 use Rattle.std.proofs.Common.{subst}
 use Rattle.disk.specs.Device.{Content}
-use Rattle.wal_law.specs.Io.{Io, HasMade, HasMadeCall}
+use Rattle.circ.specs.Log.Io.{Io, HasMade, HasMadeCall}
 use Rattle.wal.proofs.Sides.{is_made}
 use Rattle.wal.proofs.io.SideIo.perform.Goals as goal
 

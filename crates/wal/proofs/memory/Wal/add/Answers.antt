@@ -1,11 +1,11 @@
 use Rattle.std.proofs.Common.{◌≡◌, ◌≤◌, List, ap, ◌∙◌, arith, subst, sym, All}
-use Rattle.limits.specs.declared.TheConstants.{LOG_SLOTS}
+use Rattle.base.specs.declared.TheConstants.{LOG_SLOTS}
 use Rattle.disk.specs.Device.{Content}
 use Rattle.disk.specs.declared.block.BlockNo.{BlockNo}
-use Rattle.wal_law.specs.Log.{Log, added_blocks, blocks_of, tail_after, IsHomeOn}
-use Rattle.wal_law.specs.Room.{HasPlaces}
+use Rattle.circ.specs.Log.Log.{Log, added_blocks, blocks_of, tail_after, IsHomeOn}
+use Rattle.circ.specs.Log.Room.{HasPlaces}
 use Rattle.wal.specs.View.{log_of}
-use Rattle.wal_law.proofs.Lawful.{lawful_with_group}
+use Rattle.circ.proofs.LogLemmas.Lawful.{lawful_with_group}
 use Rattle.wal.proofs.memory.Wal.add.Goals as goal
 
 pub invariant_of-self : goal.invariant_of-self

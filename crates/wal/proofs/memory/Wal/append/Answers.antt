@@ -1,10 +1,10 @@
 use Rattle.std.proofs.Common.{sym, subst}
-use Rattle.wal_law.specs.Log.{Log}
-use Rattle.wal_law.specs.Effects.{HasAppended}
-use Rattle.wal_law.specs.Grows.{GrowsBy, StandsStill}
-use Rattle.wal_law.proofs.Effects.{seen_append}
-use Rattle.wal_law.proofs.Absorption.{grows}
-use Rattle.wal_law.proofs.Beside.{appended, still_with_group}
+use Rattle.circ.specs.Log.Log.{Log}
+use Rattle.circ.specs.Log.Effects.{HasAppended}
+use Rattle.circ.specs.Log.Grows.{GrowsBy, StandsStill}
+use Rattle.circ.proofs.LogLemmas.Effects.{seen_append}
+use Rattle.circ.proofs.LogLemmas.Absorption.{grows}
+use Rattle.circ.proofs.LogLemmas.Beside.{appended, still_with_group}
 use Rattle.wal.proofs.memory.Wal.append.Goals as goal
 
 pub returns-clause-seen : goal.returns-clause-seen

@@ -1,6 +1,6 @@
 use Rattle.std.proofs.Common.{sym, subst}
-use Rattle.wal_law.specs.Log.{Log}
-use Rattle.wal_law.specs.Effects.{HasGoneOn}
+use Rattle.circ.specs.Log.Log.{Log}
+use Rattle.circ.specs.Log.Effects.{HasGoneOn}
 use Rattle.wal.specs.Sides.{is_out}
 use Rattle.wal.proofs.Sides.{comes_back, seen_done}
 use Rattle.wal.proofs.memory.Wal.done.Goals as goal

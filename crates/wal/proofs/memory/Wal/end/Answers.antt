@@ -1,7 +1,7 @@
 use Rattle.std.proofs.Common.{◌≡◌, ◌∙◌, false, ap, subst}
 use Rattle.disk.specs.declared.block.Side.{Side}
-use Rattle.wal_law.specs.Log.{Log}
-use Rattle.wal_law.proofs.Lawful.{lawful_installed}
+use Rattle.circ.specs.Log.Log.{Log}
+use Rattle.circ.proofs.LogLemmas.Lawful.{lawful_installed}
 use Rattle.wal.specs.BySide.{out_of}
 use Rattle.wal.specs.View.{log_of}
 use Rattle.wal.proofs.Stages.{lawful_group_ended}

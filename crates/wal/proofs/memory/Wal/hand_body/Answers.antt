@@ -1,9 +1,9 @@
 use Rattle.std.proofs.Common.{◌≡◌, ◌∙◌, ◌+◌, ℕ, List, ap, arith, get_or, subst}
 use Rattle.std.proofs.lemmas.Option.{get_or_from_slice_get}
 use Rattle.disk.specs.declared.block.Side.TheVariants.{Log as LogSide, Home}
-use Rattle.wal_law.specs.declared.change.LogChange.{LogChange}
-use Rattle.wal_law.specs.Log.{Log, log_end}
-use Rattle.wal_law.specs.Logger.{slot_block}
+use Rattle.circ.specs.declared.log.change.LogChange.{LogChange}
+use Rattle.circ.specs.Log.Log.{Log, log_end}
+use Rattle.circ.specs.Log.Logger.{slot_block}
 use Rattle.wal.specs.BySide.{IsBody}
 use Rattle.wal.specs.View.{log_of}
 use Rattle.wal.proofs.memory.Wal.hand_body.Goals as goal

@@ -1,9 +1,9 @@
 -- By the stage of the side's batch: the write of a block, the write that tells of them, or a barrier.
 use Rattle.std.proofs.Common.{◌≡◌, ◌<◌, ◌+◌, ◌∙◌, ℕ, ap, arith, inl, inr, subst, sym}
 use Rattle.disk.specs.Device.{Content}
-use Rattle.wal_law.specs.Io.{Io}
-use Rattle.wal_law.specs.declared.calls.IoCall.{IoCall}
-use Rattle.wal_law.specs.Log.{Log}
+use Rattle.circ.specs.Log.Io.{Io}
+use Rattle.circ.specs.declared.log.calls.IoCall.{IoCall}
+use Rattle.circ.specs.Log.Log.{Log}
 use Rattle.wal.specs.Batch.{IsStageOf, step_at}
 use Rattle.wal.specs.BySide.{IsBody, IsTelling, ahead_of, step_of, taken_by}
 use Rattle.wal.specs.Sides.{IsNextCall}

@@ -1,6 +1,6 @@
 use Rattle.std.proofs.Common.{◌≡◌, ap, length, arith}
-use Rattle.log_changes.specs.Listed.{Listed}
-use Rattle.wal_law.proofs.Lawful.{lawful_opened, length-changes_of}
+use Rattle.wal.specs.Changes.Listed.{Listed}
+use Rattle.circ.proofs.LogLemmas.Lawful.{lawful_opened, length-changes_of}
 use Rattle.wal.proofs.memory.Wal.new.Goals as goal
 
 pub invariant_of-result : goal.invariant_of-result

@@ -1,5 +1,5 @@
 use Rattle.wal.specs.Sides.{with_out}
-use Rattle.wal_law.proofs.Effects.{seen_next}
+use Rattle.circ.proofs.LogLemmas.Effects.{seen_next}
 use Rattle.wal.proofs.Sides.{goes_out, seen_out}
 use Rattle.wal.proofs.memory.Wal.next.Goals as goal
 

@@ -1,6 +1,6 @@
 -- what is counted and what the rest adds are as many as all add
 use Rattle.std.proofs.Common.{◌≡◌, ◌≤◌, ◌+◌, drop, length}
-use Rattle.wal_law.specs.Log.{blocks_of, changed_blocks, new_blocks}
+use Rattle.circ.specs.Log.Log.{blocks_of, changed_blocks, new_blocks}
 use Rattle.wal.proofs.memory.append.count_new.Given as goal
 
 abbrev pub invariant-loop-change : goal.invariant-loop-change

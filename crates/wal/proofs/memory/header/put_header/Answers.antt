@@ -2,11 +2,11 @@ use Rattle.std.proofs.Common.{◌≡◌, ℕ, ◌+◌, ◌*◌, ◌%◌, ◌<◌
 use Rattle.std.proofs.Common.{ap, ◌∙◌, arith, below_more}
 use Rattle.std.proofs.lemmas.List.{length-replicate, length-take-le}
 use Rattle.std.proofs.lemmas.Option.{get_or_from_slice_get}
-use Rattle.limits.specs.declared.TheConstants.{LOG_SLOTS, BLOCK_BYTES}
-use Rattle.wal_law.specs.declared.change.LogChange.{LogChange}
-use Rattle.wal_law.specs.EightBytes.{number_at, with_number}
-use Rattle.wal_law.proofs.Lists.{within-take, slice_get-take}
-use Rattle.wal_law.proofs.EightBytes.{length-with_number, number_at-same, number_at-before, address_at-other}
+use Rattle.base.specs.declared.TheConstants.{LOG_SLOTS, BLOCK_BYTES}
+use Rattle.circ.specs.declared.log.change.LogChange.{LogChange}
+use Rattle.circ.specs.Log.EightBytes.{number_at, with_number}
+use Rattle.circ.proofs.LogLemmas.Lists.{within-take, slice_get-take}
+use Rattle.circ.proofs.LogLemmas.EightBytes.{length-with_number, number_at-same, number_at-before, address_at-other}
 use Rattle.wal.proofs.memory.header.put_header.Goals as goal
 
 pub loop-i-init : goal.loop-i-init

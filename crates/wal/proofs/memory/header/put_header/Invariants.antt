@@ -1,7 +1,7 @@
 use Rattle.std.proofs.Common.{◌≡◌, ℕ, ◌+◌, ◌*◌, ◌%◌, ◌<◌, length, slice_get, Some}
-use Rattle.limits.specs.declared.TheConstants.{LOG_SLOTS, BLOCK_BYTES}
-use Rattle.wal_law.specs.declared.change.LogChange.{LogChange}
-use Rattle.wal_law.specs.EightBytes.{number_at}
+use Rattle.base.specs.declared.TheConstants.{LOG_SLOTS, BLOCK_BYTES}
+use Rattle.circ.specs.declared.log.change.LogChange.{LogChange}
+use Rattle.circ.specs.Log.EightBytes.{number_at}
 use Rattle.wal.proofs.memory.header.put_header.Given as goal
 
 abbrev pub invariant-loop-i : goal.invariant-loop-i

@@ -1,7 +1,7 @@
 -- those so far are whole
 use Rattle.std.proofs.Common.{ℕ, ◌<◌, slice_index_or}
-use Rattle.wal_law.specs.declared.change.LogChange.{LogChange}
-use Rattle.wal_law.specs.Grows.{IsWholeChange}
+use Rattle.circ.specs.declared.log.change.LogChange.{LogChange}
+use Rattle.circ.specs.Log.Grows.{IsWholeChange}
 use Rattle.wal.proofs.memory.search.are_whole.Given as goal
 
 abbrev pub invariant-loop-i : goal.invariant-loop-i

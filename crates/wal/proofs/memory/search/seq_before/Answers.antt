@@ -1,5 +1,5 @@
 use Rattle.std.proofs.Common.{arith, sym, ◌∙◌}
-use Rattle.wal_law.proofs.Newest.{place_before-drop, place_before-all}
+use Rattle.circ.proofs.LogLemmas.Newest.{place_before-drop, place_before-all}
 use Rattle.wal.proofs.memory.search.seq_before.Goals as goal
 
 pub returns-then-index-len : goal.returns-then-index-len

@@ -1,6 +1,6 @@
 use Rattle.std.proofs.Common.{ap, ◌∙◌}
-use Rattle.procedures.specs.Places.{least_free_slot}
-use Rattle.plain_server.specs.Plain.{numbered, tree_of}
+use Rattle.nfs_spec.specs.Procedures.Places.{least_free_slot}
+use Rattle.plain_tree.specs.Tree.Plain.{numbered, tree_of}
 use Rattle.plain_steps.proofs.Bodies.{file_body, file_there}
 use Rattle.plain_steps.proofs.tree_files.changing.PlainFilesChangingFiles.free_slot.Goals as goal
 

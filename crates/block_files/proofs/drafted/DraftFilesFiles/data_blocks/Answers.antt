@@ -1,8 +1,0 @@
-use Rattle.drafts.specs.Drafted.{image_of}
-use Rattle.block_files.proofs.Drafts.{reads}
-use Rattle.block_files.proofs.drafted.DraftFilesFiles.data_blocks.Goals as goal
-
-pub returns : goal.returns
-returns c = λ blocks tree draft.
-    c.data_blocks.ensures (image_of blocks c.args.self.now.draft) tree
-    (reads c.args.self.now.draft c.now.result.snap.now blocks tree c.now.ensures.there draft)

@@ -1,7 +1,0 @@
-use Rattle.std.proofs.Common.{ℕ, ◌<◌, get_or, length, None}
-use Rattle.file_counts.specs.Linked.{IsLinked}
-use Rattle.file_counts.proofs.links.each_is_linked.Given as goal
-
-abbrev pub invariant-numbers : goal.invariant-numbers
-invariant-numbers l = (number : ℕ) → number < l.number
-    → IsLinked (length l.table) l.links number (get_or l.table number None)

@@ -1,9 +1,0 @@
-use Rattle.std.proofs.Common.{◌≡◌, ℕ, ◌<◌, get_or, None, true}
-use Rattle.limits.specs.declared.TheConstants.{ROOT}
-use Rattle.tallies.specs.Led.{in_list}
-use Rattle.file_counts.specs.Linked.{is_directory_in}
-use Rattle.file_counts.proofs.reached.all_lead_to_root.Given as goal
-
-abbrev pub invariant-numbers : goal.invariant-numbers
-invariant-numbers l = (number : ℕ) → number < l.number → is_directory_in (get_or l.table number None) ≡ true
-    → in_list l.far number ≡ ROOT

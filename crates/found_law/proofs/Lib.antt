@@ -1,6 +1,0 @@
-pub mod Below
-pub mod Counting
-pub mod Facts
-pub mod Linked
-pub mod Whole
-mod Sums

@@ -1,0 +1,4 @@
+pub mod BodiesLemmas
+pub mod NamesLemmas
+pub mod FoundLemmas
+pub mod LinesLemmas

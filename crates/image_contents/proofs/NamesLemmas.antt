@@ -1,0 +1,5 @@
+pub mod Apart
+pub mod Directory
+pub mod Entries
+pub mod Lawful
+pub mod Once

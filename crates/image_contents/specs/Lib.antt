@@ -1,0 +1,4 @@
+pub mod Bodies
+pub mod Names
+pub mod Found
+pub mod Lines

@@ -1,0 +1,10 @@
+//! The files of an image, gone through one after another: what each shows by itself, and what is counted of all.
+
+mod bodies;
+mod found;
+mod inner;
+mod progress;
+
+pub use bodies::look_at_files;
+pub use found::Found;
+pub use progress::{Progress, Untold};

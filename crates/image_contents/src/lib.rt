@@ -1,0 +1,18 @@
+//! The files of an image, gone through one after another: what each shows by itself, and what is counted of all.
+//! The names in a directory's slots, and laws on these slots.
+//! Laws on what is found in the files of an image: what is counted of it, and that by these counts an image is whole.
+//! What is told of the files of an image, a line a file, and its printing.
+#![tactic(auto)]
+
+mod bodies;
+mod found;
+mod lines;
+mod names;
+
+pub use bodies::{Found, Progress, Untold, look_at_files};
+pub use found::{
+    what_is_found_is_counted, what_is_found_is_owned, what_is_linked_is_whole,
+    what_is_whole_is_linked,
+};
+pub use lines::{Line, print_lines, read_lines, show};
+pub use names::{are_names, names_decide_a_directory, slots_in_use_are_entries};

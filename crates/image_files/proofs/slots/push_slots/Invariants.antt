@@ -1,5 +1,0 @@
-use Rattle.image_files.specs.Slots.{ArePushed}
-use Rattle.image_files.proofs.slots.push_slots.Given as goal
-
-abbrev pub invariant-places : goal.invariant-places
-invariant-places l = ArePushed l.inodes l.block l.place l.fn.slots.items l.slots.items

@@ -1,5 +1,0 @@
-use Rattle.image_parts.specs.Table.{ArePushed}
-use Rattle.image_parts.proofs.table.push_inodes.Given as goal
-
-abbrev pub invariant-slots : goal.invariant-slots
-invariant-slots l = ArePushed l.geometry l.block l.slot l.fn.table.items l.table.items

@@ -1,0 +1,11 @@
+//! What one file adds to what is counted of an image: the blocks that it owns, and the names in its slots; and whether
+//! the files make a tree, by what was counted.
+
+mod blocks;
+mod links;
+mod names;
+mod reached;
+
+pub use blocks::meet_blocks;
+pub use links::{Links, are_linked};
+pub use names::count_names;

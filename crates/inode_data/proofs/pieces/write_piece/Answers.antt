@@ -1,0 +1,101 @@
+use Rattle.std.proofs.Common.{◌≡◌, ◌-◌, ◌≤◌, ◌/◌, ◌%◌, refl, true, sym, ap, ◌∙◌, subst, List, ℕ, arith}
+use Rattle.std.proofs.lemmas.Result.{IfErr-weaker}
+use Rattle.base.specs.declared.TheConstants.{BLOCK_BYTES}
+use Rattle.disk.specs.Crash.{Image}
+use Rattle.nfs_types.specs.Fits.{AreBytes}
+use Rattle.objects.specs.Spliced.{spliced}
+use Rattle.nfs_spec.specs.Model.Cost.{cost}
+use Rattle.nfs_spec.specs.Model.Node.{Node}
+use Rattle.nfs_spec.specs.Model.Tree.{Tree, free}
+use Rattle.nfs_spec.specs.Procedures.Write.{with_text}
+use Rattle.layout.specs.declared.geometry.Geometry.{Geometry}
+use Rattle.layout.specs.declared.inode.Inode.{Inode}
+use Rattle.layout.specs.Decode.{content_of}
+use Rattle.layout.specs.InodeForm.{is_data_block_or_none}
+use Rattle.layout.specs.Parts.{content_in}
+use Rattle.inode.specs.declared.snap.Snap.{Snap}
+use Rattle.inode.specs.Over.{HasInode, IsOver, number_at}
+use Rattle.inode.specs.Drafts.Drafted.{IsDraft, image_of}
+use Rattle.inode.proofs.DraftsLemmas.PutThere.{over_of}
+use Rattle.bitmap.proofs.OfResults.{mapped}
+use Rattle.inode_data.specs.Filling.{HasRegular}
+use Rattle.inode_data.specs.Written.{IsWrite}
+use Rattle.inode_data.proofs.Whole.{filled_are, has_inode, piece_text, regular_node_is, regular_of}
+use Rattle.inode_data.proofs.pieces.write_piece.Goals as goal
+
+-- what is to be written
+module _ (c : goal.After-place) where
+  abbrev g : Geometry
+  g = c.args.draft.now.there.geometry
+
+  abbrev inode : Inode
+  inode = c.args.inode.now
+
+  abbrev base : Image → Image
+  base blocks = image_of blocks c.args.draft.now
+
+  block_is : (blocks : Image) (tree : Tree) → IsDraft c.args.draft.now blocks tree
+      → HasRegular g (base blocks) tree c.args.number inode
+      → c.in-Ok.block ≡ number_at g (base blocks) inode (c.args.offset / BLOCK_BYTES)
+  block_is blocks tree draft has =
+      let there = c.there.ensures.there in
+      subst (λ (s : Snap). c.in-Ok.block ≡ number_at s.geometry (base blocks) inode (c.args.offset / BLOCK_BYTES)) there
+      (c.in-Ok.ensures.ok (base blocks) tree c.args.number
+      (subst (λ (s : Snap). HasInode s (base blocks) tree c.args.number inode) (sym there)
+      (has_inode c.args.draft.now blocks tree c.args.number inode draft has)))
+
+  writes : (blocks : Image) (tree : Tree) → IsDraft c.args.draft.now blocks tree
+      → HasRegular g (base blocks) tree c.args.number inode
+      → IsWrite g (base blocks) tree c.args.number inode c.args.offset c.args.piece.now c.in-Ok-filled.bytes.items
+      c.greater-size.result
+  writes blocks tree draft has =
+      let there = c.there.ensures.there in
+      let again = c.there-2.ensures.there in
+      let block = c.in-Ok.block in
+      let from = c.args.offset % BLOCK_BYTES in
+      let piece = c.args.piece.now in
+      let bytes : c.in-Ok-filled.bytes.items ≡ spliced (content_of (content_in g (base blocks)) block) from piece =
+      subst (λ (s : Snap). c.in-Ok-filled.bytes.items
+      ≡ spliced (content_of (content_in s.geometry (base blocks)) block) from piece) again
+      (c.in-Ok-filled.ensures.are (base blocks) tree
+      (subst (λ (s : Snap). IsOver s (base blocks) tree) (sym again) (over_of c.args.draft.now blocks tree draft))) in
+      let placed = subst (λ (s : Snap). is_data_block_or_none s.geometry block ≡ true) there c.in-Ok.ensures.data in
+      record {
+        has = has;
+        fits = record { some = c.requires.some; within = c.requires.within; small = c.requires.small };
+        bytes_are = bytes
+            ∙ ap (λ k. spliced (content_of (content_in g (base blocks)) k) from piece) (block_is blocks tree draft has);
+        each = subst (λ (l : List ℕ). AreBytes l) (sym bytes)
+            (filled_are g (base blocks) tree draft.holds block from piece placed
+            (λ i. omega (arith, c.type_inv.piece i)));
+        size_is = c.greater-size.ensures;
+      }
+
+pub returns-in-Ok-filled-clause-ok : goal.returns-in-Ok-filled-clause-ok
+returns-in-Ok-filled-clause-ok c =
+    mapped _ _ (λ done leads yes blocks tree draft names.
+    let has = regular_of c.args.draft.now blocks tree c.args.number c.args.inode.now draft names in
+    piece_text c.args.draft.now c.place.new.draft blocks tree c.args.number c.args.inode.now c.place.new.inode
+    c.args.offset c.args.piece.now draft names
+    (leads yes blocks tree c.args.offset c.args.piece.now draft (writes c blocks tree draft has) refl
+    (block_is c blocks tree draft has))) c.place.result c.place.ensures.ok
+
+pub returns-in-Ok-filled-clause-room : goal.returns-in-Ok-filled-clause-room
+returns-in-Ok-filled-clause-room c =
+    let offset = c.args.offset in
+    let piece = c.args.piece.now in
+    mapped _ _ (λ done leads blocks tree node draft names was room.
+    let has = regular_of c.args.draft.now blocks tree c.args.number c.args.inode.now draft names in
+    leads blocks tree offset piece draft (writes c blocks tree draft has) refl
+    (block_is c blocks tree draft has)
+    (subst (λ (one : Node). cost (with_text offset piece one.body) - cost one.body ≤ free tree)
+    (regular_node_is c.args.draft.now blocks tree c.args.number c.args.inode.now node draft names was) room))
+    c.place.result c.place.ensures.room
+
+pub returns-in-Ok-filled-clause-pause : goal.returns-in-Ok-filled-clause-pause
+returns-in-Ok-filled-clause-pause c =
+    IfErr-weaker c.place.result _ _ (λ why pauses blocks tree draft names.
+    pauses blocks tree draft
+    (has_inode c.args.draft.now blocks tree c.args.number c.args.inode.now draft
+    (regular_of c.args.draft.now blocks tree c.args.number c.args.inode.now draft names)))
+    c.place.ensures.pause

@@ -1,2 +1,0 @@
-mod IndexLemmas
-mod Laying

@@ -1,9 +1,0 @@
-//! The changes of the memory log, found by the numbers of their blocks: a list, and an index over it that no contract
-//! shows.
-#![tactic(auto)]
-
-mod absorbing;
-mod changes;
-mod index;
-
-pub use changes::Changes;

@@ -1,8 +1,0 @@
-use Rattle.model.specs.Find.{find_file}
-use Rattle.model.proofs.Answered.{set_answer}
-use Rattle.model.proofs.setattr.each_setattr_has_a_step.Goals as goal
-
-pub returns : goal.returns
-returns c tree ctx handle wanted guard =
-    let set = set_answer tree ctx wanted guard (find_file tree handle) in
-    (set.outcome, set.told, set.next, set.is)

@@ -1,0 +1,3 @@
+pub mod ModelLemmas
+pub mod ProceduresLemmas
+pub mod LivesLemmas

@@ -1,0 +1,11 @@
+pub mod Answered
+pub mod Attributed
+pub mod Boots
+pub mod Determined
+pub mod Failures
+pub mod Formatted
+pub mod Handled
+pub mod Maps
+pub mod Replaced
+pub mod Sets
+pub mod Costs

@@ -1,0 +1,3 @@
+pub mod Model
+pub mod Procedures
+pub mod Lives

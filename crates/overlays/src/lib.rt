@@ -1,6 +1,0 @@
-//! An image as its log makes it: blocks that are read from the log where it has them, or else from their homes.
-#![tactic(auto)]
-
-mod overlay;
-
-pub use overlay::Overlay;

@@ -1,0 +1,34 @@
+-- What holds whatever a call gives.
+use Rattle.std.proofs.Common.{ℕ, ◌≡◌, ◌<◌, ◌≤◌, ◌^◌, ◌⊎◌, Bool, true, false, List, Result, Ok, Err, OnErr}
+use Rattle.std.proofs.Common.{arith, inl, inr, length, refl}
+use Rattle.std.proofs.lemmas.Bool.{cases_lt}
+use Rattle.nfs_types.specs.declared.program.ProgramReply.{ProgramReply}
+use Rattle.plain_once.specs.Session.Answering.{IsTold}
+use Rattle.session_wire.specs.Replies.{IsTooLong, body_too_long, reply_bytes}
+use Rattle.session_wire.specs.declared.message.ReplyBody.TheVariants as body
+
+pub on_err : {T E P : Type 0} (r : Result T E) → P → OnErr r P
+on_err (Ok _) p = tt
+on_err (Err _) p = p
+
+bool_cases : (b : Bool) → (b ≡ true) ⊎ (b ≡ false)
+bool_cases true = inl refl
+bool_cases false = inr refl
+
+-- a result is told, whatever its length
+pub some_told : (xid : ℕ) (told : ProgramReply) → (bytes : List ℕ) × IsTold xid told bytes
+some_told xid told =
+    by_length (bool_cases (body_too_long (body.Done told)))
+    (cases_lt (length (reply_bytes xid (body.Done told))) (2 ^ 31))
+  where
+    by_length : (body_too_long (body.Done told) ≡ true) ⊎ (body_too_long (body.Done told) ≡ false)
+        → (length (reply_bytes xid (body.Done told)) < 2 ^ 31)
+        ⊎ (2 ^ 31 ≤ length (reply_bytes xid (body.Done told)))
+        → (bytes : List ℕ) × IsTold xid told bytes
+    by_length (inl long) either = (_, inr (inl long, refl))
+    by_length (inr counted) (inr long) = (_, inr (inr long, refl))
+    by_length (inr counted) (inl short) = (_, inl (never, refl))
+      where
+        never : IsTooLong xid (body.Done told) → ⊥
+        never (inl long) = cc
+        never (inr long) = omega arith

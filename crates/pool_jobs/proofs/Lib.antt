@@ -1,2 +1,0 @@
-pub mod Judgements
-mod Cuts

@@ -1,0 +1,2 @@
+pub mod JobsLemmas
+mod AnswersLemmas

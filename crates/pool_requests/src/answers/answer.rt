@@ -1,0 +1,179 @@
+//! An answer, with what shows that it may be given.
+ghost use Rattle.std.specs.Prelude.{◌≡◌};
+ghost use Rattle.session_wire.specs.Replies.{body_of};
+
+use crate::answers::Evidence;
+use crate::jobs::{Immediate, Ticket};
+use nfs_types::{ProgramReply, Reply};
+use procs::Voucher;
+use session_wire::{ReplyBody, RpcReply, append_reply};
+use std::alloc::Global;
+use std::marker::{Model, PhantomData};
+use std::snapshot::Snapshot;
+use std::sync::ledger::{Ledger, Share};
+use txn::Stable;
+use xdr::XdrFault;
+
+/// An answer to a record of a connection. Its type keeps that it bears the key and the numbers of what it answers, and
+/// that this may be answered so: with the reply to a record that begins no transaction; with the reply of the job's own
+/// procedure, which was committed, and whose place was settled where the reply has to be stable; or with one of the
+/// three in its place. It is made of evidence alone, each piece of which is used up for it. Its type names the ledger of
+/// the commits that it may rest on: that of one core.
+#[derive(Drop)]
+pub struct Answer<L: Ledger> {
+    key: usize,
+    number: u64,
+    xid: u32,
+    body: ReplyBody,
+    evidence: Evidence,
+    of: PhantomData<L>,
+}
+
+impl<L: Ledger> Model for Answer<L> {
+    ghost use Rattle.pool_requests.specs.Answers.Evident.{Answered, IsEvident};
+
+    ghost Value = { Answered };
+
+    ghost view = { λ a. record {
+      key = a.key;
+      number = a.number;
+      xid = a.xid;
+      body = a.body;
+      evidence = a.evidence;
+    } };
+
+    ghost invariant = { λ a. IsEvident (record {
+      key = a.key;
+      number = a.number;
+      xid = a.xid;
+      body = a.body;
+      evidence = a.evidence;
+    }) };
+}
+
+impl<L: Ledger> Answer<L> {
+    ghost use Rattle.std.specs.Prelude.{◌≡◌, ◌⊎◌, ◌++◌, false, true, Option, IfErr, OnErr, OnOk};
+    ghost use Rattle.nfs_spec.specs.Model.Calls.{begins_transaction};
+    ghost use Rattle.nfs_types.specs.declared.reply.Reply.TheVariants.{Null};
+    ghost use Rattle.pool_requests.specs.Answers.Evident.{IsEvident, IsInItsPlace, IsOwn, IsShownStable, answer_to};
+    ghost use Rattle.pool_requests.specs.Answers.Evident.{with_reply};
+    ghost use Rattle.pool_requests.specs.Answers.Written.{spelled};
+    ghost use Rattle.pool_requests.specs.declared.answers.evidence.Evidence.TheVariants as evidence;
+    ghost use Rattle.session_wire.specs.Replies.{IsTooLong};
+    ghost use Rattle.xdr.specs.declared.fault.XdrFault.TheVariants.{Length, NoMemory};
+
+    /// The reply to a record that begins no transaction.
+    pub fn immediate(replied: Immediate) -> Answer<L>
+        ensures bears { (result.key ≡ replied.key) × (result.number ≡ replied.number) × (result.xid ≡ replied.xid) }
+        ensures body { result.body ≡ replied.body }
+    {
+        replied.replies();
+        let evidence = Evidence::Immediate(Snapshot::of(&replied));
+        let (key, number) = replied.goes_to();
+        let xid = replied.xid();
+        Answer {
+            key,
+            number,
+            xid,
+            body: replied.into_body(),
+            evidence,
+            of: PhantomData,
+        }
+    }
+
+    /// The reply of a job's own procedure, which was committed. Who makes it has a share of the ledger of commits, which is
+    /// at hand only where a seat of its core steps.
+    pub fn of_change(
+        ticket: Ticket,
+        voucher: Voucher,
+        stable: Option<Stable>,
+        reply: Reply,
+        share: &Share<L>,
+    ) -> Answer<L>
+        requires own { IsOwn ticket voucher.change }
+        requires reply { reply ≡ voucher.change.reply }
+        requires stable { IsShownStable ticket voucher stable }
+        ensures { result ≡ answer_to ticket.job (with_reply reply) (evidence.Committed ticket voucher stable) }
+    {
+        let _ = share;
+        voucher.finished();
+        let (key, number) = ticket.goes_to();
+        Answer {
+            key,
+            number,
+            xid: ticket.xid(),
+            body: ReplyBody::Done(ProgramReply::Nfs(reply)),
+            evidence: Evidence::Committed(ticket, voucher, stable),
+            of: PhantomData,
+        }
+    }
+
+    /// One of the three in the place of a reply. Who makes it has a share of the ledger of commits, as above.
+    pub fn in_its_place(ticket: Ticket, body: ReplyBody, share: &Share<L>) -> Answer<L>
+        requires { IsInItsPlace ticket.job.call body }
+        ensures { result ≡ answer_to ticket.job body (evidence.InItsPlace ticket) }
+    {
+        let _ = share;
+        let (key, number) = ticket.goes_to();
+        Answer {
+            key,
+            number,
+            xid: ticket.xid(),
+            body,
+            evidence: Evidence::InItsPlace(ticket),
+            of: PhantomData,
+        }
+    }
+
+    /// To a job whose call begins no transaction. Who makes it has a share of the ledger of commits, as above.
+    pub fn of_nothing(ticket: Ticket, share: &Share<L>) -> Answer<L>
+        requires { begins_transaction ticket.job.call ≡ false }
+        ensures { result ≡ answer_to ticket.job (with_reply Null) (evidence.Nothing ticket) }
+    {
+        let _ = share;
+        let (key, number) = ticket.goes_to();
+        Answer {
+            key,
+            number,
+            xid: ticket.xid(),
+            body: ReplyBody::Done(ProgramReply::Nfs(Reply::Null)),
+            evidence: Evidence::Nothing(ticket),
+            of: PhantomData,
+        }
+    }
+
+    /// It may be given.
+    pub fn evident(&self)
+        ensures { IsEvident self.now }
+    {
+        let _ = &self.evidence;
+    }
+
+    /// The key and the number of the connection that it is for.
+    pub fn goes_to(&self) -> (usize, u64)
+        ensures { result ≡ (self.now.key, self.now.number) }
+    {
+        (self.key, self.number)
+    }
+
+    /// Puts the answer behind other bytes, as a record of one fragment. One that has a length of 2^32 or more in it, or
+    /// 2^31 bytes in all, is `Length`; where memory is refused it is `NoMemory`. Where it fails nothing changes.
+    pub(crate) fn append_to(&self, alloc: Global, out: &mut Vec<u8>) -> Result<(), XdrFault>
+        ensures ok { OnOk result (out.new.items ≡ out.old.items ++ spelled self.now) }
+        ensures err { IfErr result (λ e. ((e ≡ Length) × IsTooLong self.now.xid self.now.body) ⊎ (e ≡ NoMemory)) }
+        ensures refused { OnErr result (out.new.items ≡ out.old.items) }
+    {
+        append_reply(alloc, out, self.xid, reply_of(&self.body))
+    }
+}
+
+// A body as a reply.
+fn reply_of(body: &ReplyBody) -> RpcReply<'_>
+    ensures { body_of result ≡ body.now }
+{
+    match body {
+        ReplyBody::Done(ProgramReply::Nfs(reply)) => RpcReply::Nfs(reply),
+        ReplyBody::Done(ProgramReply::Mount(reply)) => RpcReply::Mount(reply),
+        ReplyBody::Refused(refusal) => RpcReply::Refused(*refusal),
+    }
+}

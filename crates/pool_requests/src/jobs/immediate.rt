@@ -1,0 +1,66 @@
+//! The reply to a record that begins no transaction.
+
+use bytes::Bytes;
+use session_wire::ReplyBody;
+use std::marker::Model;
+use std::snapshot::Snapshot;
+
+/// The reply to a record of the connection of this key and number that begins no transaction. Only `Stream::next` makes
+/// one. Its type keeps that it is what the record is answered.
+#[derive(Drop)]
+pub struct Immediate {
+    pub(crate) key: usize,
+    pub(crate) number: u64,
+    pub(crate) xid: u32,
+    pub(crate) body: ReplyBody,
+    pub(crate) message: Snapshot<Bytes>,
+}
+
+impl Model for Immediate {
+    ghost use Rattle.pool_requests.specs.Jobs.Immediate.{Replied, IsReplyTo};
+
+    ghost Value = { Replied };
+
+    ghost view = { λ r. record {
+      key = r.key;
+      number = r.number;
+      xid = r.xid;
+      body = r.body;
+      message = r.message.value;
+    } };
+
+    ghost invariant = { λ r. IsReplyTo r.message.value r.xid r.body };
+}
+
+impl Immediate {
+    ghost use Rattle.std.specs.Prelude.{◌≡◌};
+    ghost use Rattle.pool_requests.specs.Jobs.Immediate.{IsReplyTo};
+
+    /// It is what its record is answered.
+    pub fn replies(&self)
+        ensures { IsReplyTo self.now.message self.now.xid self.now.body }
+    {
+        let _ = &self.body;
+    }
+
+    /// The key and the number of its connection.
+    pub fn goes_to(&self) -> (usize, u64)
+        ensures { result ≡ (self.now.key, self.now.number) }
+    {
+        (self.key, self.number)
+    }
+
+    /// The number of its message.
+    pub fn xid(&self) -> u32
+        ensures { result ≡ self.now.xid }
+    {
+        self.xid
+    }
+
+    /// What it tells.
+    pub fn into_body(self) -> ReplyBody
+        ensures { result ≡ self.body }
+    {
+        self.body
+    }
+}

@@ -1,0 +1,59 @@
+//! A job: a call of NFS with the connection that it came from.
+ghost use Rattle.nfs_types.specs.Fits.{AreBytes};
+ghost use Rattle.pool_requests.specs.Jobs.Spelled.{SpellsJob};
+
+use crate::jobs::Ticket;
+use bytes::Bytes;
+use nfs_types::{Call, Credential, Moment};
+use std::snapshot::Snapshot;
+
+/// What a connection hands to a worker: the connection's key and number, the call's number, who calls and what.
+/// Its type keeps that these are what a record of bytes spells. Nobody changes them.
+#[derive(Drop)]
+pub struct Job {
+    pub(crate) key: usize,
+    pub(crate) number: u64,
+    pub(crate) xid: u32,
+    pub(crate) credential: Credential,
+    pub(crate) call: Call,
+    pub(crate) message: Snapshot<Bytes>,
+    pub ghost spelled: { SpellsJob message.value xid credential call },
+    pub ghost of_bytes: { AreBytes message.value },
+}
+
+impl Job {
+    ghost use Rattle.std.specs.Prelude.{◌≡◌};
+    ghost use Rattle.nfs_types.specs.Fits.{CallFits};
+
+    /// The key and the number of its connection.
+    pub fn comes_from(&self) -> (usize, u64)
+        ensures { result ≡ (self.now.key, self.now.number) }
+    {
+        (self.key, self.number)
+    }
+
+    /// Takes it up at a moment: where its answer goes; and who calls, and what, a call that can be spelled.
+    pub fn take_up(self, moment: Moment) -> (Ticket, Credential, Call)
+        ensures ticket { result.0 ≡ record { job = self; moment = moment } }
+        ensures parts { (result.1 ≡ self.credential) × (result.2 ≡ self.call) }
+        ensures fits { CallFits result.2 }
+    {
+        let job = Snapshot::of(&self);
+        let Job {
+            key,
+            number,
+            xid,
+            credential,
+            call,
+            message: _,
+        } = self;
+        let ticket = Ticket {
+            key,
+            number,
+            xid,
+            job,
+            moment: Snapshot::of(&moment),
+        };
+        (ticket, credential, call)
+    }
+}

@@ -1,0 +1,13 @@
+//! What connections and workers hand each other: jobs and where their answers go, replies to what begins no transaction,
+//! and the connections that are open.
+//! What jobs are answered, each with what shows that it may be; and the bytes of answers.
+#![tactic(auto)]
+
+mod answers;
+mod jobs;
+
+pub use answers::{
+    Answer, Backlog, Evidence, Put, ReplyBytes, a_reply_answers_one_procedure,
+    an_answer_is_one_that_its_call_may_get,
+};
+pub use jobs::{Bearer, ConnectionKey, Connections, Immediate, Job, Received, Stream, Ticket};

@@ -1,7 +1,0 @@
-use Rattle.procedures.proofs.Written.{write_takes, wrote}
-use Rattle.procedures.proofs.files.a_write_takes_what_it_needs.Goals as goal
-
-pub returns : goal.returns
-returns c tree next ctx file offset count stability text reply told write =
-    write_takes tree next ctx file offset text
-    (wrote tree next ctx file offset count stability text reply told write)

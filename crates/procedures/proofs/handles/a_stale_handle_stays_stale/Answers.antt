@@ -1,5 +1,0 @@
-use Rattle.procedures.proofs.Stale.{history_stale}
-use Rattle.procedures.proofs.handles.a_stale_handle_stays_stale.Goals as goal
-
-pub returns : goal.returns
-returns c tree next entries handle stale none leads = history_stale tree next entries handle stale none leads

@@ -1,6 +1,0 @@
-use Rattle.procedures.proofs.Joined.{join, split}
-use Rattle.procedures.proofs.histories.histories_join.Goals as goal
-
-pub returns : goal.returns
-returns c tree next first second =
-    (split tree next first second, λ a. join tree a.0 next first second a.1 a.2)

@@ -1,6 +1,0 @@
-use Rattle.procedures.proofs.Unchanged.{refusal_leaves}
-use Rattle.procedures.proofs.steps.a_refusal_leaves_the_tree.Goals as goal
-
-pub returns : goal.returns
-returns c tree next ctx asked reply step refused =
-    refusal_leaves tree next ctx step.new asked reply step.leads refused

@@ -1,6 +1,0 @@
-use Rattle.procedures.proofs.Stale.{no_later}
-use Rattle.procedures.proofs.steps.no_step_makes_a_later_stamp.Goals as goal
-
-pub returns : goal.returns
-returns c boot tree next ctx asked reply made now step =
-    no_later boot tree next ctx asked reply made now step

@@ -1,6 +1,0 @@
-use Rattle.procedures.proofs.Unchanged.{telling_leaves}
-use Rattle.procedures.proofs.steps.what_only_tells_leaves_the_tree.Goals as goal
-
-pub returns : goal.returns
-returns c tree next ctx asked reply step tells =
-    telling_leaves tree next ctx step.new asked reply step.leads tells

@@ -1,0 +1,20 @@
+use Rattle.std.proofs.lemmas.Result.{IfErr-weaker, IfOk-weaker}
+use Rattle.inode.proofs.HeldThere.{pauses}
+use Rattle.inode.proofs.Stops.{both_err}
+use Rattle.procs_blocks.proofs.Told.{may_stop}
+use Rattle.procs_blocks.proofs.space.blocks_left.Goals as goal
+
+pub returns-clause-ok : goal.returns-clause-ok
+returns-clause-ok c =
+    IfOk-weaker c.free_blocks.result _ _ (λ left is blocks tree over. is blocks tree over.saw over.holds)
+    c.free_blocks.ensures.ok
+
+pub returns-clause-err : goal.returns-clause-err
+returns-clause-err c =
+    both_err c.free_blocks.result _ _ _ (λ why new asked. may_stop c.args.snap.now why new asked)
+    c.free_blocks.ensures.err c.free_blocks.ensures.asks
+
+pub returns-clause-pause : goal.returns-clause-pause
+returns-clause-pause c =
+    IfErr-weaker c.free_blocks.result _ _ (λ why none blocks tree over.
+    pauses c.args.snap.now why blocks tree none over) c.free_blocks.ensures.io

@@ -1,0 +1,2 @@
+pub mod LinksLemmas
+pub mod NamesLemmas

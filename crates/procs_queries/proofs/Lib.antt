@@ -1,0 +1,2 @@
+pub mod QueriesLemmas
+pub mod ListingsLemmas

@@ -1,0 +1,109 @@
+//! SYMLINK (RFC 1813, section 3.3.10).
+ghost use Rattle.std.specs.Prelude.{◌≡◌, ◌+◌, ◌≤◌, ℕ, IfErr, IfOk, Option};
+ghost use Rattle.nfs_types.specs.Fits.{AreBytes, CallFits, NewAttributesFit};
+ghost use Rattle.nfs_types.specs.declared.call.Call.TheVariants as call;
+ghost use Rattle.nfs_spec.specs.Model.Node.{Body, Node};
+ghost use Rattle.nfs_spec.specs.Model.SetAttr.{first_of_tests};
+ghost use Rattle.nfs_spec.specs.Model.Sound.{Sound, SoundCtx};
+ghost use Rattle.nfs_spec.specs.Model.Tree.{Tree};
+ghost use Rattle.nfs_spec.specs.Procedures.Fresh.{IsNewNumber};
+ghost use Rattle.nfs_spec.specs.Procedures.SymLink.{SymLinkStep, make_link};
+ghost use Rattle.procs_files.specs.Heads.{IsFileIn, IsFound, node_of};
+ghost use Rattle.procs_updates.specs.Creates.Making.{IsMade};
+ghost use Rattle.nfs_spec.specs.Procedures.SymLink.{symlink_tests};
+
+use crate::creates::blanks::{blank_link, without_size};
+use crate::creates::making::make;
+use base::TARGET_BYTES;
+use nfs_types::{Created, Ctx, DirectoryName, NewAttributes, Octets, Status};
+use procs_files::{Changed, ChangingFiles, Head, find, is_own_name};
+use procs_names::{changed_to, refused, sought};
+use std::alloc::Global;
+
+// Why no link is made under a name that leads to this.
+fn link_refusal(name: &[u8], target: &[u8], found: &Option<Head>) -> Option<Status>
+    ensures { (tree : Tree) (named : Option (ℕ × Node)) → IsFound tree named found.now
+        → result ≡ first_of_tests (symlink_tests name.now target.now named) }
+{
+    if is_own_name(name) || found.is_some() {
+        Some(Status::Exist)
+    } else if target.len() == 0 {
+        Some(Status::Inval)
+    } else if target.len() > TARGET_BYTES {
+        Some(Status::NameTooLong)
+    } else {
+        None
+    }
+}
+
+fn make_link_in<F: ChangingFiles>(
+    alloc: Global,
+    files: &mut F,
+    ctx: &Ctx,
+    directory: &Head,
+    name: &[u8],
+    wanted: &NewAttributes,
+    target: &[u8],
+) -> Result<Result<Created, Status>, F::Stop>
+    ensures err { IfErr result (λ stop. F.may_stop (F.source files.old) stop) }
+    ensures source { F.source files.new ≡ F.source files.old }
+    ensures spent { F.spent files.new ≤ F.spent files.old + 11 }
+    ensures pause { IfErr result (λ stop. (world : F.World) (tree : Tree) (inside : Body)
+        → F.stands files.old world tree → IsFileIn tree directory.now inside → Sound tree → SoundCtx ctx.now
+        → AreBytes name.now → NewAttributesFit wanted.now → AreBytes target.now → F.is_pause stop) }
+    ensures ok { IfOk result (λ r. (world : F.World) (tree : Tree) (inside : Body)
+        → F.stands files.old world tree → IsFileIn tree directory.now inside → Sound tree → SoundCtx ctx.now
+        → AreBytes name.now → NewAttributesFit wanted.now → AreBytes target.now
+        → IsMade (F.stands files.new world) tree
+        (λ new. make_link tree ctx.now name.now wanted.now target.now new directory.now.number
+        (node_of directory.now inside)) r) }
+{
+    let found = match sought(files, &ctx.credential, directory, name)? {
+        Err(status) => return Ok(Err(status)),
+        Ok(found) => found,
+    };
+    if let Some(status) = link_refusal(name, target, &found) {
+        return Ok(Err(status));
+    }
+    let blank = blank_link(ctx, target);
+    let wanted = without_size(wanted);
+    make(alloc, files, ctx, directory, name, &wanted, &blank, target)
+}
+
+/// Makes a link with this target.
+pub fn make_link<F: ChangingFiles>(
+    alloc: Global,
+    files: &mut F,
+    ctx: &Ctx,
+    name: &DirectoryName,
+    wanted: &NewAttributes,
+    target: &Octets,
+) -> Result<Changed<Created>, F::Stop>
+    ensures err { IfErr result (λ stop. F.may_stop (F.source files.old) stop) }
+    ensures source { F.source files.new ≡ F.source files.old }
+    ensures spent { F.spent files.new ≤ F.spent files.old + 11 }
+    ensures pause { IfErr result (λ stop. (world : F.World) (tree : Tree) → F.stands files.old world tree
+        → Sound tree → SoundCtx ctx.now → CallFits (call.SymLink name.now wanted.now target.now)
+        → F.is_pause stop) }
+    ensures step { IfOk result (λ r. (world : F.World) (tree : Tree) → F.stands files.old world tree
+        → Sound tree → SoundCtx ctx.now → CallFits (call.SymLink name.now wanted.now target.now)
+        → (new : Option ℕ) × IsNewNumber tree new × (next : Tree)
+        × SymLinkStep tree ctx.now name.now.directory.bytes name.now.name wanted.now target.now new r.outcome
+        r.file next
+        × F.stands files.new world next) }
+{
+    let directory = match find(files, &name.directory)? {
+        Err(status) => return Ok(refused(status)),
+        Ok(directory) => directory,
+    };
+    let outcome = make_link_in(
+        alloc,
+        files,
+        ctx,
+        &directory,
+        name.name.as_slice(),
+        wanted,
+        target.as_slice(),
+    )?;
+    changed_to(files, &directory, outcome)
+}

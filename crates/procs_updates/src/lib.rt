@@ -1,0 +1,12 @@
+//! The procedures that change one file, over any files: SETATTR and WRITE.
+//! The procedures that make files, over any files.
+#![tactic(auto)]
+
+mod creates;
+mod writes;
+
+pub use creates::{create, make_directory, make_link};
+pub use writes::{
+    Done, changed, refused, set_attributes, set_file, set_head, set_refusal, touched_head, unfound,
+    write,
+};

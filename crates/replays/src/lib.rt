@@ -1,9 +1,0 @@
-//! Calls planned one by one over an image, whose writes go home: without core, log and locks.
-#![tactic(auto)]
-
-mod beginning;
-mod planning;
-mod putting;
-mod replaying;
-
-pub use replaying::replay;

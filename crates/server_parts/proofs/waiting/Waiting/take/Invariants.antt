@@ -1,8 +1,0 @@
-use Rattle.std.proofs.Common.{◌≡◌, ◌<◌, ℕ, slice_index_or}
-use Rattle.server_parts.specs.declared.waiting.Parked.{Parked}
-use Rattle.server_parts.proofs.waiting.Waiting.take.Given as goal
-
--- the seats that were looked at wait for more
-abbrev pub invariant-loop-at : goal.invariant-loop-at
-invariant-loop-at l = (l.self ≡ l.fn.self)
-    × ((k : ℕ) (d : Parked) → k < l.at → l.fn.self.settled < (slice_index_or l.fn.self.parked.items k d).place)

@@ -1,5 +1,0 @@
-use Rattle.store_runs.proofs.AtWorkStays.{at_work_still}
-use Rattle.store_runs.proofs.at_work.a_core_at_work_stays_so.Goals as goal
-
-pub returns : goal.returns
-returns c = at_work_still

@@ -1,0 +1,8 @@
+//! The changes of the memory log, found by the numbers of their blocks: a list, and an index over it that no contract
+//! shows.
+
+mod absorbing;
+mod changes;
+mod index;
+
+pub use changes::Changes;

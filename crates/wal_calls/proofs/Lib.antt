@@ -1,0 +1,2 @@
+pub mod CallersLemmas
+pub mod SeatsLemmas
