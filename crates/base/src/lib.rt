@@ -1,5 +1,5 @@
-//! The numbers of the server that are choices: limits, sizes and places of the format. No code and no proof
-//! repeats one of them.
+//! What everything stands on: the numbers of the server that are choices (limits, sizes and places of the format),
+//! which no code and no proof repeats, and blocks and bytes that are shared by pointer.
 #![tactic(auto)]
 
 mod buffers;

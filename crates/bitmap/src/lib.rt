@@ -1,5 +1,5 @@
-//! The bitmaps of an image: how many blocks are free, how many numbers no file has, and one of
-//! each; and their bits, set and cleared.
+//! The bitmaps of an image, one of its blocks and one of its numbers: how many are free, and their bits, set and
+//! cleared; and inodes that are made and freed by them.
 #![tactic(auto)]
 
 mod clearing;

@@ -1,4 +1,5 @@
-//! The circular log on the disk: its headers, and what an opening finds in it.
+//! The circular log on the disk: its headers, what an opening finds in it, and the law of the log, which says what a
+//! crash leaves of it.
 #![tactic(auto)]
 
 mod header;

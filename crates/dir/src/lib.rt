@@ -1,4 +1,4 @@
-//! The names in a directory.
+//! The names in a directory, and the search for one of them.
 #![tactic(auto)]
 
 mod block;

@@ -6,9 +6,5 @@ pub mod Choice
 pub mod CallRecord
 pub mod Memory
 pub mod MemoryBlocks
-pub mod File
-pub mod FileBlocks
 pub mod Overlap
-pub mod Extent
 pub mod Ports
-pub mod Sides

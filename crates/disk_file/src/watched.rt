@@ -1,6 +1,5 @@
 //! A file that is watched.
-use crate::{Alarm, Asked};
-use disk::BlockFile;
+use crate::{Alarm, Asked, BlockFile};
 use std::fs::{Metadata, OpenFile};
 use std::io;
 use std::io::{Eprint, ErrorKind};

@@ -1,7 +1,5 @@
-//! The files of an image, gone through one after another: what each shows by itself, and what is counted of all.
-//! The names in a directory's slots, and laws on these slots.
-//! Laws on what is found in the files of an image: what is counted of it, and that by these counts an image is whole.
-//! What is told of the files of an image, a line a file, and its printing.
+//! The files of an image, gone through one after another: what each shows by itself, the names in its slots, what is
+//! counted of all, and a line about each to print.
 #![tactic(auto)]
 
 mod bodies;

@@ -1,13 +1,5 @@
-//! An image as its log makes it: blocks that are read from the log where it has them, or else from their homes.
-//! What is counted of an image as a whole while its files are gone through: who owns its blocks, how often its
-//! numbers are named, and where the parents of its directories lead.
-//! The parts of an image as a whole, read block by block through its log:
-//! the table of its inodes, and its bitmaps.
-//! The files of an image, each by itself, read through its log: the numbers of its blocks, the bytes past its end,
-//! and the names in a directory.
-//! What one file adds to what is counted of an image: the blocks that it owns, and the names in its slots; and whether
-//! the files make a tree, by what was counted.
-//! Laws on an image as a whole: the one tree that it can stand for, and what has to hold of its parts for it to.
+//! An image as a whole, read through its log: its parts block by block, its files one by one, what is counted of them
+//! all, and laws on the one tree that such an image can stand for.
 #![tactic(auto)]
 
 mod counts;

@@ -1,4 +1,4 @@
-//! What was read of an image for a call, and the inodes in it.
+//! What was read of an image for a call, the inodes in it, and what a call writes over it.
 #![tactic(auto)]
 
 mod alone;

@@ -1,11 +1,6 @@
-//! What the server is, apart from any code and any disk: files, trees, what a call does to a tree and what is
-//! answered (RFC 1813). The definitions stand in `specs/`; the functions here have laws about them as their
-//! contracts.
-//! The procedures of NFS version 3 over trees, as definitions: what each may answer and which tree it leads
-//! to (RFC 1813, section 3.3), and the step of the sequential server over all of them. They stand in
-//! `specs/`, one file a procedure; the functions here have laws about them as their contracts.
-//! Names for good: over all runs of an image's life, a handle names one file. The functions here have laws
-//! as their contracts.
+//! What the server is, apart from any code and any disk, as definitions in `specs/`: files and trees, what each
+//! procedure answers and which tree it leads to (RFC 1813), the step of the sequential server, and names for good
+//! over all runs of an image's life. The functions here have laws about them as their contracts.
 #![tactic(auto)]
 
 mod lives;

@@ -4,7 +4,7 @@ use Rattle.std.proofs.Common.{Bool, Bor, None, Result, Some, false, sym, true}
 use Rattle.std.specs.Prelude.{IfErr, IfOk, OnOk}
 use Rattle.std.specs.Io.KnownBytes.{Appends}
 use Rattle.clap.specs.Words.{Text}
-use Rattle.disk.specs.declared.file.FirstContents.{FirstContents}
+use Rattle.disk_file.specs.declared.file.FirstContents.{FirstContents}
 use Rattle.disk.specs.Device.{Device}
 use Rattle.nfsd_words.specs.declared.Args.{Args}
 use Rattle.nfsd_words.specs.declared.Args.TheVariants.{Check, Format, Once, Serve, Show, Sim}

@@ -1,7 +1,7 @@
 -- What was done to the device of an image's file was done to the image.
 use Rattle.std.proofs.Common.{ℕ, List, Option, Result, Some, Err, refl}
 use Rattle.clap.specs.Words.{Text}
-use Rattle.disk.specs.declared.file.FirstContents.{FirstContents}
+use Rattle.disk_file.specs.declared.file.FirstContents.{FirstContents}
 use Rattle.disk.specs.Device.{Device}
 use Rattle.nfsd.specs.declared.fault.Fault.{Fault}
 use Rattle.nfsd.specs.declared.fault.Fault.TheVariants as fault

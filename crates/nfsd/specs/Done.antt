@@ -5,9 +5,9 @@ use Rattle.std.specs.Io.KnownBytes.{Appends}
 use Rattle.std.specs.declared.io.Error.{Error}
 use Rattle.clap.specs.Words.{Text}
 use Rattle.base.specs.declared.TheConstants.{MOST_BLOCKS}
-use Rattle.disk.specs.declared.file.FirstContents.{FirstContents}
+use Rattle.disk_file.specs.declared.file.FirstContents.{FirstContents}
 use Rattle.disk.specs.Device.{Device}
-use Rattle.disk.specs.File.{file_device, first_in}
+use Rattle.disk_file.specs.File.{file_device, first_in}
 use Rattle.circ.specs.Log.Log.{settled_place}
 use Rattle.txn_law.specs.Core.{CoreState}
 use Rattle.nfs_types.specs.declared.ctx.Moment.{Moment}

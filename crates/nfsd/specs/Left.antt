@@ -1,8 +1,8 @@
 -- What a command left, of which the program hands out what it is alone.
 use Rattle.std.specs.Prelude.{Option, Some, None}
-use Rattle.disk.specs.declared.file.BlockFile
+use Rattle.disk_file.specs.declared.file.BlockFile
 use Rattle.disk.specs.Device.{Device}
-use Rattle.disk.specs.File.{file_device, first_in}
+use Rattle.disk_file.specs.File.{file_device, first_in}
 use Rattle.txn_law.specs.Core.{CoreState}
 use Rattle.nfsd.specs.declared.image_disk.ImageDisk.{ImageDisk}
 use Rattle.nfsd.specs.declared.image_disk.ImageDisk.TheVariants.{Plain, Served, Watched}

@@ -5,9 +5,9 @@ use Rattle.std.specs.Fmt.{decimal}
 use Rattle.std.specs.Io.KnownBytes.{Appends}
 use Rattle.std.specs.Prelude.{MatchResult}
 use Rattle.clap.specs.Words.{Text}
-use Rattle.disk.specs.declared.file.FirstContents.{FirstContents}
+use Rattle.disk_file.specs.declared.file.FirstContents.{FirstContents}
 use Rattle.disk.specs.Device.{Device}
-use Rattle.disk.specs.File.{Calls, KeepsModel, file_device, first_in}
+use Rattle.disk_file.specs.File.{Calls, KeepsModel, file_device, first_in}
 use Rattle.nfs_spec.specs.Model.Tree.{Tree}
 use Rattle.circ.specs.Log.Recovery.{HasOnlyRead, IsUnspoiled, image_of as image_in}
 use Rattle.store_images.specs.BringingHome.{CountsCause}

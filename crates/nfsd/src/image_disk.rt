@@ -1,5 +1,5 @@
 //! What a command left of an image, for proofs alone.
-use disk::{BlockFile, FileDisk, ThreadedDisk};
+use disk_file::{BlockFile, FileDisk, ThreadedDisk};
 use server::Ended;
 use std::snapshot::Snapshot;
 

@@ -1,11 +1,11 @@
 //! The file, or the block device, that an image lies in.
 ghost use Rattle.std.specs.Prelude.{◌≡◌, [], IfOk};
 ghost use Rattle.disk.specs.Crash.{IsAtRest};
-ghost use Rattle.disk.specs.File.{file_device, first_in};
+ghost use Rattle.disk_file.specs.File.{file_device, first_in};
 ghost use Rattle.nfsd.specs.Done.{AreAsked};
 
 use base::{BLOCK_BYTES, MOST_BLOCKS};
-use disk::{BlockFile, FileDisk, open_locked};
+use disk_file::{BlockFile, FileDisk, open_locked};
 use layout::Super;
 use std::fs::{Files, OpenFile};
 use std::io;

@@ -1,5 +1,5 @@
-//! The program: makes images, serves one client over the standard input and output, or many over TCP, and tells whether an
-//! image is good and which files it has.
+//! The program: makes images, serves one client over the standard input and output, or many over TCP, and tells
+//! whether an image is good and which files it has.
 #![tactic(auto)]
 
 mod announcement;
@@ -26,8 +26,7 @@ use crate::fault::Fault;
 use crate::fault_stream::FaultStream;
 use crate::read_files::SharedFile;
 use crate::streams::Streams;
-use disk::{BlockFile, FirstContents};
-use disk_file::Alarm;
+use disk_file::{Alarm, BlockFile, FirstContents};
 use session::{Input, Output};
 use std::alloc::AllocError;
 use std::env::Env;

@@ -3,7 +3,7 @@ ghost use Rattle.std.specs.Prelude.{◌≡◌, [], IfOk};
 
 use crate::locked_files::blocks_of_image;
 use base::BLOCK_BYTES;
-use disk::{BlockFile, FileDisk};
+use disk_file::{BlockFile, FileDisk};
 use std::fs::{File, Files};
 use std::io;
 use std::io::{ErrorKind, Seek, SeekFrom};

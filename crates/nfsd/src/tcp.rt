@@ -1,6 +1,6 @@
 //! What the program does to a device whose files it serves over TCP.
 ghost use Rattle.std.specs.Prelude.{◌≡◌, IfErr, IfOk, string_bytes};
-ghost use Rattle.disk.specs.File.{file_device, first_in};
+ghost use Rattle.disk_file.specs.File.{file_device, first_in};
 ghost use Rattle.nfsd.specs.Left.{left_by};
 ghost use Rattle.nfsd.specs.Done.{ServesClients, ServesImage, left_of_server, outcome_of_server};
 ghost use Rattle.nfsd.specs.Lines.{IsAnnouncedBy};
@@ -11,8 +11,7 @@ use crate::fault::Fault;
 use crate::image_disk::ImageDisk;
 use crate::trouble::Trouble;
 use crate::watched_image::open_for_threads;
-use disk::{BlockFile, FirstContents, ThreadedDisk};
-use disk_file::{Alarm, WatchedFile};
+use disk_file::{Alarm, BlockFile, FirstContents, ThreadedDisk, WatchedFile};
 use server::{Ended, ServeFault, serve_store};
 use session::SessionFault;
 use std::alloc::Global;

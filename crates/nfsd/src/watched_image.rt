@@ -1,11 +1,10 @@
 //! The image of a server, of which a write or a sync that fails is told at once.
 ghost use Rattle.std.specs.Prelude.{◌≡◌, [], IfOk};
 ghost use Rattle.disk.specs.Crash.{IsAtRest};
-ghost use Rattle.disk.specs.File.{file_device, first_in};
+ghost use Rattle.disk_file.specs.File.{file_device, first_in};
 
 use crate::locked_files::blocks_in;
-use disk::{BlockFile, ThreadedDisk, open_locked};
-use disk_file::{Alarm, WatchedFile};
+use disk_file::{Alarm, BlockFile, ThreadedDisk, WatchedFile, open_locked};
 use std::fs::{Files, OpenOptions};
 use std::io;
 use std::io::Eprint;

@@ -1,6 +1,5 @@
-//! What connections and workers hand each other: jobs and where their answers go, replies to what begins no transaction,
-//! and the connections that are open.
-//! What jobs are answered, each with what shows that it may be; and the bytes of answers.
+//! What connections and workers hand each other: jobs and where their answers go, answers with what shows that each
+//! may be given, their bytes, and the connections that are open.
 #![tactic(auto)]
 
 mod answers;

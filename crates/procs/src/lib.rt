@@ -1,4 +1,5 @@
-//! The procedures: what is to be read for a call, and what comes of it.
+//! The procedures as plans: what is to be read for a call, what comes of it, and what shows that a plan was of its
+//! call.
 #![tactic(auto)]
 
 mod ahead;

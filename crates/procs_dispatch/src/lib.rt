@@ -1,5 +1,5 @@
 //! Calls over files wherever they lie, by what they ask for. Each answer is proved to be a step of the sequential
-//! server that `procedures` defines, whatever tree the files are.
+//! server that `nfs_spec` defines, whatever tree the files are.
 #![tactic(auto)]
 
 mod changing;

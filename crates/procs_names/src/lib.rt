@@ -1,5 +1,5 @@
-//! What the procedures that change names share: names that come and go, links, room, and what is told.
-//! The procedures that make and remove names, over any files.
+//! The procedures that make and remove names, over any files, and what all that change names share: names that come
+//! and go, links, room, and what is told.
 #![tactic(auto)]
 
 mod links;

@@ -1,7 +1,5 @@
-//! The procedures that only tell something, over files wherever they lie. Each is proved to be the step that
-//! `procedures` defines, whatever tree the files are.
-//! READDIR and READDIRPLUS over files wherever they lie. Each is proved to be the step that `procedures`
-//! defines, whatever tree the files are. A listing reads the directory up to the first entry that has no room.
+//! The procedures that only tell something, READDIR and READDIRPLUS among them, over files wherever they lie. Each is
+//! proved to be the step that `nfs_spec` defines, whatever tree the files are.
 #![tactic(auto)]
 
 mod listings;

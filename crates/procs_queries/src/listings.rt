@@ -1,4 +1,4 @@
-//! READDIR and READDIRPLUS over files wherever they lie. Each is proved to be the step that `procedures`
+//! READDIR and READDIRPLUS over files wherever they lie. Each is proved to be the step that `nfs_spec`
 //! defines, whatever tree the files are. A listing reads the directory up to the first entry that has no room.
 
 mod gathering;

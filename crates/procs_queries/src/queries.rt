@@ -1,5 +1,5 @@
 //! The procedures that only tell something, over files wherever they lie. Each is proved to be the step that
-//! `procedures` defines, whatever tree the files are.
+//! `nfs_spec` defines, whatever tree the files are.
 
 mod accessing;
 mod committing;

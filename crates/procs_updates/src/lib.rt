@@ -1,5 +1,4 @@
-//! The procedures that change one file, over any files: SETATTR and WRITE.
-//! The procedures that make files, over any files.
+//! The procedures that change one file, and those that make one, over any files.
 #![tactic(auto)]
 
 mod creates;

@@ -5,7 +5,7 @@ ghost use Rattle.server.specs.Announcing.{Announces};
 
 use crate::announcer::Announcer;
 use crate::threads::{ServeFault, serve};
-use disk::{BlockFile, FilePort, FileSource, ThreadedDisk};
+use disk_file::{BlockFile, FilePort, FileSource, ThreadedDisk};
 use pool::{Ended, Ledgers, Whole, begin};
 use std::alloc::Global;
 use std::marker::Brand;

@@ -1,5 +1,5 @@
-//! What the threads of a TCP server share: the moments of calls, what threads wait for, how long a connection is silent,
-//! and changes that wait to be settled.
+//! What the threads of a TCP server share: the moments of calls, what threads wait for, how long a connection is
+//! silent, and changes that wait to be settled.
 #![tactic(auto)]
 
 mod free_seats;

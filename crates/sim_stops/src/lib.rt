@@ -1,5 +1,5 @@
-//! Tries each stop of a script's run: what a crash may leave there is opened, and its files are compared with those of the
-//! calls before it, planned one by one.
+//! Tries each stop of a script's run: what a crash may leave there is opened, and its files are compared with those
+//! of the calls before it, planned one by one.
 #![tactic(auto)]
 
 mod beginnings;

@@ -1,6 +1,5 @@
-//! The store: one call by one thread. Its images, its workers and its whole runs are `store_images`,
-//! `store_workers` and `store`, whose names it passes on; what a run tells and promises is
-//! `store_promise`'s.
+//! The store as one: one call by one thread, and whole runs of many workers. It passes on the names of `store_images`
+//! and `store_workers`; what a run tells and promises is `store_promise`'s.
 #![tactic(auto)]
 
 mod calling;

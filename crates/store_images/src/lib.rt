@@ -1,4 +1,4 @@
-//! Images of a store: making one, opening it, and settling what lies between.
+//! Images of a store: making one, opening it, settling what lies between, and opening what a crash leaves of one.
 #![tactic(auto)]
 
 mod formatting;

@@ -1,8 +1,6 @@
-//! Laws on a run as it goes on, event by event: what is told of it grows, and each stop so far leaves a
-//! prefix of its procedures. They are contracts of functions that do nothing; `run` of `store` stands on
-//! them.
-//! Laws on the life of an image, from run to run and from stop to stop. The functions here have them as their
-//! contracts.
+//! Laws on runs and on the life of an image: what is told of a run grows event by event, and each stop so far leaves
+//! a prefix of its procedures; and from run to run a handle names one file. They are contracts of functions that do
+//! nothing. `run` of `store` stands on them.
 #![tactic(auto)]
 
 mod lives;

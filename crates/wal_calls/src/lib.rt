@@ -1,6 +1,5 @@
-//! The device calls of the log: who takes one from the core, makes it and gives it back.
-//! The device calls of the logger and the installer of a core among threads: each is taken and given back by
-//! one step of the core, and made on a port in between.
+//! The device calls of the log's two writers: who takes one from the core, makes it on a port and gives it back,
+//! alone or among threads.
 #![tactic(auto)]
 
 mod callers;

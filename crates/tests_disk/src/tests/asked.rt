@@ -3,7 +3,8 @@
 use crate::tests::fake::{Fake, Step, Steps};
 use crate::tests::{Call, make};
 use base::BLOCK_BYTES;
-use disk::{Block, BlockNo, CrashDisk, Failed, FileDisk, FirstContents, Side};
+use disk::{Block, BlockNo, CrashDisk, Failed, Side};
+use disk_file::{FileDisk, FirstContents};
 use std::alloc::Global;
 use std::test::Fail;
 

@@ -5,7 +5,8 @@
 use crate::tests::block;
 use crate::tests::fake::{Step, Steps};
 use crate::tests::ports::{Call, make, opening};
-use disk::{Block, BlockNo, Failed, Port, Side, Splits, ThreadedDisk};
+use disk::{Block, BlockNo, Failed, Port, Side, Splits};
+use disk_file::ThreadedDisk;
 use std::alloc::Global;
 use std::test::Fail;
 

@@ -1,7 +1,7 @@
 //! A file and a file system that stand in for the kit's, and keep each call that is made of them.
 
 use base::BLOCK_BYTES;
-use disk::BlockFile;
+use disk_file::BlockFile;
 use std::alloc::Global;
 use std::cell::RefCell;
 use std::fs::{Files, Metadata, OpenFile, OpenOptions};

@@ -2,7 +2,8 @@
 
 use crate::tests::{Call, block, make};
 use base::BLOCK_BYTES;
-use disk::{Block, BlockNo, CrashDisk, Failed, FileDisk, Side};
+use disk::{Block, BlockNo, CrashDisk, Failed, Side};
+use disk_file::FileDisk;
 use std::fs::OpenOptions;
 use std::test::Fail;
 

@@ -1,7 +1,8 @@
 //! The calls of the file system that opening and making a device take: their order, and each of them failing.
 
 use crate::tests::fake::{FakeFiles, Step, Steps};
-use disk::{CrashDisk, FileDisk};
+use disk::CrashDisk;
+use disk_file::FileDisk;
 use std::alloc::Global;
 use std::process::Abort;
 use std::test::Fail;

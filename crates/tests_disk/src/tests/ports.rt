@@ -3,10 +3,8 @@
 
 use crate::tests::block;
 use crate::tests::fake::{Fake, Step, Steps};
-use disk::{
-    Block, BlockNo, Failed, FileDisk, FilePort, FileSource, Port, Side, Source, Splits,
-    ThreadedDisk,
-};
+use disk::{Block, BlockNo, Failed, Port, Side, Source, Splits};
+use disk_file::{FileDisk, FilePort, FileSource, ThreadedDisk};
 use std::alloc::Global;
 use std::fs::OpenOptions;
 use std::io;

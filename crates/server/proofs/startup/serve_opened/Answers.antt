@@ -4,8 +4,8 @@ use denote.Param.Send.{IsSend, IsSync, recorded_send, sendable, struct_send}
 use denote.Struct.Declared
 use Rattle.std.proofs.Crossing.{crosses}
 use Rattle.disk.proofs.block.Side.TheSendSync as side
-use Rattle.disk.proofs.file.extent.Extent.TheSendSync as extent
-use Rattle.disk.specs.contracts.file.ports.FilePort
+use Rattle.disk_file.proofs.file.extent.Extent.TheSendSync as extent
+use Rattle.disk_file.specs.contracts.file.ports.FilePort
 use Rattle.server.proofs.startup.serve_opened.Goals as goal
 
 port_send : (F : RattleType) → IsSend F → IsSync F → IsSend (FilePort.the_row F)
