@@ -1,6 +1,6 @@
 """Streams of several calls, and records that aren't answered by a procedure (RFC 5531, sections 8, 9 and 11)."""
 
-from cases import wire
+from cases import nfs, wire
 from cases.running import MADE, NEW_MODE, expect, same
 
 MOUNT = 100005
@@ -28,11 +28,16 @@ def test_an_input_that_ends_in_a_record_is_truncated(place):
         expect(f"{kept} bytes", place.once(image, two[:kept]), 1, b"", TRUNCATED)
     for kept in 45, 87:
         expect(f"{kept} bytes", place.once(image, two[:kept]), 1, wire.null_reply(1), TRUNCATED)
+    for what, begun in ("no byte", wire.words(0)), ("a whole message", wire.words(40) + wire.null_call(1)[4:]):
+        ran = place.once(image, wire.null_call(1) + begun)
+        expect(f"{what} in a fragment that isn't the last", ran, 1, wire.null_reply(1), TRUNCATED)
 
 
 def test_a_record_that_can_not_be_answered_ends_the_session(place):
     closing = {
         "a mark that announces a byte too much": wire.words(0x80000000 | 139_265),
+        "two that do together": wire.words(139_000) + bytes(139_000) + wire.words(0x80000000 | 265),
+        "a record of no bytes": wire.record(b""),
         "a reply": wire.null_reply(1),
         "a message that is neither call nor reply": wire.record(wire.words(1, 2, 2, wire.PROGRAM, 3, 0) + NOBODY),
         "a call that ends before the version of RPC": wire.record(wire.words(1, 0)),
@@ -105,6 +110,19 @@ def test_a_credential_may_have_sixteen_further_groups(place):
         expect(f"{count} groups", place.once(image, stream), 0, told, b"")
 
 
+def test_each_of_sixteen_further_groups_counts(place):
+    """A directory that its group alone may search: the caller has that group at no place, or at one of the sixteen."""
+    image, none = place.image(), [*range(101, 117)]
+    told = wire.setattr_reply(1, 0o710, MADE, MADE, SECOND)
+    expect("the mode", place.once(image, wire.setattr_call(1, 0o710)), 0, told, b"")
+    callers = [nfs.credential(7, 8, it) for it in (none, *(none[:at] + [0] + none[at + 1 :] for at in range(16)))]
+    calls = [nfs.ACCESS.call(xid, it, nfs.handle(1, 0, 0), nfs.MAY_LOOKUP) for xid, it in enumerate(callers)]
+    ran = place.once(image, b"".join(calls))
+    root = wire.words(0, 1) + wire.attributes(0o710, MADE, SECOND)
+    wanted = [wire.reply(xid, root + wire.words(nfs.MAY_LOOKUP if xid else 0)) for xid in range(17)]
+    expect("ACCESS", ran, 0, b"".join(wanted), b"")
+
+
 def test_calls_of_mount_are_answered(place):
     root, image = wire.words(0) + wire.ROOT + wire.words(1, 1), place.image()
     rows = [
@@ -123,6 +141,8 @@ def test_a_call_may_come_in_fragments(place):
     bytewise = b"".join(wire.words(1) + message[at : at + 1] for at in range(len(message))) + wire.words(0x80000000)
     expect("three fragments", place.once(place.image(), pieces), 0, wire.null_reply(1), b"")
     expect("fragments of a byte", place.once(place.image(), bytewise), 0, wire.null_reply(1), b"")
+    between = place.once(place.image(), wire.null_call(2) + pieces + wire.words(0) + pieces + wire.null_call(3))
+    expect("between others", between, 0, b"".join(map(wire.null_reply, (2, 1, 1, 3))), b"")
 
 
 # More than the log has slots.

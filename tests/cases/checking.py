@@ -553,6 +553,7 @@ def test_the_faults_of_the_tree(place, spoiled=Spoiled):
         "a link more than there are names": [(hello + 16, four(2))],
         "a name more than there are links": [(hole, entry(b"more", it.number(b"hello")))],
         "a link more than there are directories": [(below + 16, four(4))],
+        "a link fewer than there are directories": [(root + 16, four(3))],
         "a byte past the end of a file": [(it.block(1, b"hello") + 5, b"x")],
         "a byte in a block past the end of a file": [(it.block(7, b"mapped past its end"), b"x")],
         "a byte behind a link's target": [(link + 24, eight(1023))],
@@ -563,8 +564,7 @@ def test_the_faults_of_the_tree(place, spoiled=Spoiled):
         "a name twice": [(slot + 8, b"empty")],
         "a name of a free inode": [(slot, four(40))],
         "a name of inode 0": [(inode_0, it.whole[it.inode(b"empty") :][:128])],
-        "a name of the root": [(slot, four(1))],
-        "a name of another file": [(slot, four(it.number(b"empty")))],
+        "a name of the root": [(slot, four(1))], "a name of another file": [(slot, four(it.number(b"empty")))],
         "a directory with two names": [(hole, entry(b"more", it.number(b"below"))), (root + 16, four(5))],
         "a directory with another parent": [(deep + 72, four(1))],
         "a directory whose parent is a file": [(deep + 72, four(it.number(b"hello")))],
@@ -599,15 +599,34 @@ def test_of_several_faults_the_first_is_told(place, spoiled=Spoiled):
         same(f"{fault} before all behind it", it.fault_of(it.with_bytes(*(change for _, change in changes[at:]))), fault)
 
 
-def test_the_log_counts_where_it_lies_over_a_fault(place):
+def test_the_log_counts_where_it_lies_over_a_fault(place, judged=fault_of):
     image = images.Image(images.several(), boot=2**40)
     image.into_log([image.data, image.table, BITMAP, image.inode_bitmap], 505, old=lambda _: b"\xff" * BLOCK_BYTES)
-    whole = contents(image.write(place.path("image")))
-    same("a good image", fault_of(whole), None)
+    whole = contents(image.write(place.path("logged")))
+    same("a good image", judged(whole), None)
     # Without one of its positions what lies at home counts.
     for fewer, fault in (1, MARKS), (2, MARKS), (3, RANGE), (4, RANGE):
         end = BLOCK_BYTES * images.LOG_HEADER
-        same(f"without the last {fewer}", fault_of(whole[:end] + eight(509 - fewer) + whole[end + 8 :]), fault)
+        same(f"without the last {fewer}", judged(whole[:end] + eight(509 - fewer) + whole[end + 8 :]), fault)
+
+
+def test_the_log_counts_where_it_has_a_fault(place, judged=fault_of):
+    """Blocks of a fresh image lie in the log with another byte; of two positions of one block the later one counts."""
+    inode_bitmap, table = BITMAP + 1, BITMAP + 2
+    marked, clear = (BITMAP, 1000 // 8, b"\1"), (BITMAP, 1000 // 8, b"\0")
+    for what, changes, fault in (
+        ("nothing", [], None), ("a block is marked that nobody owns", [marked], MARKS),
+        ("and isn't by the later position", [marked, clear], None), ("the other way round", [clear, marked], MARKS),
+        ("inode 2 is marked, which is free", [(inode_bitmap, 0, b"\7")], MARKS),
+        ("the root isn't marked", [(inode_bitmap, 0, b"\1")], MARKS),
+        ("inode 5 is of kind 9", [(table, 5 * INODE_BYTES, b"\x09")], RANGE),
+    ):
+        image = images.Image(images.new_root(), 1024, 64)
+        for slot, (block, at, data) in enumerate(changes, images.FIRST_SLOT):
+            image.content[slot] = image.block(block)[:at] + data + image.block(block)[at + len(data) :]
+        header = eight(len(changes)) + b"".join(eight(block) for block, _, _ in changes)
+        image.content[images.LOG_HEADER] = header.ljust(BLOCK_BYTES, b"\0")
+        same(what, judged(contents(image.write(place.path("logged")))), fault)
 
 
 # Which fault a fresh image has where one of these bytes is 255, by the tables of docs/FORMAT.md; None is a good one. Block 516

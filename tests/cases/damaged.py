@@ -3,7 +3,7 @@
 import struct
 
 from cases import checking, images, looking, nfs, wire
-from cases.running import MADE, NEW_MODE, contents, expect, same
+from cases.running import BLOCKS, MADE, NEW_MODE, contents, expect, same
 
 BLOCK_BYTES = 4096
 SUPER, HEADER, FIRST_SLOT, START = 0, 1, 2, 513
@@ -117,6 +117,18 @@ def test_a_log_has_no_other_end_start_or_home(place):
             image = logged(place)
             put(image, block, at, bytes([value]))
             is_refused(place, image, f"{value} at {at} of block {block}", LOG)
+
+
+def test_a_home_lies_behind_the_log_and_before_the_end(place):
+    for home, is_one in (START, False), (START + 1, True), (BLOCKS - 1, True), (BLOCKS, False):
+        image = logged(place)
+        put(image, HEADER, 8, struct.pack("<Q", home))
+        if not is_one:
+            is_refused(place, image, f"home {home}", LOG)
+            continue
+        opens(place, image, 2, f"home {home}")
+        blocks = [contents(image)[BLOCK_BYTES * it :][:BLOCK_BYTES] for it in (FIRST_SLOT, home)]
+        same(f"home {home}: what is there", blocks[1], blocks[0])
 
 
 def test_an_opening_brings_home_what_the_log_has(place):

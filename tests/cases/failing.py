@@ -1,5 +1,6 @@
 """Calls of the image's file that fail, each once: in a run of each procedure by `once`, in a conversation over `serve`, in
-an opening, and in a look at an image. What is right is what the plain program answers, which has the same tree."""
+an opening, and in a look at an image. What is right is what the plain program answers, which has the same tree. And
+which calls of the file `once` makes, where none fails."""
 
 import functools
 import itertools
@@ -8,7 +9,7 @@ import random
 from cases import crashes, hostile, images, looking, nfs, plain_telling, wire
 from cases.conversing import ROOT, ROOT_USER
 from cases.crashes import NOW, events_of, left_by_a_crash, noting, run_noted, shared_library
-from cases.running import BLOCKS, INODES, contents, expect, is_so, same, told
+from cases.running import BLOCKS, INODES, MADE, contents, expect, is_so, same, told
 from cases.tcp import LOCAL, Server, assert_broken
 
 CALLER, BLOCK = nfs.credential(*ROOT_USER), images.BLOCK_BYTES
@@ -281,3 +282,73 @@ def test_each_read_of_a_look_that_fails_is_told(place):
             ran, _ = run_noted(place, shared, [command, image], FAILED_CALL=str(number))
             expect(f"{command}: read {number} fails", ran, 1, b"", b"nfsd: 5 Device\n")
     is_so("the image was changed", contents(image) == before)
+
+
+# Which calls there are. The log's slots are the blocks 2 to 512, and `start` is block 513 (docs/FORMAT.md).
+
+
+def calls_behind_the_opening(place, shared, data, replies):
+    """What `once` makes of a fresh image for these calls: of each its kind, and of a write its block."""
+    image = place.image()
+    _, opening = run_noted(place, shared, ["once", image, "--time", str(NOW)])
+    image = place.image()
+    ran, events = run_noted(place, shared, ["once", image, "--time", str(NOW)], b"".join(data))
+    expect("once", ran, 0, b"".join(replies), b"")
+    found = [(kind, block if kind == "w" else None) for kind, block, _ in events if kind in "rws"]
+    return found[len(kinds_of(opening)) :]
+
+
+def modes(times):
+    """Calls that set the root's mode again and again, and their replies."""
+    befores = [MADE, *[NOW] * times]
+    calls = [wire.setattr_call(it, it % 512) for it in range(times)]
+    return calls, [wire.setattr_reply(it, it % 512, MADE, befores[it], NOW) for it in range(times)]
+
+
+def group_of_one(position):
+    """The calls of the log for a group of one block, which lies in the slot of this position."""
+    return [("w", 2 + position % 511), ("s", None), ("w", 1), ("s", None)]
+
+
+def test_a_change_of_a_mode_makes_four_calls_of_the_file(place):
+    shared = shared_library(place)
+    for times in range(3):
+        # The first reads the block of the root's inode.
+        wanted = [("r", None)][:times] + [it for position in range(times) for it in group_of_one(position)]
+        same(f"{times} changes", calls_behind_the_opening(place, shared, *modes(times)), wanted)
+
+
+# What one block comes home by: it, and `start`.
+HOME = [("w", 516), ("s", None), ("w", 513), ("s", None)]
+
+
+def without_coming_home(found):
+    """The calls but for those by which the root's block comes home, and behind how many calls these came."""
+    left, at = [], []
+    while found:
+        is_home = found[: len(HOME)] == HOME
+        at += [len(left)] if is_home else []
+        left += [] if is_home else found[:1]
+        found = found[len(HOME) if is_home else 1 :]
+    return left, at
+
+
+def test_more_changes_than_the_log_has_slots(place):
+    times, shared = 600, shared_library(place)
+    calls, replies = modes(times)
+    calls, replies = [*calls, wire.getattr_call(9)], [*replies, wire.getattr_reply(9, (times - 1) % 512, MADE, NOW)]
+    found, homes = without_coming_home(calls_behind_the_opening(place, shared, calls, replies))
+    wanted = [it for position in range(times) for it in group_of_one(position)]
+    same("the calls of the log", found, [("r", None), *wanted])
+    # A slot is free again once its block is at home.
+    is_so(f"it came home behind {homes} calls", homes and homes[0] < 1 + 4 * 511)
+    looking.assert_good(place, place.path("image"), "behind them")
+
+
+def test_what_is_logged_comes_home_behind_many_calls_that_only_read(place):
+    shared = shared_library(place)
+    (calls, replies), told = modes(1), wire.getattr_reply(2, 0, MADE, NOW)
+    for readers, homes in (10, 0), (1000, 1):
+        data = [*calls, *[wire.getattr_call(2)] * readers]
+        found = calls_behind_the_opening(place, shared, data, [*replies, *[told] * readers])
+        same(f"{readers} readers", found, [("r", None), *group_of_one(0), *HOME * homes])

@@ -60,6 +60,27 @@ def test_a_crate_that_was_proved_before_keeps_its_place(place):
     same("the last three crates", steps(checkout.run([]).errors), [it for it in whole if it[0] in crates[-3:]])
 
 
+def test_a_silent_build_says_which_crate_is_at_work(place):
+    script = """
+        . "$root/scripts/stamp.bash"
+        . "$root/scripts/build.bash"
+        order=(base disk) began=$SECONDS every=1 log=$PWD/log
+        follow
+    """
+    environment = {**os.environ, "root": place.top}
+    ran = place.start(["-euc", script], command=["bash"], stdin=subprocess.PIPE, env=environment)
+    first = b"rt is reading the crates, 0 min\n"
+    same("before a crate is named", read_exactly(ran.stderr, len(first), "the first line"), first)
+    os.write(ran.stdin.fileno(), b"rt: chose --jobs 2 for disk\nfn disk::work: ")
+    wanted, said = b"proving disk: 2 of 2, 0 min\nstill proving disk, 0 min\n", b""
+    while not said.endswith(wanted):
+        said += read_exactly(ran.stderr, 1, "what is said while rt is silent")
+        is_so(f"it says {said!r}", len(said) < 1000)
+    ran.communicate(b"proved", timeout=SECONDS)
+    same("its status", ran.returncode, 0)
+    same("what is kept", contents(place.path("log")), b"rt: chose --jobs 2 for disk\nfn disk::work: proved\n")
+
+
 def test_a_later_call_says_nothing_and_calls_no_rt(place):
     checkout = Checkout(place)
     checkout.run([])

@@ -290,6 +290,18 @@ def test_each_procedure_has_its_hostile_bytes(place):
     same("of MOUNT", of(MOUNT_PROGRAM), {0, 1, 3})
 
 
+def test_each_answer_is_met(place):
+    """Among the bytes that are sent there are such as are answered in each way (RFC 5531, section 9) but SYSTEM_ERR."""
+    met = set()
+    for call in CALLS.values():
+        for _, message in (*beginnings(call), *bytes_at_255(call)):
+            asked = judged(message)
+            met.add("closed" if asked is CLOSED else "a call" if asked.procedure else asked.message[4:24])
+    denied = [wire.words(1, 1, *it) for it in ((0, 2, 2), (1, 1), (1, 2))]
+    accepted = [wire.words(1, 0, 0, 0, it) for it in range(5)]
+    same("the answers", met, {"closed", "a call", *denied, *accepted})
+
+
 def test_a_connection_that_ends_anywhere_in_a_call_leaves_all_as_it_was(place):
     call = CALLS["WRITE"]
     hostile, record = Hostile(place), wire.record(spelled(1, *call)[0])

@@ -303,3 +303,26 @@ def test_the_program_finds_what_a_written_image_has_in_its_log(place):
         blocks = [image.table, BITMAP, image.inode_bitmap, image.table + 1, *range(image.data, image.data + 20)]
         image.into_log(blocks, start)
         assert_told(place, image, f"a log from position {start}")
+
+
+def test_an_inode_that_calls_made_is_laid_out_word_by_word(place):
+    """A file of user 7 and group 8, as long as an indirect block reaches, with blocks at its indexes 0, 3 and 8. The
+    fifth transaction made it, at second 1002."""
+    image, caller, root = place.image(), nfs.credential(0, 0), nfs.handle(1, 0, 0)
+    file, times = nfs.handle(2, 1, 5), (nfs.client_time(1000, 1), nfs.client_time(1001, 2))
+    calls = [(nfs.GETATTR, root)] * 4 + [
+        (nfs.CREATE, root, b"f", (nfs.GUARDED, nfs.new_attributes(mode=0o644))),
+        *((nfs.WRITE, file, BLOCK_BYTES * index, 1, nfs.UNSTABLE, b"x") for index in (0, 3, 8)),
+        (nfs.SETATTR, file, nfs.new_attributes(None, 7, 8, SPAN * BLOCK_BYTES, *times), None),
+    ]
+    stream = b"".join(it.call(xid, caller, *values) for xid, (it, *values) in enumerate(calls))
+    told = wire.records(place.once(image, stream, 1002).output)
+    same("the statuses", {nfs.result_of(it)[:4] for it in told}, {wire.words(nfs.OK)})
+    # The next opening brings it home.
+    expect("an opening", place.once(image), 0, b"", b"")
+    found = struct.unpack("<32I", contents(image)[BLOCK_BYTES * 516 + 2 * INODE_BYTES :][:INODE_BYTES])
+    wanted = [1, 0o644, 7, 8, 1, 0, 4_227_072, 0, 1000, 1, 1001, 2, 1002, 0, 1, 0, 5, 0, 0, 0, 0, 0]
+    same("kind, mode, owners, links, size, times, stamp, parent and verifier", list(found[:22]), wanted)
+    used = [index for index, number in enumerate(found[22:]) if number]
+    same("direct numbers that are used, and the indirect one", used, [0, 3, 8])
+    same("block 0", contents(image)[:BLOCK_BYTES], wire.super_block(BLOCKS, INODES, 2))

@@ -147,6 +147,21 @@ def test_faults_of_the_tree_are_told(place):
     checking.test_the_faults_of_the_tree(place, Asked)
 
 
+def test_faults_below_the_log_and_in_it_are_told(place):
+    checking.test_the_log_counts_where_it_lies_over_a_fault(place, Asked(place).fault_of)
+    checking.test_the_log_counts_where_it_has_a_fault(place, Asked(place).fault_of)
+
+
+def test_directories_one_below_another_are_reached(place):
+    # 40 of them, numbered from the root on, or from the deepest one on.
+    for numbers in range(2, 42), range(41, 1, -1):
+        deepest = images.directory({b"file": images.regular((0, b"deep"))}, number=numbers[39])
+        for number in reversed(numbers[:39]):
+            deepest = images.directory({b"below": deepest}, number=number)
+        image = images.Image(images.directory({b"below": deepest}), boot=1)
+        assert_good(place, image.write(place.path("image")), f"number {numbers[0]} lies in the root")
+
+
 def test_of_several_faults_the_first_is_told_by_the_program(place):
     checking.test_of_several_faults_the_first_is_told(place, Asked)
 

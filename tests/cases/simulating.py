@@ -1,6 +1,7 @@
 """Scripts of schedules (`nfsd sim`): what they print, line by line, and which line is bad. What is wanted comes from
 RFC 1813, docs/PROTOCOL.md and docs/FORMAT.md, counted by hand."""
 
+import itertools
 import os
 import struct
 
@@ -210,11 +211,13 @@ def test_two_inodes_of_one_block_come_in_one_group(place):
     files = [nfs.handle(2, 1, 1), nfs.handle(3, 1, 2)]
     made = [*at_home(create(b"a")), *at_home(create(b"b"))]
     both = [f"call {it} {set_mode(file, 0o700)}" for it, file in enumerate(files)] + ["drive 0", "drive 1"]
-    for calls, crash, mode in (2, "old", 0o644), (2, "new", 0o644), (3, "old", 0o644), (3, "new", 0o700), (4, "old", 0o700):
+    for calls, crash in itertools.product(range(6), ("0 0", "0 1", "1 0", "1 1")):
+        # Behind the header's write the header alone has two contents.
+        mode = 0o700 if calls > 3 or calls == 3 and crash[0] == "1" else 0o644
         lines = [*made, *both, f"log {calls}", "drive 0", "drive 1", f"crash {crash}", "open"]
         probes = [line for file in files for line in asked(call(nfs.GETATTR, file), 2)]
         found = printed(place, image(*lines, *probes))
-        workers = [0, 0, *([0, 1] if calls == 4 else []), 2, 2]
+        workers = [0, 0, *([0, 1] if calls > 3 else []), 2, 2]
         same(f"{calls} calls, {crash}: who was answered", [it for it, _ in replies(found)], workers)
         told = [nfs.GETATTR.read_result(nfs.result_of(it))[1].attributes.mode for _, it in replies(found)[-2:]]
         same(f"{calls} calls, {crash}: the modes", told, [mode, mode])

@@ -1,8 +1,9 @@
-"""Each device call of a run fails once, by scripts of schedules: what is answered then, and what the next opening finds."""
+"""Each device call of a run fails once, by scripts of schedules: what is answered then, and what the next opening
+finds. So it is seen too which device calls there are: the reads, and those of the log."""
 
 from cases import nfs
 from cases.running import is_so, same
-from cases.simulating import NONE, ROOT, asked, at_home, call, create, image, printed, replies
+from cases.simulating import NONE, ROOT, asked, at_home, call, image, printed, replies, set_mode, settled
 
 # What is there: a file with two names, a directory, a link and an empty file, in the order of their numbers.
 FILE, FOLDER, LINK, EMPTY = (nfs.handle(number, 1, transaction) for number, transaction in ((2, 1), (3, 3), (4, 4), (5, 5)))
@@ -87,3 +88,34 @@ def test_each_device_call_of_each_procedure_fails_once(place):
                 seen.add("right" if is_right else "IO")
         is_so(f"{title}: every device call up to 100 fails", number < 99)
         is_so(f"{title}: seen was only {seen}", "the opening" in seen)
+
+
+# Which device calls there are. An opening makes five, and a group of so many blocks as many and three more.
+BLOCK = 4096
+
+
+def failures(place, before, calls):
+    """By each device call behind the last opening that fails, what came of it: which of these calls are answered IO,
+    and whether so is one behind them."""
+    found, lines = [], [line for digits in calls for line in settled(digits)]
+    for number in range(6, 60):
+        ran = printed(place, image(*before, f"fail {number}", *lines, *asked(call(nfs.GETATTR, ROOT))))
+        told = [nfs.result_of(it)[:4] == nfs.WORD.write(nfs.IO) for _, it in replies(ran)[-len(calls) - 1 :]]
+        if not any(told):
+            return found
+        found.append(([it for it, failed in enumerate(told[:-1]) if failed], told[-1]))
+    raise AssertionError(f"every device call up to {number} fails")
+
+
+def test_a_change_of_a_mode_reads_one_block_and_makes_four_calls_of_the_log(place):
+    # The first reads the block of the inode, and the second finds it in memory.
+    found = failures(place, [], [set_mode(ROOT, 0o700), set_mode(ROOT, 0o711)])
+    same("what fails", found, [([0], False)] + [([0, 1], True)] * 4 + [([1], True)] * 4)
+
+
+def test_a_block_that_is_wholly_written_is_not_read(place):
+    before = [*lines_of([THERE[0], write(FILE, bytes(BLOCK))], at_home), "crash old", "open"]
+    # The block with the file's inode is read, and the block of data where bytes of it stay. The group has both.
+    for written, reads in (BLOCK, 1), (BLOCK - 1, 2), (1, 2):
+        found = failures(place, before, [call(*write(FILE, b"x" * written))])
+        same(f"{written} bytes: what fails", found, [([0], False)] * reads + [([0], True)] * 5)

@@ -6,10 +6,11 @@ B + 2 are tried: all old, all new, and each block alone new."""
 import os
 import re
 
-from cases import nfs
+from cases import nfs, wire
 from cases.looking_progress import terminal
 from cases.running import expect, is_so, same
-from cases.simulating import FIRST_FILE, ROOT, SET, asked, at_home, call, create, image, poke, set_mode, settled, simulated, write
+from cases.simulating import FIRST_FILE, ROOT, SET, asked, at_home, call, create, image, message, poke, set_mode
+from cases.simulating import settled, simulated, write
 
 LINE = re.compile(rb"nfsd: (\d+) of (\d+) stops tried\r\n")
 
@@ -68,6 +69,24 @@ def test_the_stops_of_changes_of_names(place):
     ran = stops(place, image(*lines))
     expect("the script", ran, 0, ran.output, b"")
     is_so("it tells of them", re.fullmatch(rb"stops \d+ images \d+\n", ran.output))
+
+
+def test_the_stops_of_changes_of_each_kind_one_by_one(place):
+    """A file with five bytes over the seam of two blocks moves into a directory, and goes."""
+    folder, file = nfs.handle(2, 1, 1), nfs.handle(3, 1, 2)
+    # Of each call the blocks of its group, beside that of the inodes: both bitmaps, those of names, and those of data.
+    # What is refused has none, and neither has NULL.
+    steps = [
+        (call(nfs.MKDIR, ROOT, b"d", nfs.new_attributes()), ["inodes", "blocks", "names"]),
+        (create(b"f"), ["inodes", "names"]), (call(nfs.REMOVE, ROOT, b"z"), None),
+        (write(file, 4094, b"bytes"), ["blocks", "data", "data"]), (set_mode(file, 0o600), []),
+        (message(wire.null_call(1)), None), (call(nfs.RENAME, ROOT, b"f", folder, b"g"), ["blocks", "names", "names"]),
+        (call(nfs.REMOVE, folder, b"g"), ["inodes", "blocks", "names"]),
+    ]
+    groups = [of_group(1 + len(it)) for _, it in steps if it is not None]
+    counts = 1 + sum(calls for calls, _ in groups), 1 + sum(several for _, several in groups)
+    lines = image(*(line for digits, _ in steps for line in settled(digits)))
+    tried(place, "one by one", lines, b"stops %d images %d\n" % counts)
 
 
 def test_the_stops_of_two_workers(place):

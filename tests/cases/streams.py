@@ -140,14 +140,16 @@ def libraries(place):
 def test_calls_in_single_bytes_are_answered(place):
     image = place.image()
     ran = place.start(["once", image, "--time", "2000"], stdin=-1, bufsize=0)
-    calls = wire.null_call(1) + wire.setattr_call(2, 0o700) + wire.getattr_call(3)
+    message = wire.null_call(4)[4:]
+    fragments = wire.words(16) + message[:16] + wire.words(0, 0x80000000 | 24) + message[16:]
+    calls = wire.null_call(1) + wire.setattr_call(2, 0o700) + wire.getattr_call(3) + fragments
     for at in range(len(calls)):
         ran.stdin.write(calls[at : at + 1])
         time.sleep(0.0002)
     output, errors = ran.communicate(timeout=SECONDS)
     same("standard error", errors, NOTHING)
     wanted = wire.null_reply(1) + wire.setattr_reply(2, 0o700, MADE, MADE, 2000)
-    same("replies", output, wanted + wire.getattr_reply(3, 0o700, MADE, 2000))
+    same("replies", output, wanted + wire.getattr_reply(3, 0o700, MADE, 2000) + wire.null_reply(4))
     same("status", ran.returncode, 0)
 
 

@@ -420,6 +420,47 @@ def ask_for_lists_at_their_bounds(world):
             yield listed(nfs.READDIRPLUS, place, 0, (count, count))
 
 
+# What is listed of a directory whose one name has four bytes, in numbers: the cookie and its verifier, the counts (two
+# are READDIRPLUS's), and the cookies of the reply with whether nothing is left, or why nothing is listed. A result has
+# 104 bytes without a name. A name takes 28, or with attributes and handle 144, of which 28 count against the first one.
+BY_COUNTS = (
+    (0, NO_VERIFIER, (131,), TOOSMALL),
+    (0, NO_VERIFIER, (132,), ([1], False)),
+    (0, NO_VERIFIER, (159,), ([1], False)),
+    (0, NO_VERIFIER, (160,), ([1, 2], False)),
+    (0, NO_VERIFIER, (187,), ([1, 2], False)),
+    (0, NO_VERIFIER, (188,), ([1, 2, 3], True)),
+    (0, NO_VERIFIER, (4_294_967_295,), ([1, 2, 3], True)),
+    (0, OTHER_VERIFIER, (188,), ([1, 2, 3], True)),
+    (2, NO_VERIFIER, (160,), ([3], True)),
+    (3, NO_VERIFIER, (104,), ([], True)),
+    (3, NO_VERIFIER, (103,), TOOSMALL),
+    (3, OTHER_VERIFIER, (103,), BAD_COOKIE),
+    (18_446_744_073_709_551_615, NO_VERIFIER, (104,), ([], True)),
+    (0, NO_VERIFIER, (84, 536), ([1, 2, 3], True)),
+    (0, NO_VERIFIER, (84, 535), ([1, 2], False)),
+    (0, NO_VERIFIER, (83, 536), ([1, 2], False)),
+    (0, NO_VERIFIER, (28, 248), ([1], False)),
+    (0, NO_VERIFIER, (28, 247), TOOSMALL),
+    (0, NO_VERIFIER, (27, 536), TOOSMALL),
+    (0, NO_VERIFIER, (84, 103), TOOSMALL),
+    (1, OTHER_VERIFIER, (28, 0), BAD_COOKIE),
+)
+
+
+def ask_for_three_names_by_counts(world):
+    place = world.root.below(b"guarded", b"directory 777")
+    three = {1: (b".", place, 1), 2: (b"..", place.parent, 2), 3: (b"name", place.below(b"name"), 3)}
+    for cookie, verifier, counts, wanted in BY_COUNTS:
+        procedure, form = (nfs.READDIR, entry) if len(counts) == 1 else (nfs.READDIRPLUS, entry_plus)
+        arguments = (place.handle(), cookie, verifier, *counts)
+        if wanted in (TOOSMALL, BAD_COOKIE):
+            yield refused(procedure, arguments, wanted, place.attributes())
+        else:
+            entries, is_end = [form(three[it]) for it in wanted[0]], wanted[1]
+            yield done(procedure, arguments, place.attributes(), NO_VERIFIER, entries, is_end)
+
+
 def ask_by_cookies(world):
     """Any cookie goes on with the next; a verifier counts only beside one."""
     place = world.root.below(b"crowd", b"lengths")

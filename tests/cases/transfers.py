@@ -4,7 +4,7 @@ import os
 
 from cases import checking, conversing, nfs, wire
 from cases.conversing import ROOT
-from cases.running import expect, is_so, same
+from cases.running import MADE, NEW_MODE, expect, is_so, same
 from cases.tcp import Server, replies
 
 MOST, MOST_RECORD, BLOCK, NOW = 131_072, 139_264, 4096, 2000
@@ -44,13 +44,17 @@ def named(length):
 
 
 def test_the_longest_record(place):
-    ran = place.once(place.image(), wire.null_call(1) + named(MOST_RECORD))
-    first, second = wire.records(ran.output)
-    expect("a record of 139,264 bytes", ran, 0, ran.output, b"")
-    same("the first reply", wire.record(first), wire.null_reply(1))
-    same("its status", nfs.LOOKUP.read_result(nfs.result_of(second))[0], nfs.NAMETOOLONG)
+    too_long = wire.words(nfs.NAMETOOLONG, 1) + wire.attributes(NEW_MODE, MADE, MADE)
+    message, told = named(MOST_RECORD)[4:], wire.null_reply(1) + wire.reply(2, too_long) + wire.null_reply(3)
+    records = {
+        "a record of 139,264 bytes": wire.record(message),
+        "one of two fragments": wire.words(139_000) + message[:139_000] + wire.words(0x80000000 | 264) + message[139_000:],
+        "one of fragments of a byte": b"".join(wire.words(1) + bytes([it]) for it in message) + wire.words(0x80000000),
+    }
+    for what, record in records.items():
+        expect(what, place.once(place.image(), wire.null_call(1) + record + wire.null_call(3)), 0, told, b"")
     longer = named(MOST_RECORD + 4)
-    expect("a longer one", place.once(place.image("other"), wire.null_call(1) + longer), 1, wire.null_reply(1), b"nfsd: 1 Record\n")
+    expect("a longer one", place.once(place.image(), wire.null_call(1) + longer), 1, wire.null_reply(1), b"nfsd: 1 Record\n")
 
 
 def test_eight_of_the_longest_writes_in_flight(place):

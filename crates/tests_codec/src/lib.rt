@@ -1,5 +1,5 @@
-//! A worked call and a worked reply of each procedure, written and read, compared with words that were
-//! spelled by hand.
+//! A worked call and a worked reply of each procedure, there and back. No crate stands on this one.
 #![tactic(auto)]
 
-mod worked;
+#[cfg(test)]
+mod tests;

@@ -1,9 +1,6 @@
-//! What was worked out by hand from the standards, each spelled once, for tests alone: whole messages (`messages`),
-//! and the arguments and the result of each procedure (`procedures`). `is_read` compares the bytes of a READ.
+//! What was worked out by hand from the standards, each spelled once, for tests alone: the arguments of a call and the
+//! result of a reply of each procedure, as words and as values (`procedures`).
 #![tactic(auto)]
 
 pub mod messages;
 pub mod procedures;
-mod read;
-
-pub use read::is_read;

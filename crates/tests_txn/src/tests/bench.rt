@@ -2,9 +2,8 @@
 ghost use Rattle.std.specs.Prelude.{◌≡◌, ◌<◌, [], ◌∷◌, IfSome};
 
 use crate::tests::toys::{At, BLOCKS, INODES, Toy};
-use base::FIRST_HOME_BLOCK;
-use circ::{Recovered, recover};
-use disk::{Block, BlockNo, CrashDisk, MemDisk};
+use circ::Recovered;
+use disk::{BlockNo, CrashDisk, MemDisk};
 use objects::{Addr, Mode};
 use std::alloc::Global;
 use std::test::Fail;
@@ -21,8 +20,6 @@ pub enum Step {
     Claim(BlockNo),
     // It wants an object beside others, and again where it was fetched.
     Share(At),
-    // Meanwhile the logger makes its calls.
-    Log,
 }
 
 // What a step came to, without what it hands out.
@@ -36,7 +33,6 @@ pub enum Seen {
     Loading,
     Outside,
     NoMemory,
-    Logged,
 }
 
 // What a commit came to, without what it hands back, which is let go.
@@ -76,29 +72,6 @@ impl Bench<MemDisk> {
             core: Core::new(alloc, wal, INODES, 1),
         })
     }
-
-    // A new core over the log that is found after a crash that the digits choose.
-    pub fn crashed(self, digits: &[u32]) -> Result<Bench<MemDisk>, Fail> {
-        let Bench {
-            alloc,
-            disk,
-            core: _,
-        } = self;
-        let mut disk = disk.crash(digits);
-        if disk.blocks() != BLOCKS {
-            Err("another size")?;
-        }
-        let found = match recover(alloc, &mut disk) {
-            Ok(found) => found,
-            Err(_) => Err("no log")?,
-        };
-        let wal = Wal::new(alloc, BLOCKS, found)?;
-        Ok(Bench {
-            alloc,
-            disk,
-            core: Core::new(alloc, wal, INODES, 1),
-        })
-    }
 }
 
 impl<D: CrashDisk> Bench<D> {
@@ -120,30 +93,6 @@ impl<D: CrashDisk> Bench<D> {
         };
         let (tx, _) = self.take_all(tx, steps, &[]);
         self.end(tx, toy)
-    }
-
-    // Why no transaction begins.
-    pub fn refusal(&mut self) -> Option<BeginFault> {
-        match self.core.begin() {
-            Ok(tx) => {
-                self.core.abort(tx);
-                None
-            }
-            Err(fault) => Some(fault),
-        }
-    }
-
-    // Wants an object behind these steps, which has to be fetched, and hands the fetch out.
-    pub fn fetch_out(&mut self, steps: &[Step], at: At) -> Option<(Tx, FetchIo)> {
-        let tx = self.begin()?;
-        let (tx, _) = self.take_all(tx, steps, &[]);
-        let tx = match self.core.want(self.alloc, tx, at.addr(), Mode::Exclusive) {
-            Want::Fetch(tx, io) => return Some((tx, io)),
-            Want::Held(tx, _) => tx,
-            Want::Busy(tx) | Want::Loading(tx) | Want::Outside(tx) | Want::NoMemory(tx) => tx,
-        };
-        self.core.abort(tx);
-        None
     }
 
     // Makes the calls of the logger until it has none, and tells how many there were.
@@ -173,30 +122,35 @@ impl<D: CrashDisk> Bench<D> {
         }
         calls
     }
-
-    // The first byte of the first home block on the disk.
-    pub fn at_home(&mut self) -> Result<u8, Fail> {
-        if self.disk.blocks() != BLOCKS {
-            Err("another size")?;
-        }
-        let mut block = Block::zeros(self.alloc)?;
-        self.disk.read(BlockNo(FIRST_HOME_BLOCK), &mut block)?;
-        Ok(first(block.as_slice()))
-    }
 }
 
 // The steps of a transaction.
 impl<D: CrashDisk> Bench<D> {
     // Begins a transaction, once more where it was refused memory.
-    pub fn begin(&mut self) -> Option<Tx> {
+    fn begin(&mut self) -> Option<Tx> {
         match self.core.begin() {
             Err(BeginFault::NoMemory) => self.core.begin().ok(),
             begun => begun.ok(),
         }
     }
 
+    // Begins three of them.
+    pub fn begin_three(&mut self) -> Option<(Tx, Tx, Tx)> {
+        let one = self.begin()?;
+        let Some(two) = self.begin() else {
+            self.core.abort(one);
+            return None;
+        };
+        let Some(three) = self.begin() else {
+            self.core.abort(one);
+            self.core.abort(two);
+            return None;
+        };
+        Some((one, two, three))
+    }
+
     // Takes these steps, and tells whether they come to this, as far as it is told.
-    pub fn take_all(&mut self, tx: Tx, steps: &[Step], wanted: &[Seen]) -> (Tx, bool) {
+    fn take_all(&mut self, tx: Tx, steps: &[Step], wanted: &[Seen]) -> (Tx, bool) {
         let mut tx = tx;
         let mut are_seen = true;
         'steps: for (place, step) in steps.iter().enumerate() {
@@ -207,16 +161,13 @@ impl<D: CrashDisk> Bench<D> {
         (tx, are_seen)
     }
 
-    fn take(&mut self, tx: Tx, step: Step) -> (Tx, Seen) {
+    // Takes one, and tells what it comes to.
+    pub fn take(&mut self, tx: Tx, step: Step) -> (Tx, Seen) {
         match step {
             Step::Want(at) => self.want(tx, at),
             Step::Read(at) => self.read(tx, at),
             Step::Share(at) => self.share(tx, at),
             Step::Claim(block) => self.claim(tx, block),
-            Step::Log => {
-                self.log_all();
-                (tx, Seen::Logged)
-            }
         }
     }
 
@@ -236,7 +187,7 @@ impl<D: CrashDisk> Bench<D> {
         (tx, seen)
     }
 
-    pub fn want(&mut self, tx: Tx, at: At) -> (Tx, Seen) {
+    fn want(&mut self, tx: Tx, at: At) -> (Tx, Seen) {
         self.want_in(tx, at, Mode::Exclusive)
     }
 
@@ -281,6 +232,28 @@ impl<D: CrashDisk> Bench<D> {
             Want::Loading(tx) => (tx, None),
             Want::Outside(tx) => (tx, None),
             Want::NoMemory(tx) => (tx, None),
+        }
+    }
+
+    // Wants an object, and hands its fetch out, where there is one.
+    pub fn fetch_out(&mut self, tx: Tx, at: At) -> (Tx, Option<FetchIo>) {
+        match self.core.want(self.alloc, tx, at.addr(), Mode::Exclusive) {
+            Want::Fetch(tx, io) => (tx, Some(io)),
+            Want::Held(tx, _) => (tx, None),
+            Want::Busy(tx) | Want::Loading(tx) | Want::Outside(tx) | Want::NoMemory(tx) => {
+                (tx, None)
+            }
+        }
+    }
+
+    // Gives it back as one that failed, and tells whether there was one.
+    pub fn give_back(&mut self, io: Option<FetchIo>) -> bool {
+        match io {
+            Some(io) => {
+                self.core.fetch_failed(io);
+                true
+            }
+            None => false,
         }
     }
 

@@ -21,7 +21,7 @@ pub const INODES: u32 = 64;
 pub struct Toy {
     read: Vec<Object>,
     written: Vec<Object>,
-    pub inodes: u32,
+    inodes: u32,
     ghost few: { length (blocks_of written.items) ≤ CHANGED_BLOCKS },
 }
 

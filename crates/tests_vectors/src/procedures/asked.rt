@@ -1,6 +1,5 @@
 //! Calls as data.
 
-use crate::procedures::values::UNSET;
 use nfs_types::{
     Call, CreateHow, DirectoryName, Handle, Moment, NewAttributes, Octets, SharedOctets,
     SpecialFile, Stability, Stamp, Verifier,
@@ -32,8 +31,8 @@ pub enum Asked<'a> {
     ReadLink(File),
     /// From an offset on so many bytes.
     Read(File, u64, u32),
-    /// At an offset so many bytes, as it announces, which are these.
-    Write(File, u64, u32, &'a [u8]),
+    /// At an offset so many bytes, as it announces, to be kept so, which are these.
+    Write(File, u64, u32, Stability, &'a [u8]),
     /// At an offset so many bytes, all of them `q`.
     WriteMany(File, u64, u32),
     Create(File, &'a [u8], CreateHow),
@@ -76,20 +75,28 @@ fn write(
     file: File,
     offset: u64,
     count: u32,
+    stability: Stability,
     bytes: &[u8],
 ) -> Result<Call, AllocError> {
     Ok(Call::Write {
         file: handle_of(alloc, file)?,
         offset,
         count,
-        stability: Stability::Unstable,
+        stability,
         bytes: SharedOctets::copied(alloc, bytes)?,
     })
 }
 
 fn write_many(alloc: Global, file: File, offset: u64, count: u32) -> Result<Call, AllocError> {
     let bytes = vec![in alloc; b'q'; count as usize]?;
-    write(alloc, file, offset, count, bytes.as_slice())
+    write(
+        alloc,
+        file,
+        offset,
+        count,
+        Stability::Unstable,
+        bytes.as_slice(),
+    )
 }
 
 fn make_link(
@@ -181,7 +188,9 @@ fn call_with_arguments(alloc: Global, asked: &Asked) -> Result<Call, AllocError>
                 count,
             })
         }
-        Asked::Write(file, offset, count, bytes) => write(alloc, file, offset, count, bytes),
+        Asked::Write(file, offset, count, stability, bytes) => {
+            write(alloc, file, offset, count, stability, bytes)
+        }
         Asked::WriteMany(file, offset, count) => write_many(alloc, file, offset, count),
         Asked::ReadDir(file, cookie, verifier, count) => {
             let directory = handle_of(alloc, file)?;
@@ -251,59 +260,4 @@ pub fn call(alloc: Global, asked: &Asked) -> Result<Call, AllocError> {
         Some(call) => Ok(call),
         None => call_on_a_file(alloc, asked),
     }
-}
-
-/// The calls on a file of which those on a directory's name are none: one of each procedure.
-pub fn calls_on_a_file(file: File) -> [Asked<'static>; 12] {
-    [
-        Asked::GetAttr(file),
-        Asked::SetAttr(file, UNSET, None),
-        Asked::Access(file, 63),
-        Asked::ReadLink(file),
-        Asked::Read(file, 0, 1),
-        Asked::Write(file, 0, 1, b"z"),
-        Asked::FsStat(file),
-        Asked::FsInfo(file),
-        Asked::PathConf(file),
-        Asked::Commit(file, 0, 0),
-        Asked::MkNod(file, b"", SpecialFile::Regular),
-        Asked::Link(file, ROOT, b""),
-    ]
-}
-
-/// The calls on a directory: each procedure that looks a name up, makes, changes or takes one away, or lists.
-pub fn calls_on_a_directory(file: File) -> [Asked<'static>; 11] {
-    [
-        Asked::Lookup(file, b""),
-        Asked::Create(file, b"", CreateHow::Guarded(UNSET)),
-        Asked::MkDir(file, b"", UNSET),
-        Asked::SymLink(file, b"", UNSET, b"t"),
-        Asked::Remove(file, b""),
-        Asked::RmDir(file, b""),
-        Asked::Rename(file, b"", ROOT, b"b"),
-        Asked::Rename(ROOT, b"a", file, b""),
-        Asked::Link(File(2, 0, 0), file, b""),
-        Asked::ReadDir(file, 0, ZEROS, 0),
-        Asked::ReadDirPlus(file, 0, ZEROS, 0, 0),
-    ]
-}
-
-/// The calls that make the file of a name in the root, or remove it, one of each procedure.
-pub fn changes_of_a_name(name: &[u8]) -> [Asked<'_>; 5] {
-    [
-        Asked::Create(ROOT, name, CreateHow::Guarded(UNSET)),
-        Asked::MkDir(ROOT, name, UNSET),
-        Asked::SymLink(ROOT, name, UNSET, b"t"),
-        Asked::Remove(ROOT, name),
-        Asked::RmDir(ROOT, name),
-    ]
-}
-
-/// Those that give a file another name, or one more.
-pub fn moves_of_a_name(name: &[u8]) -> [Asked<'_>; 3] {
-    [
-        Asked::Rename(ROOT, name, ROOT, b"b"),
-        Asked::Rename(ROOT, b"a", ROOT, name),
-        Asked::Link(File(2, 0, 0), ROOT, name),
-    ]
 }

@@ -1,188 +1,122 @@
-//! The worked call of each procedure that has arguments, as a value.
+//! The worked call of each procedure, and its arguments (RFC 1813, sections 3.3 and 5.2).
 
-use crate::procedures::values::{DEVICE, SET, UNSET, VERIFIER, handle, name, new_name};
-use nfs_types::{Call, CreateHow, Moment, MountCall, Octets, SharedOctets, SpecialFile, Stability};
+use crate::procedures::asked::Asked;
+use crate::procedures::parts::{
+    DATA, HANDLE, NAME, NEW_NAME, OTHER_HANDLE, SET as SET_WORDS, SOME, TARGET,
+    UNSET as UNSET_WORDS, VERIFIER as VERIFIER_WORDS,
+};
+use crate::procedures::values::{DEVICE, FILE, GUARD, OTHER, SET, UNSET, VERIFIER};
+use nfs_types::{CreateHow, MountCall, MountProcedure, Octets, Procedure, SpecialFile, Stability};
 use std::alloc::{AllocError, Global};
 
-/// GETATTR.
-pub fn get_attr_call(alloc: Global) -> Result<Call, AllocError> {
-    Ok(Call::GetAttr {
-        object: handle(alloc)?,
-    })
-}
+/// Calls on file 9, or on a name in it. READ of 512 bytes from 2^32 and 2 on, CREATE guarded, MKNOD of a character device.
+pub const CALLS: [(Procedure, Asked<'static>, &[&[u32]]); 22] = [
+    (Procedure::Null, Asked::Null, &[]),
+    (Procedure::GetAttr, Asked::GetAttr(FILE), &[&HANDLE]),
+    (
+        Procedure::SetAttr,
+        Asked::SetAttr(FILE, SET, Some(GUARD)),
+        &[&HANDLE, &SET_WORDS, &SOME, &[1000, 7]],
+    ),
+    (
+        Procedure::Lookup,
+        Asked::Lookup(FILE, b"file"),
+        &[&HANDLE, &NAME],
+    ),
+    (
+        Procedure::Access,
+        Asked::Access(FILE, 63),
+        &[&HANDLE, &[63]],
+    ),
+    (Procedure::ReadLink, Asked::ReadLink(FILE), &[&HANDLE]),
+    (
+        Procedure::Read,
+        Asked::Read(FILE, 4_294_967_298, 512),
+        &[&HANDLE, &[1, 2, 512]],
+    ),
+    (
+        Procedure::Write,
+        Asked::Write(FILE, 4096, 5, Stability::FileSync, b"hello"),
+        &[&HANDLE, &[0, 4096, 5, 2], &DATA],
+    ),
+    (
+        Procedure::Create,
+        Asked::Create(FILE, b"file", CreateHow::Guarded(SET)),
+        &[&HANDLE, &NAME, &[1], &SET_WORDS],
+    ),
+    (
+        Procedure::MkDir,
+        Asked::MkDir(FILE, b"file", SET),
+        &[&HANDLE, &NAME, &SET_WORDS],
+    ),
+    (
+        Procedure::SymLink,
+        Asked::SymLink(FILE, b"file", UNSET, b"a/b"),
+        &[&HANDLE, &NAME, &UNSET_WORDS, &TARGET],
+    ),
+    (
+        Procedure::MkNod,
+        Asked::MkNod(FILE, b"file", SpecialFile::CharacterDevice(SET, DEVICE)),
+        &[&HANDLE, &NAME, &[4], &SET_WORDS, &[11, 12]],
+    ),
+    (
+        Procedure::Remove,
+        Asked::Remove(FILE, b"file"),
+        &[&HANDLE, &NAME],
+    ),
+    (
+        Procedure::RmDir,
+        Asked::RmDir(FILE, b"file"),
+        &[&HANDLE, &NAME],
+    ),
+    (
+        Procedure::Rename,
+        Asked::Rename(FILE, b"file", OTHER, b"new"),
+        &[&HANDLE, &NAME, &OTHER_HANDLE, &NEW_NAME],
+    ),
+    (
+        Procedure::Link,
+        Asked::Link(FILE, OTHER, b"new"),
+        &[&HANDLE, &OTHER_HANDLE, &NEW_NAME],
+    ),
+    (
+        Procedure::ReadDir,
+        Asked::ReadDir(FILE, 3, VERIFIER, 1024),
+        &[&HANDLE, &[0, 3], &VERIFIER_WORDS, &[1024]],
+    ),
+    (
+        Procedure::ReadDirPlus,
+        Asked::ReadDirPlus(FILE, 3, VERIFIER, 512, 8192),
+        &[&HANDLE, &[0, 3], &VERIFIER_WORDS, &[512, 8192]],
+    ),
+    (Procedure::FsStat, Asked::FsStat(FILE), &[&HANDLE]),
+    (Procedure::FsInfo, Asked::FsInfo(FILE), &[&HANDLE]),
+    (Procedure::PathConf, Asked::PathConf(FILE), &[&HANDLE]),
+    (
+        Procedure::Commit,
+        Asked::Commit(FILE, 8192, 4096),
+        &[&HANDLE, &[0, 8192, 4096]],
+    ),
+];
 
-/// SETATTR.
-pub fn set_attr_call(alloc: Global) -> Result<Call, AllocError> {
-    Ok(Call::SetAttr {
-        object: handle(alloc)?,
-        attributes: SET,
-        guard: Some(Moment {
-            seconds: 1000,
-            nanoseconds: 7,
-        }),
-    })
-}
+/// The arguments of MNT of `/export`, and of UMNT of `/`.
+pub const MOUNT_CALLS: [(MountProcedure, &[&[u32]]); 3] = [
+    (MountProcedure::Null, &[]),
+    (MountProcedure::Mount, &[&[7, 0x2f65_7870, 0x6f72_7400]]),
+    (MountProcedure::Unmount, &[&[1, 0x2f00_0000]]),
+];
 
-/// LOOKUP.
-pub fn lookup_call(alloc: Global) -> Result<Call, AllocError> {
-    Ok(Call::Lookup { name: name(alloc)? })
-}
-
-/// ACCESS.
-pub fn access_call(alloc: Global) -> Result<Call, AllocError> {
-    Ok(Call::Access {
-        object: handle(alloc)?,
-        bits: 63,
-    })
-}
-
-/// READLINK.
-pub fn read_link_call(alloc: Global) -> Result<Call, AllocError> {
-    Ok(Call::ReadLink {
-        link: handle(alloc)?,
-    })
-}
-
-/// READ.
-pub fn read_call(alloc: Global) -> Result<Call, AllocError> {
-    Ok(Call::Read {
-        file: handle(alloc)?,
-        offset: 4_294_967_298,
-        count: 512,
-    })
-}
-
-/// WRITE.
-pub fn write_call(alloc: Global) -> Result<Call, AllocError> {
-    Ok(Call::Write {
-        file: handle(alloc)?,
-        offset: 4096,
-        count: 5,
-        stability: Stability::FileSync,
-        bytes: SharedOctets::copied(alloc, b"hello")?,
-    })
-}
-
-/// CREATE.
-pub fn create_call(alloc: Global) -> Result<Call, AllocError> {
-    Ok(Call::Create {
-        name: name(alloc)?,
-        how: CreateHow::Guarded(SET),
-    })
-}
-
-/// MKDIR.
-pub fn mk_dir_call(alloc: Global) -> Result<Call, AllocError> {
-    Ok(Call::MkDir {
-        name: name(alloc)?,
-        attributes: SET,
-    })
-}
-
-/// SYMLINK.
-pub fn sym_link_call(alloc: Global) -> Result<Call, AllocError> {
-    Ok(Call::SymLink {
-        name: name(alloc)?,
-        attributes: UNSET,
-        target: Octets::copied(alloc, b"a/b")?,
-    })
-}
-
-/// MKNOD.
-pub fn mk_nod_call(alloc: Global) -> Result<Call, AllocError> {
-    Ok(Call::MkNod {
-        name: name(alloc)?,
-        special: SpecialFile::CharacterDevice(SET, DEVICE),
-    })
-}
-
-/// REMOVE.
-pub fn remove_call(alloc: Global) -> Result<Call, AllocError> {
-    Ok(Call::Remove { name: name(alloc)? })
-}
-
-/// RMDIR.
-pub fn rm_dir_call(alloc: Global) -> Result<Call, AllocError> {
-    Ok(Call::RmDir { name: name(alloc)? })
-}
-
-/// RENAME.
-pub fn rename_call(alloc: Global) -> Result<Call, AllocError> {
-    Ok(Call::Rename {
-        source: name(alloc)?,
-        target: new_name(alloc)?,
-    })
-}
-
-/// LINK.
-pub fn link_call(alloc: Global) -> Result<Call, AllocError> {
-    Ok(Call::Link {
-        file: handle(alloc)?,
-        name: new_name(alloc)?,
-    })
-}
-
-/// READDIR.
-pub fn read_dir_call(alloc: Global) -> Result<Call, AllocError> {
-    Ok(Call::ReadDir {
-        directory: handle(alloc)?,
-        cookie: 3,
-        verifier: VERIFIER,
-        count: 1024,
-    })
-}
-
-/// READDIRPLUS.
-pub fn read_dir_plus_call(alloc: Global) -> Result<Call, AllocError> {
-    Ok(Call::ReadDirPlus {
-        directory: handle(alloc)?,
-        cookie: 3,
-        verifier: VERIFIER,
-        directory_count: 512,
-        greatest_count: 8192,
-    })
-}
-
-/// FSSTAT.
-pub fn fs_stat_call(alloc: Global) -> Result<Call, AllocError> {
-    Ok(Call::FsStat {
-        object: handle(alloc)?,
-    })
-}
-
-/// FSINFO.
-pub fn fs_info_call(alloc: Global) -> Result<Call, AllocError> {
-    Ok(Call::FsInfo {
-        object: handle(alloc)?,
-    })
-}
-
-/// PATHCONF.
-pub fn path_conf_call(alloc: Global) -> Result<Call, AllocError> {
-    Ok(Call::PathConf {
-        object: handle(alloc)?,
-    })
-}
-
-/// COMMIT.
-pub fn commit_call(alloc: Global) -> Result<Call, AllocError> {
-    Ok(Call::Commit {
-        file: handle(alloc)?,
-        offset: 8192,
-        count: 4096,
-    })
-}
-
-/// MNT.
-pub fn mount_call(alloc: Global) -> Result<MountCall, AllocError> {
-    Ok(MountCall::Mount {
-        path: Octets::copied(alloc, b"/export")?,
-    })
-}
-
-/// UMNT.
-pub fn unmount_call(alloc: Global) -> Result<MountCall, AllocError> {
-    Ok(MountCall::Unmount {
-        path: Octets::copied(alloc, b"/")?,
-    })
+/// These calls.
+pub fn mount_call(alloc: Global, procedure: MountProcedure) -> Result<MountCall, AllocError> {
+    match procedure {
+        MountProcedure::Null => Ok(MountCall::Null),
+        MountProcedure::Mount => {
+            let path = Octets::copied(alloc, b"/export")?;
+            Ok(MountCall::Mount { path })
+        }
+        MountProcedure::Unmount => {
+            let path = Octets::copied(alloc, b"/")?;
+            Ok(MountCall::Unmount { path })
+        }
+    }
 }

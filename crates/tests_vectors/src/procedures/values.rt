@@ -1,9 +1,16 @@
-//! What the parts of arguments mean, as values.
+//! What the parts of arguments and results mean, as values.
 
+use crate::procedures::asked::File;
 use nfs_types::{
-    DeviceNumber, DirectoryName, Handle, Moment, NewAttributes, Octets, SetTime, Verifier,
+    Attributes, DeviceNumber, FileKind, Moment, NewAttributes, SetTime, Verifier,
+    WeakCacheAttributes,
 };
-use std::alloc::{AllocError, Global};
+
+/// The file of the first handle.
+pub const FILE: File = File(9, 0x0102_0304, 0x0506_0708);
+
+/// That of the other.
+pub const OTHER: File = File(10, 4_294_967_296, 4_294_967_296);
 
 /// Attributes that are set, some by values and one by the server's time.
 pub const SET: NewAttributes = NewAttributes {
@@ -28,6 +35,12 @@ pub const UNSET: NewAttributes = NewAttributes {
     mtime: SetTime::Unchanged,
 };
 
+/// A time of change that is asked for.
+pub const GUARD: Moment = Moment {
+    seconds: 1000,
+    nanoseconds: 7,
+};
+
 /// A verifier.
 pub const VERIFIER: Verifier = Verifier {
     bytes: [0x11, 0x12, 0x13, 0x14, 0x15, 0x16, 0x17, 0x18],
@@ -39,32 +52,41 @@ pub const DEVICE: DeviceNumber = DeviceNumber {
     minor: 12,
 };
 
-/// The first handle.
-pub fn handle(alloc: Global) -> Result<Handle, AllocError> {
-    Ok(Handle {
-        bytes: Octets::copied(alloc, &[1, 2, 3, 4, 5, 6, 7, 8])?,
-    })
-}
+/// What is told of the file.
+pub const ATTRIBUTES: Attributes = Attributes {
+    kind: FileKind::Regular,
+    mode: 420,
+    nlink: 2,
+    uid: 1000,
+    gid: 100,
+    size: 5,
+    used: 4096,
+    device: DEVICE,
+    file_system: 7,
+    number: 9,
+    atime: Moment {
+        seconds: 100,
+        nanoseconds: 1,
+    },
+    mtime: Moment {
+        seconds: 200,
+        nanoseconds: 2,
+    },
+    ctime: Moment {
+        seconds: 300,
+        nanoseconds: 3,
+    },
+};
 
-/// The other one.
-pub fn other_handle(alloc: Global) -> Result<Handle, AllocError> {
-    Ok(Handle {
-        bytes: Octets::copied(alloc, &[9, 10, 11, 12, 13])?,
-    })
-}
-
-/// The name `file` in the directory of the first handle.
-pub fn name(alloc: Global) -> Result<DirectoryName, AllocError> {
-    Ok(DirectoryName {
-        directory: handle(alloc)?,
-        name: Octets::copied(alloc, b"file")?,
-    })
-}
-
-/// The name `new` in the directory of the other.
-pub fn new_name(alloc: Global) -> Result<DirectoryName, AllocError> {
-    Ok(DirectoryName {
-        directory: other_handle(alloc)?,
-        name: Octets::copied(alloc, b"new")?,
-    })
-}
+/// What is told of it before a change.
+pub const BEFORE: WeakCacheAttributes = WeakCacheAttributes {
+    size: 4_294_967_300,
+    mtime: Moment {
+        seconds: 150,
+        nanoseconds: 15,
+    },
+    ctime: Moment {
+        seconds: 250,
+        nanoseconds: 25,
+    },
+};
