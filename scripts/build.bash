@@ -3,11 +3,15 @@
 
 # The last crate that was announced.
 announced=
+# After how many seconds without a line a build says what it is at, also while rt is silent; and when it said something last.
+every=30
+said=0
 # The command that this process waits for, and the folder that is removed when the build ends before it is done.
 child=
 room=
 
 say() {
+    said=$SECONDS
     echo "$*" >&2 || true
 }
 
@@ -105,20 +109,44 @@ announce() {
     done
 }
 
+# Says which crate is at work, where nothing was said for a while.
+remind() {
+    local work="rt is reading the crates"
+    if [ -n "$announced" ]; then
+        work="still proving $announced"
+    fi
+    if ((SECONDS - said >= every)); then
+        say "$work, $(((SECONDS - began) / 60)) min"
+    fi
+}
+
 # Keeps what rt prints in the log, and announces each crate: rt names it before its proof and, in any case, behind
 # it. That rt waits for another rt is told too.
+keep_line() {
+    local name
+    printf '%s\n' "$1"
+    case $1 in
+        "rt: chose --jobs "*" for "*) announce "${1##* }" ;;
+        "rt: waiting for "*) say "$1" ;;
+        "crate "*": modules "*)
+            name=${1#crate }
+            announce "${name%%:*}"
+            ;;
+    esac
+}
+
+# Follows what rt prints to its end. (Where the time of a read runs out, what came of a line so far is kept.)
 follow() {
-    local line name
-    while IFS= read -r line || [ -n "$line" ]; do
-        printf '%s\n' "$line"
-        case $line in
-            "rt: chose --jobs "*" for "*) announce "${line##* }" ;;
-            "rt: waiting for "*) say "$line" ;;
-            "crate "*": modules "*)
-                name=${line#crate }
-                announce "${name%%:*}"
-                ;;
-        esac
+    local line= piece status=0
+    while [ "$status" = 0 ] || ((status > 128)); do
+        status=0
+        IFS= read -rt "$every" piece || status=$?
+        line+=$piece
+        if [ "$status" = 0 ] || { ((status <= 128)) && [ -n "$line" ]; }; then
+            keep_line "$line"
+            line=
+        fi
+        remind
     done >>"$log"
 }
 
@@ -126,8 +154,8 @@ follow() {
 # any status.
 prove_and_build() {
     local began=$SECONDS lines
-    say "${0##*/}: proving and building the program. From nothing that takes one to two hours, after a change" \
-        "minutes. What rt prints goes into $log"
+    say "${0##*/}: proving and building the program. From nothing that takes one to two hours, more than 8.4 GB of memory" \
+        "and 5 GB of disk; after a change minutes. What rt prints goes into $log"
     : >"$log"
     exec {lines}< <(cd "$root/crates/nfsd" && exec "$rt" run -- --help </dev/null 2>&1)
     child=$!
